@@ -1,13 +1,11 @@
-// A library with one function.
+//! The outside: files that are read whole, and sinks that take bytes.
+//!
+//! Both are traits with a meaning, and with a count of faults that never falls. An object over memory
+//! tells what it holds; one over the system tells only its faults. It knows nothing of programs.
 #![tactic(auto)]
 
-ghost use Rattle.std.specs.Prelude.{◌≡◌};
-ghost use Rattle.cbl_io.specs.Echo.{echo_of};
+mod files;
+mod sink;
 
-// The `ensures` clause is the contract: what `echo` returns is `echo_of` of its argument, a definition
-// in `specs/Echo.antt`, which a caller's clause can cite too.
-pub fn echo(x: usize) -> usize
-    ensures { result ≡ echo_of x }
-{
-    x
-}
+pub use files::{Files, ReadStop};
+pub use sink::{Failed, Sink, write_all};

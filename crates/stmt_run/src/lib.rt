@@ -1,13 +1,10 @@
-// A library with one function.
+//! Runs small programs.
+//!
+//! What a program means is defined from scratch: after `close` and after each assignment every defined
+//! variable has the value of its term under the values of the variables before it. It knows nothing of
+//! texts, files or sinks.
 #![tactic(auto)]
 
-ghost use Rattle.std.specs.Prelude.{◌≡◌};
-ghost use Rattle.stmt_run.specs.Echo.{echo_of};
+mod execution;
 
-// The `ensures` clause is the contract: what `echo` returns is `echo_of` of its argument, a definition
-// in `specs/Echo.antt`, which a caller's clause can cite too.
-pub fn echo(x: usize) -> usize
-    ensures { result ≡ echo_of x }
-{
-    x
-}
+pub use execution::{RunEnd, run};
