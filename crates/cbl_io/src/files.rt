@@ -1,5 +1,5 @@
 //! Files, read whole by name.
-ghost use Rattle.std.specs.Prelude.{◌≡◌, ◌≢◌, ◌+◌, ◌≤◌, ℕ, List, Option, IfOk, take};
+ghost use Rattle.std.specs.Prelude.{◌≡◌, ◌≢◌, ◌+◌, ◌≤◌, ℕ, List, Option, IfOk, vec_len};
 ghost use Rattle.std.specs.Ordering.{nat_cmp};
 ghost use Rattle.cbl_io.specs.Faults.{HasRisen};
 ghost use Rattle.cbl_io.specs.Held.{Held, IsRead};
@@ -26,6 +26,7 @@ pub trait Files {
     /// `Failed` comes only where the name's count of faults rises; a name that isn't held fails.
     fn read(&mut self, alloc: Global, name: &str, most: u64) -> Result<Vec<u8>, ReadStop>
         ensures ok { IfOk result (λ bytes. IsRead (held self.old) name.now most bytes.items) }
+        ensures within { IfOk result (λ bytes. vec_len bytes ≤ most + 1) }
         ensures failed { result ≡ Err ReadStop.Failed → HasRisen (faults self.old name.now) (faults self.new name.now) }
         ensures never_falls { faults self.old name.now ≤ faults self.new name.now }
         ensures others { (other : List ℕ) → other ≢ name.now → faults self.new other ≡ faults self.old other }
