@@ -5,7 +5,9 @@
 #![tactic(auto)]
 
 mod files;
+mod mem_sink;
 mod sink;
 
 pub use files::{Files, ReadStop};
+pub use mem_sink::MemSink;
 pub use sink::{Failed, Sink, write_all};
