@@ -1,1 +1,3 @@
 pub mod AppendedLemmas
+pub mod FindLemmas
+pub mod TimesLemmas

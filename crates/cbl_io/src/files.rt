@@ -4,7 +4,8 @@ ghost use Rattle.std.specs.Ordering.{nat_cmp};
 ghost use Rattle.cbl_io.specs.Faults.{HasRisen};
 ghost use Rattle.cbl_io.specs.Held.{Held, IsRead};
 
-use std::alloc::Global;
+use cbl_base::NoMemory;
+use std::alloc::{AllocError, Global};
 
 /// Why a read gave no bytes.
 #[derive(Clone, Copy, PartialEq, Eq, Debug)]
@@ -12,6 +13,26 @@ pub enum ReadStop {
     /// The file isn't there, or can't be read.
     Failed,
     NoMemory,
+}
+
+impl From<NoMemory> for ReadStop {
+    ghost use Rattle.cbl_io.specs.declared.files.ReadStop.TheVariants.{NoMemory};
+
+    ghost from_gives = { λ _ stop. stop ≡ NoMemory };
+
+    fn from(_error: NoMemory) -> ReadStop {
+        ReadStop::NoMemory
+    }
+}
+
+impl From<AllocError> for ReadStop {
+    ghost use Rattle.cbl_io.specs.declared.files.ReadStop.TheVariants.{NoMemory};
+
+    ghost from_gives = { λ _ stop. stop ≡ NoMemory };
+
+    fn from(_error: AllocError) -> ReadStop {
+        ReadStop::NoMemory
+    }
 }
 
 /// Files that are read by name.
