@@ -1,8 +1,8 @@
 //! A sink over a writer of the system.
-ghost use Rattle.std.specs.Prelude.{◌≡◌, ◌≤◌, ◌<◌, ℕ, List, None, IfOk, OnErr, length, take};
+ghost use Rattle.std.specs.Prelude.{◌≡◌, ◌≤◌, ◌<◌, ℕ, List, None, IfOk, OnErr, is_ok, if◌then◌else◌, length, take};
 ghost use Rattle.std.specs.Io.{WritesAtMost};
-ghost use Rattle.std.specs.Io.KnownBytes.{Appends, WriteAppends};
-ghost use Rattle.cbl_io.specs.Faults.{HasRisen};
+ghost use Rattle.std.specs.Io.KnownBytes.{Appends, Keeps, WriteAppends};
+ghost use Rattle.cbl_io.specs.Faults.{HasRisen, next_count};
 ghost use Rattle.cbl_io.specs.RealSink.{writer_of, fault_count};
 
 use crate::sink::{Failed, Sink};
@@ -38,8 +38,10 @@ impl<W: Write> Sink for RealSink<W> {
         ensures some { IfOk result (λ taken. 0 < length piece.now → 0 < taken) }
         ensures failed { OnErr result (HasRisen (fault_count self.old) (fault_count self.new)) }
         ensures never_falls { fault_count self.old ≤ fault_count self.new }
-        // what is only this sink's: where the writer tells its bytes, they are the ones that were taken
+        // what is only this sink's: where the writer tells its bytes, they are those that were taken
         ensures passes_on { IfOk result (λ taken. Appends (W.contents (writer_of self.old)) (W.contents (writer_of self.new)) (take taken piece.now)) }
+        ensures keeps { OnErr result (Keeps (W.contents (writer_of self.old)) (W.contents (writer_of self.new))) }
+        ensures counts { fault_count self.new ≡ (if is_ok result then fault_count self.old else next_count (fault_count self.old)) }
     {
         match write_some(&mut self.writer, piece) {
             Ok(taken) if 0 < taken || piece.is_empty() => Ok(taken),
