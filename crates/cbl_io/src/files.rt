@@ -1,10 +1,11 @@
 //! Files, read whole by name.
-ghost use Rattle.std.specs.Prelude.{◌≡◌, ◌≢◌, ◌+◌, ◌≤◌, ℕ, List, Option, IfOk, take};
+ghost use Rattle.std.specs.Prelude.{◌≡◌, ◌≢◌, ◌+◌, ◌≤◌, ℕ, List, Option, IfOk, vec_len};
 ghost use Rattle.std.specs.Ordering.{nat_cmp};
 ghost use Rattle.cbl_io.specs.Faults.{HasRisen};
 ghost use Rattle.cbl_io.specs.Held.{Held, IsRead};
 
-use std::alloc::Global;
+use cbl_base::NoMemory;
+use std::alloc::{AllocError, Global};
 
 /// Why a read gave no bytes.
 #[derive(Clone, Copy, PartialEq, Eq, Debug)]
@@ -12,6 +13,26 @@ pub enum ReadStop {
     /// The file isn't there, or can't be read.
     Failed,
     NoMemory,
+}
+
+impl From<NoMemory> for ReadStop {
+    ghost use Rattle.cbl_io.specs.declared.files.ReadStop.TheVariants.{NoMemory};
+
+    ghost from_gives = { λ _ stop. stop ≡ NoMemory };
+
+    fn from(_error: NoMemory) -> ReadStop {
+        ReadStop::NoMemory
+    }
+}
+
+impl From<AllocError> for ReadStop {
+    ghost use Rattle.cbl_io.specs.declared.files.ReadStop.TheVariants.{NoMemory};
+
+    ghost from_gives = { λ _ stop. stop ≡ NoMemory };
+
+    fn from(_error: AllocError) -> ReadStop {
+        ReadStop::NoMemory
+    }
 }
 
 /// Files that are read by name.
@@ -26,6 +47,7 @@ pub trait Files {
     /// `Failed` comes only where the name's count of faults rises; a name that isn't held fails.
     fn read(&mut self, alloc: Global, name: &str, most: u64) -> Result<Vec<u8>, ReadStop>
         ensures ok { IfOk result (λ bytes. IsRead (held self.old) name.now most bytes.items) }
+        ensures within { IfOk result (λ bytes. vec_len bytes ≤ most + 1) }
         ensures failed { result ≡ Err ReadStop.Failed → HasRisen (faults self.old name.now) (faults self.new name.now) }
         ensures never_falls { faults self.old name.now ≤ faults self.new name.now }
         ensures others { (other : List ℕ) → other ≢ name.now → faults self.new other ≡ faults self.old other }

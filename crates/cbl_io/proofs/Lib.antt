@@ -1,0 +1,4 @@
+pub mod AppendedLemmas
+pub mod FindLemmas
+pub mod FrontLemmas
+pub mod TimesLemmas
