@@ -5,6 +5,13 @@
 //! texts, files or sinks.
 #![tactic(auto)]
 
+mod evaluation;
 mod execution;
+mod stack;
+mod stop;
+mod values;
 
+pub use evaluation::evaluate;
 pub use execution::{RunEnd, run};
+pub use stop::EvalStop;
+pub use values::{fresh, start};
