@@ -5,6 +5,7 @@
 //! texts, files or sinks.
 #![tactic(auto)]
 
+mod acts;
 mod evaluation;
 mod execution;
 mod stack;
