@@ -1,2 +1,4 @@
 pub mod ActSteps
+pub mod ExpressionLaw
+pub mod OverflowLaw
 pub mod Postorder
