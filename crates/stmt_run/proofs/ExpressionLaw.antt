@@ -1,13 +1,12 @@
 -- A defined variable equals its expression.
-use Rattle.std.proofs.Common.{◌≡◌, ℕ, zero, suc, ℤ, pos, ◌+◌, ◌<◌, List, [], ◌∷◌, ◌++◌, Ok, Err, Some, None, IfSome, length, get_or, refl, sym, ap, ◌∙◌, subst, append_assoc, arith, length-append}
+use Rattle.std.proofs.Common.{◌≡◌, ℕ, zero, suc, ℤ, pos, ◌+◌, List, [], ◌∷◌, ◌++◌, Ok, Err, Some, IfSome, length, refl, sym, ap, ◌∙◌, subst, append_assoc, arith, length-append}
 use Rattle.std.specs.Prelude.{slice_get, slice_index_or}
 use Rattle.std.proofs.Math.ListN.{get_or-append}
 use Rattle.std.proofs.lemmas.List.{append-nil}
 use Rattle.comet_syntax.specs.declared.program.Declaration.{Declaration}
 use Rattle.comet_syntax.specs.declared.program.Declaration.TheVariants.{Free, Defined}
-use Rattle.comet_syntax.specs.declared.term.Operation.{Operation}
 use Rattle.comet_syntax.specs.Tree.{Tree, number, variable, join}
-use Rattle.stmt_run.specs.Value.{Outcome, ◌>>=◌, result_of, value_of}
+use Rattle.stmt_run.specs.Value.{Outcome, ◌>>=◌, value_of}
 use Rattle.stmt_run.specs.Fresh.{fresh_behind, fresh_values}
 use Rattle.stmt_run.specs.Scoped.{NamesBelow, IsScopedFrom, IsScoped}
 use Rattle.stmt_run.specs.EqualsExpression.{HasItsValue, AreTheirValues}
@@ -44,10 +43,10 @@ grown known x d declarations given values here b =
     let regrouped : values ≡ known ++ x ∷ b.rest = b.whole ∙ append_assoc known (x ∷ []) b.rest in
     let longer : length (known ++ x ∷ []) ≡ length known + 1 = length-append known (x ∷ []) in
     let each : (k : ℕ) → IfSome (slice_get (d ∷ declarations) k) (HasItsValue given values (length known + k)) = λ k.
-        elim k as (λ j. IfSome (slice_get (d ∷ declarations) j) (HasItsValue given values (length known + j))) [
-            zero ↦ let e : length known ≡ length known + 0 = omega arith in subst (λ j. HasItsValue given values j d) e (here b.rest regrouped)
-          | suc j ↦ let e : length (known ++ x ∷ []) + j ≡ length known + suc j = omega (arith, longer) in subst (λ i. IfSome (slice_get declarations j) (HasItsValue given values i)) e (b.each j)
-        ] in
+    elim k as (λ j. IfSome (slice_get (d ∷ declarations) j) (HasItsValue given values (length known + j))) [
+      | zero ↦ let e : length known ≡ length known + 0 = omega arith in subst (λ j. HasItsValue given values j d) e (here b.rest regrouped)
+      | suc j ↦ let e : length (known ++ x ∷ []) + j ≡ length known + suc j = omega (arith, longer) in subst (λ i. IfSome (slice_get declarations j) (HasItsValue given values i)) e (b.each j)
+    ] in
     record { rest = x ∷ b.rest; whole = regrouped; one_each = ap (λ n. suc n) b.one_each; each = each }
 
 holds_behind : (known : List ℤ) (declarations : List Declaration) (given values : List ℤ) → IsScopedFrom (length known) declarations →
@@ -59,13 +58,13 @@ holds_behind known (Free start ∷ declarations) given values scoped h =
     let x : ℤ = slice_index_or given (length known) (pos 0) in
     let longer : length (known ++ x ∷ []) ≡ length known + 1 = length-append known (x ∷ []) in
     grown known x (Free start) declarations given values (λ rest e. ap (λ vs. slice_get vs (length known)) e ∙ stands_behind known rest x)
-        (holds_behind (known ++ x ∷ []) declarations given values (subst (λ n. IsScopedFrom n declarations) (sym longer) scoped) h)
+    (holds_behind (known ++ x ∷ []) declarations given values (subst (λ n. IsScopedFrom n declarations) (sym longer) scoped) h)
 holds_behind known (Defined term ∷ declarations) given values scoped h =
     let b = bind_ok (value_of known term) (λ y. fresh_behind (known ++ y ∷ []) declarations given) values h in
     let longer : length (known ++ b.0 ∷ []) ≡ length known + 1 = length-append known (b.0 ∷ []) in
     grown known b.0 (Defined term) declarations given values
-        (λ rest e. (b.0, ap (λ vs. value_of vs term) e ∙ value_of_front known (b.0 ∷ rest) term scoped.0 ∙ b.1, ap (λ vs. slice_get vs (length known)) e ∙ stands_behind known rest b.0))
-        (holds_behind (known ++ b.0 ∷ []) declarations given values (subst (λ n. IsScopedFrom n declarations) (sym longer) scoped.1) b.2)
+    (λ rest e. (b.0, ap (λ vs. value_of vs term) e ∙ value_of_front known (b.0 ∷ rest) term scoped.0 ∙ b.1, ap (λ vs. slice_get vs (length known)) e ∙ stands_behind known rest b.0))
+    (holds_behind (known ++ b.0 ∷ []) declarations given values (subst (λ n. IsScopedFrom n declarations) (sym longer) scoped.1) b.2)
 
 pub their_values : (declarations : List Declaration) (given values : List ℤ) →
     IsScoped declarations → fresh_values declarations given ≡ Ok values → AreTheirValues declarations given values

@@ -2,3 +2,4 @@ pub mod ActSteps
 pub mod ExpressionLaw
 pub mod OverflowLaw
 pub mod Postorder
+pub mod TermSteps

@@ -1,7 +1,6 @@
 -- Evaluation has no fault but an overflow.
 use Rattle.std.proofs.Common.{◌≡◌, ℤ, Bool, true, false, List, [], ◌∷◌, ◌++◌, pos, Ok, Err, length, refl, ◌+ℤ◌, ◌-ℤ◌, ◌*ℤ◌, slice_set}
 use Rattle.std.specs.Prelude.{slice_index_or, if◌then◌else◌}
-use Rattle.cbl_base.specs.declared.faults.RunFault.{RunFault}
 use Rattle.cbl_base.specs.declared.faults.RunFault.TheVariants.{Overflow}
 use Rattle.cbl_base.specs.Arithmetic.{exact, fits_64}
 use Rattle.comet_syntax.specs.declared.program.Declaration.{Declaration}

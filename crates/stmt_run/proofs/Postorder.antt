@@ -3,7 +3,7 @@ use Rattle.std.proofs.Common.{◌≡◌, ℤ, List, [], ◌∷◌, ◌++◌, Ok,
 use Rattle.std.proofs.lemmas.List.{append-nil}
 use Rattle.comet_syntax.specs.declared.term.Operation.{Operation}
 use Rattle.comet_syntax.specs.declared.term.Step.{Step}
-use Rattle.comet_syntax.specs.declared.term.Step.TheVariants.{Number, Variable, Join}
+use Rattle.comet_syntax.specs.declared.term.Step.TheVariants.{Join}
 use Rattle.comet_syntax.specs.Tree.{Tree, number, variable, join, postorder}
 use Rattle.stmt_run.specs.Value.{Outcome, ◌>>=◌, result_of, value_of}
 use Rattle.stmt_run.specs.Machine.{after_steps}

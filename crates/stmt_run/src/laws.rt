@@ -13,11 +13,9 @@ ghost use Rattle.stmt_run.specs.OverflowOnly.{IsDoneOrOverflow};
 pub fn defined_equals_expression()
     ensures { (declarations : List Declaration) (given values : List ℤ) →
         IsScoped declarations → fresh_values declarations given ≡ Ok values → AreTheirValues declarations given values }
-{
-}
+{}
 
 /// A run ends done or with an overflow at 1:1, where memory doesn't run out.
 pub fn overflow_only()
     ensures { (declarations : List Declaration) (acts : List Act) → IsDoneOrOverflow (meaning_of declarations acts).end }
-{
-}
+{}

@@ -18,3 +18,6 @@ pub use execution::{RunEnd, run};
 pub use laws::{defined_equals_expression, overflow_only};
 pub use stop::EvalStop;
 pub use values::{fresh, start};
+
+#[cfg(test)]
+mod tests;

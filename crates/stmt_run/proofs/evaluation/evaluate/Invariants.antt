@@ -1,5 +1,5 @@
 -- the rest of the steps leaves what the whole term leaves
-use Rattle.std.proofs.Common.{◌≡◌, List, [], ◌∷◌, Ok, drop}
+use Rattle.std.proofs.Common.{◌≡◌, [], ◌∷◌, Ok, drop}
 use Rattle.stmt_run.specs.Value.{◌>>=◌, value_of}
 use Rattle.stmt_run.specs.Machine.{after_steps}
 use Rattle.stmt_run.proofs.evaluation.evaluate.Given as goal
