@@ -1,7 +1,7 @@
 -- The value of a term: a number is itself, a variable has the value that it is given, and an operation
 -- has its exact result of its two parts' values. A term whose subterm has no value has the fault of the
 -- least numbered subterm that fails though its parts have values. A rule of this project.
-use Rattle.std.specs.Prelude.{ℕ, ℤ, pos, ◌+ℤ◌, ◌-ℤ◌, ◌*ℤ◌, List, Result, Ok, Err, slice_index_or}
+use Rattle.std.specs.Prelude.{ℤ, pos, ◌+ℤ◌, ◌-ℤ◌, ◌*ℤ◌, List, Result, Ok, Err, slice_index_or}
 use Rattle.cbl_base.specs.declared.faults.RunFault.{RunFault}
 use Rattle.cbl_base.specs.Arithmetic.{exact}
 use Rattle.comet_syntax.specs.declared.term.Operation.{Operation}

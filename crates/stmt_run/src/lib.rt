@@ -5,6 +5,19 @@
 //! texts, files or sinks.
 #![tactic(auto)]
 
+mod acts;
+mod evaluation;
 mod execution;
+mod laws;
+mod stack;
+mod stop;
+mod values;
 
+pub use evaluation::evaluate;
 pub use execution::{RunEnd, run};
+pub use laws::{defined_equals_expression, overflow_only};
+pub use stop::EvalStop;
+pub use values::{fresh, start};
+
+#[cfg(test)]
+mod tests;
