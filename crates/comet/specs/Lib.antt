@@ -1,0 +1,4 @@
+pub mod Loading
+pub mod Output
+pub mod Status
+pub mod Words

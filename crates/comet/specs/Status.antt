@@ -1,0 +1,21 @@
+-- Each cause has its status. A rule of this project.
+use Rattle.std.specs.Prelude.{ℕ}
+use Rattle.comet.specs.declared.report.Cause.{Cause}
+use Rattle.comet.specs.declared.report.Cause.TheVariants as causes
+use Rattle.stmt_run.specs.declared.execution.RunEnd.{RunEnd}
+use Rattle.stmt_run.specs.declared.execution.RunEnd.TheVariants as ends
+
+abbrev pub status_of : Cause → ℕ
+status_of causes.Done = 0
+status_of causes.Words = 1
+status_of (causes.IllFormed place cause) = 2
+status_of (causes.Run place fault) = 5
+status_of causes.NoMemory = 7
+status_of (causes.Read role) = 8
+status_of causes.Write = 9
+
+-- the cause of a run that ended so
+abbrev pub cause_of : RunEnd → Cause
+cause_of ends.Done = causes.Done
+cause_of (ends.Run place fault) = causes.Run place fault
+cause_of ends.NoMemory = causes.NoMemory

@@ -1,0 +1,81 @@
+//! What a call of `comet_run` reports.
+ghost use Rattle.std.specs.Prelude.{◌≡◌};
+ghost use Rattle.comet.specs.Status.{status_of, cause_of};
+
+use cbl_base::{Place, RunFault};
+use comet_syntax::FormCause;
+use stmt_run::RunEnd;
+
+/// What a file is read for.
+#[derive(Clone, Copy, PartialEq, Eq, Debug)]
+pub enum FileRole {
+    Program,
+}
+
+/// Why a run ended as it did.
+#[derive(Clone, Copy, PartialEq, Eq, Debug)]
+pub enum Cause {
+    /// The program ran to its end.
+    Done,
+    /// The words aren't in form.
+    Words,
+    /// The program's text is refused at this place.
+    IllFormed(Place, FormCause),
+    /// A fault of the run at this place.
+    Run(Place, RunFault),
+    NoMemory,
+    /// A file can't be read.
+    Read(FileRole),
+    /// The output can't be written.
+    Write,
+}
+
+/// How a run ended: a status from 0 to 9, which is always its cause's.
+#[derive(Clone, Copy, PartialEq, Eq, Debug)]
+pub struct Report {
+    pub status: u8,
+    pub cause: Cause,
+}
+
+impl Cause {
+    /// The status of a run that ends so: 0 done, 1 words, 2 ill formed, 5 a run fault, 7 no memory,
+    /// 8 a file can't be read, 9 the output can't be written.
+    pub fn status(self) -> u8
+        ensures { result ≡ status_of self }
+    {
+        match self {
+            Cause::Done => 0,
+            Cause::Words => 1,
+            Cause::IllFormed(..) => 2,
+            Cause::Run(..) => 5,
+            Cause::NoMemory => 7,
+            Cause::Read(_) => 8,
+            Cause::Write => 9,
+        }
+    }
+}
+
+impl Report {
+    /// The report of a run that ended so.
+    pub(crate) fn of(cause: Cause) -> Report
+        ensures cause { result.cause ≡ cause }
+        ensures status { result.status ≡ status_of cause }
+    {
+        Report {
+            status: cause.status(),
+            cause,
+        }
+    }
+}
+
+impl From<RunEnd> for Cause {
+    ghost from_gives = { λ end cause. cause ≡ cause_of end };
+
+    fn from(end: RunEnd) -> Cause {
+        match end {
+            RunEnd::Done => Cause::Done,
+            RunEnd::Run(place, fault) => Cause::Run(place, fault),
+            RunEnd::NoMemory => Cause::NoMemory,
+        }
+    }
+}
