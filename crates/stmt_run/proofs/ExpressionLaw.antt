@@ -74,3 +74,48 @@ their_values declarations given values scoped h =
       one_each = ap (λ (vs : List ℤ). length vs) b.whole ∙ b.one_each;
       each = λ k. let e : 0 + k ≡ k = omega arith in subst (λ i. IfSome (slice_get declarations k) (HasItsValue given values i)) e (b.each k);
     }
+
+-- the facts of all declarations behind the known ones, from those of one number more on
+each_further : (known : List ℤ) (x : ℤ) (d : Declaration) (declarations : List Declaration) (given values : List ℤ) →
+    ((k : ℕ) → IfSome (slice_get (d ∷ declarations) k) (HasItsValue given values (length known + k))) →
+    (k : ℕ) → IfSome (slice_get declarations k) (HasItsValue given values (length (known ++ x ∷ []) + k))
+each_further known x d declarations given values each k =
+    let e : length known + suc k ≡ length (known ++ x ∷ []) + k = omega (arith, length-append known (x ∷ [])) in
+    subst (λ i. IfSome (slice_get declarations k) (HasItsValue given values i)) e (each (suc k))
+
+-- the facts of the first declaration
+first_of_each : (known : List ℤ) (d : Declaration) (declarations : List Declaration) (given values : List ℤ) →
+    ((k : ℕ) → IfSome (slice_get (d ∷ declarations) k) (HasItsValue given values (length known + k))) → HasItsValue given values (length known) d
+first_of_each known d declarations given values each =
+    let e : length known + 0 ≡ length known = omega arith in
+    subst (λ i. HasItsValue given values i d) e (each 0)
+
+same_value : (known rest values : List ℤ) (x y : ℤ) → values ≡ known ++ x ∷ rest → slice_get values (length known) ≡ Some y → y ≡ x
+same_value known rest values x y whole h =
+    let at : slice_get values (length known) ≡ Some x = ap (λ vs. slice_get vs (length known)) whole ∙ stands_behind known rest x in
+    cc
+
+only_behind : (known : List ℤ) (declarations : List Declaration) (given rest values : List ℤ) → IsScopedFrom (length known) declarations →
+    values ≡ known ++ rest → length rest ≡ length declarations →
+    ((k : ℕ) → IfSome (slice_get declarations k) (HasItsValue given values (length known + k))) → fresh_behind known declarations given ≡ Ok values
+only_behind known [] given [] values scoped whole counted each = ap (λ (vs : List ℤ). Ok vs) (sym (whole ∙ append-nil known))
+only_behind known [] given (x ∷ rest) values scoped whole counted each = absurd (omega arith)
+only_behind known (d ∷ declarations) given [] values scoped whole counted each = absurd (omega arith)
+only_behind known (Free start ∷ declarations) given (x ∷ rest) values scoped whole counted each =
+    let g : slice_index_or given (length known) (pos 0) ≡ x = same_value known rest values x _ whole (first_of_each known (Free start) declarations given values each) in
+    let longer : length (known ++ x ∷ []) ≡ length known + 1 = length-append known (x ∷ []) in
+    rw g (only_behind (known ++ x ∷ []) declarations given rest values (subst (λ n. IsScopedFrom n declarations) (sym longer) scoped)
+    (whole ∙ sym (append_assoc known (x ∷ []) rest)) (omega arith) (each_further known x (Free start) declarations given values each))
+only_behind known (Defined term ∷ declarations) given (x ∷ rest) values scoped whole counted each =
+    let here = first_of_each known (Defined term) declarations given values each in
+    let g : here.0 ≡ x = same_value known rest values x here.0 whole here.2 in
+    let v : value_of known term ≡ Ok x = sym (ap (λ vs. value_of vs term) whole ∙ value_of_front known (x ∷ rest) term scoped.0) ∙ here.1 ∙ ap (λ (y : ℤ). Ok y) g in
+    let longer : length (known ++ x ∷ []) ≡ length known + 1 = length-append known (x ∷ []) in
+    rw v (only_behind (known ++ x ∷ []) declarations given rest values (subst (λ n. IsScopedFrom n declarations) (sym longer) scoped.1)
+    (whole ∙ sym (append_assoc known (x ∷ []) rest)) (omega arith) (each_further known x (Defined term) declarations given values each))
+
+pub only_values : (declarations : List Declaration) (given values : List ℤ) →
+    IsScoped declarations → AreTheirValues declarations given values → fresh_values declarations given ≡ Ok values
+only_values declarations given values scoped h =
+    only_behind [] declarations given values values scoped refl h.one_each
+    (λ k. let e : k ≡ 0 + k = omega arith in subst (λ i. IfSome (slice_get declarations k) (HasItsValue given values i)) e (h.each k))

@@ -7,7 +7,7 @@ use std::alloc::Global;
 use std::marker::Model;
 
 /// A stack of values, seen as their list from the top down.
-#[derive(Drop, Debug)]
+#[derive(Drop)]
 pub(crate) struct Stack {
     values: Vec<i64>,
 }
