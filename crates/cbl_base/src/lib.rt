@@ -12,9 +12,11 @@ mod names;
 mod place;
 mod text;
 
-
 pub use arithmetic::{add, mul, sub};
 pub use faults::{Limit, NoMemory, RunFault};
 pub use names::Names;
 pub use place::Place;
 pub use text::Text;
+
+#[cfg(test)]
+mod tests;

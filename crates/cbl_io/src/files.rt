@@ -1,4 +1,4 @@
-//! Files, read whole by name.
+//! Files that are read by name.
 ghost use Rattle.std.specs.Prelude.{◌≡◌, ◌≢◌, ◌+◌, ◌≤◌, ℕ, List, Option, IfOk, vec_len};
 ghost use Rattle.std.specs.Ordering.{nat_cmp};
 ghost use Rattle.cbl_io.specs.Faults.{HasRisen};
