@@ -7,11 +7,10 @@
 #![tactic(auto)]
 
 mod report;
-mod top;
-mod words;
-
 #[cfg(test)]
 mod tests;
+mod top;
+mod words;
 
 pub use report::{Cause, FileRole, Report};
 pub use top::comet_run;

@@ -23,7 +23,10 @@ fn main(rt: HostRuntime) -> ExitCode {
 /// The words behind the program's own name. A word that isn't UTF-8 is out of form.
 fn words_of<R: Env + AllocGlobal>(rt: &R) -> Result<Vec<String>, Cause> {
     match env::args(rt) {
-        Ok(words) => words.skip(1).collect(rt.alloc()).map_err(|_| Cause::NoMemory),
+        Ok(words) => words
+            .skip(1)
+            .collect(rt.alloc())
+            .map_err(|_| Cause::NoMemory),
         Err(error) if error.kind() == ErrorKind::OutOfMemory => Err(Cause::NoMemory),
         Err(_) => Err(Cause::Words),
     }
