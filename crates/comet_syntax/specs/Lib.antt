@@ -1,2 +1,7 @@
+pub mod Expression
+pub mod Lexeme
+pub mod Name
+pub mod Small
 pub mod Tree
 pub mod TreeCode
+pub mod Variables
