@@ -1,7 +1,7 @@
 -- Expressions. A sum is a chain of products joined by `+` and `-`, a product a chain of primaries joined
 -- by `*`, and a primary a number, a variable, or a sum in parentheses. A chain groups from the left, and
 -- goes on as long as the next lexeme joins. Parentheses stand at most 198 deep. From the book.
-use Rattle.std.specs.Prelude.{◌≡◌, ◌+◌, ◌*◌, ◌-◌, ◌<◌, ◌^◌, ℕ, pos, List, [], ◌∷◌, Option, Some, true, codes}
+use Rattle.std.specs.Prelude.{◌≡◌, ◌+◌, ◌*◌, ◌-◌, ◌<◌, ◌^◌, ℕ, pos, List, [], ◌∷◌, Option, Some, None, option_map, true, if◌then◌else◌, nat_lt, codes}
 use Rattle.comet_syntax.specs.declared.term.Operation.TheVariants.{Add, Sub, Mul}
 use Rattle.comet_syntax.specs.declared.expression.TheConstants.{MOST_PARENTHESES}
 use Rattle.comet_syntax.specs.Lexeme.{is_number, Next, NotNext}
@@ -16,6 +16,12 @@ digits_behind before (c ∷ cs) = digits_behind (before * 10 + (c - 48)) cs
 -- the number that digits spell
 abbrev pub number_of_digits : List ℕ → ℕ
 number_of_digits digits = digits_behind 0 digits
+
+-- the term that a lexeme alone stands for: a number of at most 63 bits, or a variable
+abbrev pub leaf_of : (List ℕ → Option ℕ) → List ℕ → Option Tree
+leaf_of number_of lexeme =
+    if is_number lexeme then (if nat_lt (number_of_digits lexeme) (2 ^ 63) then Some (number (pos (number_of_digits lexeme))) else None)
+    else (if is_name lexeme then option_map variable (number_of lexeme) else None)
 
 -- a part of an expression: a whole one, or the rest of a chain behind what its front spells
 pub data Part : Type 0 where
@@ -56,16 +62,10 @@ pub data Spells (number_of : List ℕ → Option ℕ) : Part → ℕ → List �
   product_ends : {depth : ℕ} {text : List ℕ} {front : Tree}
     → NotNext text (codes "*")
     → Spells number_of (rest_of_product front) depth text front text
-  a_number : {depth : ℕ} {text digits rest : List ℕ}
-    → Next text digits rest
-    → is_number digits ≡ true
-    → number_of_digits digits < 2 ^ 63
-    → Spells number_of primary depth text (number (pos (number_of_digits digits))) rest
-  a_variable : {depth v : ℕ} {text name rest : List ℕ}
-    → Next text name rest
-    → is_name name ≡ true
-    → number_of name ≡ Some v
-    → Spells number_of primary depth text (variable v) rest
+  a_leaf : {depth : ℕ} {text lexeme rest : List ℕ} {term : Tree}
+    → Next text lexeme rest
+    → leaf_of number_of lexeme ≡ Some term
+    → Spells number_of primary depth text term rest
   in_parentheses : {depth : ℕ} {text inner behind rest : List ℕ} {whole : Tree}
     → depth < MOST_PARENTHESES
     → Next text (codes "(") inner
@@ -73,6 +73,12 @@ pub data Spells (number_of : List ℕ → Option ℕ) : Part → ℕ → List �
     → Next behind (codes ")") rest
     → Spells number_of primary depth text whole rest
 
--- a whole expression
+-- a whole expression in no parentheses
 abbrev pub IsExpression : (List ℕ → Option ℕ) → List ℕ → Tree → List ℕ → Type 0
 IsExpression number_of = Spells number_of sum 0
+
+-- an expression, and the `;` behind it
+pub record IsEndedExpression (number_of : List ℕ → Option ℕ) (text : List ℕ) (term : Tree) (rest : List ℕ) : Type 0 where
+  pub behind : List ℕ
+  pub spelled : IsExpression number_of text term behind
+  pub ended : Next behind (codes ";") rest

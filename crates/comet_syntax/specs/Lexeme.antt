@@ -38,14 +38,19 @@ signs = codes "(" ∷ codes ")" ∷ codes "{" ∷ codes "}" ∷ codes "[" ∷ co
     ∷ codes ".." ∷ codes "." ∷ codes "@" ∷ codes "?" ∷ []
 
 abbrev pub is_sign : List ℕ → Bool
-is_sign w = list_any (bytes_eq w) signs
+is_sign w = list_any (λ sign. bytes_eq sign w) signs
 
-abbrev pub IsLexeme : List ℕ → Type 0
-IsLexeme w = (is_word w || is_number w || is_sign w) ≡ true
+pub data IsLexeme (w : List ℕ) : Type 0 where
+  a_word : is_word w ≡ true → IsLexeme w
+  a_number : is_number w ≡ true → IsLexeme w
+  a_sign : is_sign w ≡ true → IsLexeme w
 
 -- nothing but white space
+abbrev pub is_blank : List ℕ → Bool
+is_blank text = list_all is_space text
+
 abbrev pub IsBlank : List ℕ → Type 0
-IsBlank text = list_all is_space text ≡ true
+IsBlank text = is_blank text ≡ true
 
 -- the next lexeme of a text, and what stands behind it
 pub record Next (text lexeme rest : List ℕ) : Type 0 where

@@ -17,7 +17,7 @@ keywords = codes "import" ∷ codes "include" ∷ codes "function" ∷ codes "vo
     ∷ codes "InputFile" ∷ codes "MinNeighborSelector" ∷ codes "BestMonitor" ∷ codes "Solution" ∷ []
 
 abbrev pub is_keyword : List ℕ → Bool
-is_keyword w = list_any (bytes_eq w) keywords
+is_keyword w = list_any (λ keyword. bytes_eq keyword w) keywords
 
 abbrev pub is_name : List ℕ → Bool
 is_name w = is_word w && not (is_keyword w)

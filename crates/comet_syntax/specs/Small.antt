@@ -12,7 +12,7 @@ use Rattle.comet_syntax.specs.declared.variables.Among.TheVariants as among
 use Rattle.comet_syntax.specs.Lexeme.{IsBlank, Next, NextAll, NotNext}
 use Rattle.comet_syntax.specs.Name.{is_name}
 use Rattle.comet_syntax.specs.Variables.{number_of, is_new}
-use Rattle.comet_syntax.specs.Expression.{IsExpression}
+use Rattle.comet_syntax.specs.Expression.{IsExpression, IsEndedExpression}
 use Rattle.comet_syntax.specs.Tree.{Tree, number}
 
 -- `;`, or `:=` and a start value, or `<-` and a definition: what stands behind the name and the solver
@@ -21,15 +21,13 @@ pub data IsStart (variables : List Variable) : List ℕ → Declaration → List
   zero_start : {text rest : List ℕ}
     → Next text (codes ";") rest
     → IsStart variables text (declarations.Free (number (pos 0))) rest
-  start : {text expression behind rest : List ℕ} {term : Tree}
+  start : {text expression rest : List ℕ} {term : Tree}
     → Next text (codes ":=") expression
-    → IsExpression (number_of variables among.Free) expression term behind
-    → Next behind (codes ";") rest
+    → IsEndedExpression (number_of variables among.Free) expression term rest
     → IsStart variables text (declarations.Free term) rest
-  definition : {text expression behind rest : List ℕ} {term : Tree}
+  definition : {text expression rest : List ℕ} {term : Tree}
     → Next text (codes "<-") expression
-    → IsExpression (number_of variables among.All) expression term behind
-    → Next behind (codes ";") rest
+    → IsEndedExpression (number_of variables among.All) expression term rest
     → IsStart variables text (declarations.Defined term) rest
 
 -- whether a declaration's variable is free
@@ -86,13 +84,12 @@ pub data AreItems (variables : List Variable) : List ℕ → List Act → List �
 
 -- `name := expression;`, or `cout` and its items
 pub data IsStatement (variables : List Variable) : List ℕ → List Act → List ℕ → Type 0 where
-  assigned : {text name sign expression behind rest : List ℕ} {v : ℕ} {term : Tree}
+  assigned : {text name sign expression rest : List ℕ} {v : ℕ} {term : Tree}
     → Next text name sign
     → is_name name ≡ true
     → number_of variables among.Free name ≡ Some v
     → Next sign (codes ":=") expression
-    → IsExpression (number_of variables among.All) expression term behind
-    → Next behind (codes ";") rest
+    → IsEndedExpression (number_of variables among.All) expression term rest
     → IsStatement variables text (Assign v term ∷ []) rest
   output : {text items rest : List ℕ} {acts : List Act}
     → Next text (codes "cout") items

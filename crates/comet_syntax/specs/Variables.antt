@@ -1,6 +1,6 @@
 -- The declared variables, in order. A variable's number is its place from 0.
-use Rattle.std.specs.Prelude.{Bool, ◌==◌, ◌&&◌, ◌||◌, not, ℕ, List, Option}
-use Rattle.std.specs.List.{list_any, position_from}
+use Rattle.std.specs.Prelude.{Bool, ◌&&◌, not, ℕ, List, Option, position}
+use Rattle.std.specs.List.{list_any}
 use Rattle.std.specs.Str.{bytes_eq}
 use Rattle.comet_syntax.specs.declared.variables.Variable.{Variable}
 use Rattle.comet_syntax.specs.declared.variables.Among.{Among}
@@ -14,7 +14,7 @@ is_named Free name variable = variable.is_free && bytes_eq variable.name name
 
 -- the number of the variable of this name, among all variables or among the free ones
 abbrev pub number_of : List Variable → Among → List ℕ → Option ℕ
-number_of variables among name = position_from (is_named among name) 0 variables
+number_of variables among name = position (is_named among name) variables
 
 -- whether a variable may be declared with this name: it stands for nothing yet
 abbrev pub is_new : List ℕ → List Variable → List ℕ → Bool

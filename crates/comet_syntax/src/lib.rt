@@ -3,12 +3,15 @@
 
 mod expression;
 pub mod laws;
+mod lexeme;
 mod program;
 mod small;
+mod stop;
 mod term;
 mod variables;
 
 pub use expression::MOST_PARENTHESES;
 pub use program::{Act, Declaration, SmallProgram};
-pub use small::{FormCause, MOST_BYTES, SmallStop, read_small};
+pub use small::{MOST_BYTES, read_small};
+pub use stop::{FormCause, SmallStop};
 pub use term::{Operation, Step, Term};

@@ -5,26 +5,11 @@ ghost use Rattle.comet_syntax.specs.declared.program.Act.{Act as ActOf};
 ghost use Rattle.comet_syntax.specs.Small.{Spells};
 
 use crate::program::SmallProgram;
+use crate::stop::SmallStop;
 use std::alloc::Global;
 
 /// How many bytes a small text has at most.
 pub const MOST_BYTES: usize = 1_048_576;
-
-/// Why a text isn't read.
-#[derive(Clone, Copy, PartialEq, Eq, Debug)]
-pub enum SmallStop {
-    /// It spells no small program.
-    NotSmall,
-    /// There was no memory.
-    NoMemory,
-}
-
-/// Why a text is refused.
-#[derive(Clone, Copy, PartialEq, Eq, Debug)]
-pub enum FormCause {
-    /// The text isn't small, and nothing else is built.
-    NotBuilt,
-}
 
 /// The small program that a text spells. `NotSmall` exactly where it spells none, unless memory runs
 /// out.
