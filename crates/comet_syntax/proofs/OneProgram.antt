@@ -13,7 +13,7 @@ use Rattle.comet_syntax.specs.Name.{is_name}
 use Rattle.comet_syntax.specs.Tree.{Tree}
 use Rattle.comet_syntax.specs.Variables.{number_of}
 use Rattle.comet_syntax.specs.Expression.{leaf_of, sum, product, primary, Spells as SpellsPart, a_sum, a_product, a_leaf, in_parentheses, IsEndedExpression}
-use Rattle.comet_syntax.specs.Small.{IsStart, zero_start, start, definition, is_free, IsDeclaration, AreDeclarations, none, more, IsItem, end_line, printed, AreItems, last_item, more_items, IsStatement, assigned, output, AreStatements, ended, further, IsProgram, empty, program, Spells}
+use Rattle.comet_syntax.specs.Small.{IsStart, zero_start, start, definition, is_free, IsDeclaration, AreDeclarations, none, more, IsItem, end_line, printed, AreItems, last_item, more_items, IsTarget, IsStatement, assigned, output, AreStatements, ended, further, IsSolver, IsProgram, empty, program, Spells}
 use Rattle.comet_syntax.proofs.Lexing.{next_one, next_shorter, blank_ends}
 use Rattle.comet_syntax.proofs.OneTerm.{next_rest, next_from, clash, apart, one_term, part_shorter, one_ended, ended_shorter}
 
@@ -149,23 +149,28 @@ pub items_shorter : {vs : List Variable} {text r : List ℕ} {acts : List Act} �
 items_shorter (last_item n x m) = omega (arith, next_shorter n, item_shorter x, next_shorter m)
 items_shorter (more_items n x y) = omega (arith, next_shorter n, item_shorter x, items_shorter y)
 
+pub one_target : {vs : List Variable} {text r s : List ℕ} {v w : ℕ} → IsTarget vs text v r → IsTarget vs text w s → (v ≡ w) × (r ≡ s)
+one_target {vs} {v = v} {w} x y =
+  let (e, f) = next_one x.next y.next in
+  let g : Some v ≡ Some w = sym x.numbered ∙ ap (number_of vs among.Free) e ∙ y.numbered in
+  let h : v ≡ w = cc in
+  (h, f)
+
 pub one_statement : {vs : List Variable} {text r s : List ℕ} {acts bs : List Act} → IsStatement vs text acts r → IsStatement vs text bs s → (acts ≡ bs) × (r ≡ s)
-one_statement (assigned {v = v} {term = term} n a b c x) (assigned {v = v'} {term = term'} n' a' b' c' x') =
-  let (e, f) = next_one n n' in
-  let g : Some v ≡ Some v' = sym b ∙ ap (number_of _ among.Free) e ∙ b' in
-  let h : v ≡ v' = cc in
+one_statement (assigned {v = v} {term = term} n c x) (assigned {v = v'} {term = term'} n' c' x') =
+  let (h, f) = one_target n n' in
   let (k, l) = one_ended x (ended_from (next_rest c (next_from f c')) x') in
   (ap (λ z. Assign z term ∷ []) h ∙ ap (λ z. Assign v' z ∷ []) k, l)
-one_statement (assigned n a b c x) (output m y) = absurd (keyword_is_no_name (codes "cout") refl n a m)
-one_statement (output m y) (assigned n a b c x) = absurd (keyword_is_no_name (codes "cout") refl n a m)
+one_statement (assigned n c x) (output m y) = absurd (keyword_is_no_name (codes "cout") refl n.next n.is_name m)
+one_statement (output m y) (assigned n c x) = absurd (keyword_is_no_name (codes "cout") refl n.next n.is_name m)
 one_statement (output n x) (output m y) = one_row x (items_from (next_rest n m) y)
 
 pub statement_shorter : {vs : List Variable} {text r : List ℕ} {acts : List Act} → IsStatement vs text acts r → length r < length text
-statement_shorter (assigned n a b c x) = omega (arith, next_shorter n, next_shorter c, ended_shorter x)
+statement_shorter (assigned n c x) = omega (arith, next_shorter n.next, next_shorter c, ended_shorter x)
 statement_shorter (output n x) = omega (arith, next_shorter n, items_shorter x)
 
 pub statement_begins : {vs : List Variable} {text r : List ℕ} {acts : List Act} → IsStatement vs text acts r → IsBlank text → ⊥
-statement_begins (assigned n a b c x) blank = blank_ends blank n
+statement_begins (assigned n c x) blank = blank_ends blank n.next
 statement_begins (output n x) blank = blank_ends blank n
 
 pub statements_from : {vs vs' : List Variable} {text text' : List ℕ} {acts : List Act} → vs ≡ vs' → text ≡ text' → AreStatements vs' text' acts → AreStatements vs text acts
@@ -180,14 +185,24 @@ one_body (further {front = front} {acts = acts} x v e) (further {front = front'}
   let h = one_body v (statements_from refl g w) in
   e ∙ ap (λ z. z ++ acts) f ∙ ap (λ z. front' ++ z) h ∙ sym e'
 
+pub one_solver : {text v w r s : List ℕ} → IsSolver text v r → IsSolver text w s → (v ≡ w) × (r ≡ s)
+one_solver x y =
+  let e = all_rest solver_words _ _ _ x.begins y.begins in
+  let (f, g) = next_one x.named (next_from e y.named) in
+  (f, all_rest call_words _ _ _ x.ends (all_from call_words _ _ _ g y.ends))
+
+pub solver_begins : {text v r : List ℕ} → IsSolver text v r → IsBlank text → ⊥
+solver_begins x blank = let (b, n, m) = x.begins in blank_ends blank n
+
+pub solver_shorter : {text v r : List ℕ} → IsSolver text v r → length r ≤ length text
+solver_shorter x = omega (arith, all_shorter solver_words _ _ x.begins, next_shorter x.named, all_shorter call_words _ _ x.ends)
+
 pub one_small : {text : List ℕ} {cs ds : List Declaration} {acts bs : List Act} → IsProgram text cs acts → IsProgram text ds bs → (cs ≡ ds) × (acts ≡ bs)
 one_small (empty p) (empty q) = (refl, refl)
-one_small (empty p) (program n m a b c d e f) = absurd (blank_ends p n.1)
-one_small (program n m a b c d e f) (empty p) = absurd (blank_ends p n.1)
-one_small (program n m a b c d e f) (program n' m' a' b' c' d' e' f') =
-  let g = all_rest solver_words _ _ _ n n' in
-  let (h, i) = next_one m (next_from g m') in
-  let j = all_rest call_words _ _ _ b (all_from call_words _ _ _ i b') in
+one_small (empty p) (program n c d e f) = absurd (solver_begins n p)
+one_small (program n c d e f) (empty p) = absurd (solver_begins n p)
+one_small (program n c d e f) (program n' c' d' e' f') =
+  let (h, j) = one_solver n n' in
   let (k, l, o) = one_list c (list_from h j c') in
   let p = (next_one d (next_from o d')).1 in
   let q = all_rest close_words _ _ _ e (all_from close_words _ _ _ p e') in

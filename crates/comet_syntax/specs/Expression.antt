@@ -3,7 +3,7 @@
 -- goes on as long as the next lexeme joins. Parentheses stand at most 198 deep. From the book.
 use Rattle.std.specs.Prelude.{◌≡◌, ◌+◌, ◌*◌, ◌-◌, ◌<◌, ◌^◌, ℕ, pos, List, [], ◌∷◌, Option, Some, None, option_map, true, if◌then◌else◌, nat_lt, codes}
 use Rattle.comet_syntax.specs.declared.term.Operation.TheVariants.{Add, Sub, Mul}
-use Rattle.comet_syntax.specs.declared.expression.TheConstants.{MOST_PARENTHESES}
+use Rattle.comet_syntax.specs.declared.limits.TheConstants.{MOST_PARENTHESES}
 use Rattle.comet_syntax.specs.Lexeme.{is_number, Next, NotNext}
 use Rattle.comet_syntax.specs.Name.{is_name}
 use Rattle.comet_syntax.specs.Tree.{Tree, number, variable, join}

@@ -1,5 +1,6 @@
 -- What the functions of the reader promise each other.
 use Rattle.std.specs.Prelude.{◌≡◌, ◌++◌, ℕ, List, Option, codes}
+use Rattle.comet_syntax.specs.declared.program.Act.{Act}
 use Rattle.comet_syntax.specs.declared.term.Operation.{Operation}
 use Rattle.comet_syntax.specs.declared.term.Operation.TheVariants.{Add, Sub, Mul}
 use Rattle.comet_syntax.specs.declared.term.Step.{Step}
@@ -24,3 +25,9 @@ abbrev pub IsSumJoiner : Operation → List ℕ → List ℕ → Type 0
 IsSumJoiner Add text operand = Next text (codes "+") operand
 IsSumJoiner Sub text operand = Next text (codes "-") operand
 IsSumJoiner Mul text operand = ⊥
+
+-- such a list of acts stands at the front of the text, and was added behind the old ones
+pub record Adds (Stands : List Act → List ℕ → Type 0) (rest : List ℕ) (old new : List Act) : Type 0 where
+  pub acts : List Act
+  pub stands : Stands acts rest
+  pub added : new ≡ old ++ acts

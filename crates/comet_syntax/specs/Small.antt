@@ -6,7 +6,7 @@ use Rattle.comet_syntax.specs.declared.program.Declaration.{Declaration}
 use Rattle.comet_syntax.specs.declared.program.Declaration.TheVariants as declarations
 use Rattle.comet_syntax.specs.declared.program.Act.{Act}
 use Rattle.comet_syntax.specs.declared.program.Act.TheVariants.{Assign, Print, EndLine}
-use Rattle.comet_syntax.specs.declared.small.TheConstants.{MOST_BYTES}
+use Rattle.comet_syntax.specs.declared.limits.TheConstants.{MOST_BYTES}
 use Rattle.comet_syntax.specs.declared.variables.Variable.{Variable}
 use Rattle.comet_syntax.specs.declared.variables.Among.TheVariants as among
 use Rattle.comet_syntax.specs.Lexeme.{IsBlank, Next, NextAll, NotNext}
@@ -82,12 +82,17 @@ pub data AreItems (variables : List Variable) : List ℕ → List Act → List �
     → AreItems variables behind acts rest
     → AreItems variables text (act ∷ acts) rest
 
+-- the name of a free variable, and its number
+pub record IsTarget (variables : List Variable) (text : List ℕ) (v : ℕ) (rest : List ℕ) : Type 0 where
+  pub name : List ℕ
+  pub next : Next text name rest
+  pub is_name : is_name name ≡ true
+  pub numbered : number_of variables among.Free name ≡ Some v
+
 -- `name := expression;`, or `cout` and its items
 pub data IsStatement (variables : List Variable) : List ℕ → List Act → List ℕ → Type 0 where
-  assigned : {text name sign expression rest : List ℕ} {v : ℕ} {term : Tree}
-    → Next text name sign
-    → is_name name ≡ true
-    → number_of variables among.Free name ≡ Some v
+  assigned : {text sign expression rest : List ℕ} {v : ℕ} {term : Tree}
+    → IsTarget variables text v sign
     → Next sign (codes ":=") expression
     → IsEndedExpression (number_of variables among.All) expression term rest
     → IsStatement variables text (Assign v term ∷ []) rest
@@ -107,17 +112,23 @@ pub data AreStatements (variables : List Variable) : List ℕ → List Act → T
     → whole ≡ front ++ acts
     → AreStatements variables text whole
 
+-- `Solver<LS> name();`
+pub record IsSolver (text name rest : List ℕ) : Type 0 where
+  pub naming : List ℕ
+  pub behind : List ℕ
+  pub begins : NextAll text (codes "Solver" ∷ codes "<" ∷ codes "LS" ∷ codes ">" ∷ []) naming
+  pub named : Next naming name behind
+  pub is_name : is_name name ≡ true
+  pub ends : NextAll behind (codes "(" ∷ codes ")" ∷ codes ";" ∷ []) rest
+
 -- a whole program
 pub data IsProgram : List ℕ → List Declaration → List Act → Type 0 where
   empty : {text : List ℕ}
     → IsBlank text
     → IsProgram text [] []
-  program : {text naming solver opening variables_text closing dot statements : List ℕ} {variables : List Variable} {declarations : List Declaration} {acts : List Act}
-    → NextAll text (codes "Solver" ∷ codes "<" ∷ codes "LS" ∷ codes ">" ∷ []) naming
-    → Next naming solver opening
-    → is_name solver ≡ true
-    → NextAll opening (codes "(" ∷ codes ")" ∷ codes ";" ∷ []) variables_text
-    → AreDeclarations solver [] variables_text declarations variables closing
+  program : {text solver opening closing dot statements : List ℕ} {variables : List Variable} {declarations : List Declaration} {acts : List Act}
+    → IsSolver text solver opening
+    → AreDeclarations solver [] opening declarations variables closing
     → Next closing solver dot
     → NextAll dot (codes "." ∷ codes "close" ∷ codes "(" ∷ codes ")" ∷ codes ";" ∷ []) statements
     → AreStatements variables statements acts

@@ -8,14 +8,11 @@ ghost use Rattle.comet_syntax.specs.Expression.{number_of_digits, leaf_of, sum, 
 ghost use Rattle.comet_syntax.specs.Reading.{Reads, Refuses, IsSumJoiner};
 
 use crate::lexeme::{expect, is_name, is_number, next_lexeme, skip};
-use crate::small::MOST_BYTES;
+use crate::limits::{MOST_BYTES, MOST_PARENTHESES};
 use crate::stop::SmallStop;
 use crate::term::{Operation, Step, Term};
 use crate::variables::{Among, Variable, number_of};
 use std::alloc::Global;
-
-/// How deep parentheses stand in an expression at most.
-pub const MOST_PARENTHESES: usize = 198;
 
 /// An operation that joins two operands, and what stands behind its sign.
 #[derive(Drop)]
