@@ -1,5 +1,5 @@
 -- The longest lexeme at the front of a text, and that there is one next lexeme at most.
-use Rattle.std.specs.Prelude.{◌≡◌, ◌≢◌, ◌==◌, ◌<◌, ◌≤◌, ◌+◌, ◌⊎◌, ℕ, Bool, true, false, not, ◌&&◌, ◌||◌, nat_le, nat_lt, List, [], ◌∷◌, ◌++◌, length, take, drop, codes, refl, if◌then◌else◌}
+use Rattle.std.specs.Prelude.{◌≡◌, ◌≢◌, ◌==◌, ◌<◌, ◌≤◌, ◌+◌, ◌-◌, ◌⊎◌, ℕ, Bool, true, false, not, ◌&&◌, ◌||◌, nat_le, nat_lt, List, [], ◌∷◌, ◌++◌, length, take, drop, codes, refl, if◌then◌else◌}
 use Rattle.std.specs.List.{list_all, list_any, prefix_len, take_while}
 use Rattle.std.specs.Str.{bytes_eq}
 use Rattle.std.proofs.Common.{arith, rules, ap, sym, ◌∙◌, subst, inl, inr, suc, zero, append_assoc, length-append}
@@ -46,7 +46,11 @@ among_passes q (word ∷ words) w h k = elim (or_cases (bytes_eq word w) _ h)
 
 -- no sign has more than three bytes
 pub sign_is_short : (w : List ℕ) → is_sign w ≡ true → nat_le (length w) 3 ≡ true
+unfolding is_sign
 sign_is_short w h = among_passes (λ x. nat_le (length x) 3) signs w h refl
+
+pub sign_at_most : (w : List ℕ) → is_sign w ≡ true → length w + 0 ≤ 3
+sign_at_most w h = let short : nat_le (length w) 3 ≡ true = sign_is_short w h in grind arith
 
 abbrev begins_as_sign : List ℕ → Bool
 begins_as_sign [] = false
@@ -54,7 +58,23 @@ begins_as_sign (c ∷ cs) = not (is_word_byte c) && not (is_space c)
 
 -- a sign begins with no byte of a word, and with no white space
 pub sign_begins : (w : List ℕ) → is_sign w ≡ true → begins_as_sign w ≡ true
+unfolding is_sign
 sign_begins w h = among_passes begins_as_sign signs w h refl
+
+-- the code tries the longer signs first
+pub sign_step : (text : List ℕ) (shorter : ℕ) → shorter < 3
+  → ((sign rest : List ℕ) → text ≡ sign ++ rest → is_sign sign ≡ true → length sign + shorter ≤ 3)
+  → (3 - shorter ≤ length text → is_sign (take (3 - shorter) text) ≡ false)
+  → (sign rest : List ℕ) → text ≡ sign ++ rest → is_sign sign ≡ true → length sign + (shorter + 1) ≤ 3
+sign_step text shorter low before here sign rest e h =
+  let at_most : length sign + shorter ≤ 3 = before sign rest e h in
+  let whole : length text ≡ length sign + length rest = ap length e ∙ simp length-append in
+  let below : length sign + shorter ≡ 3 → ⊥ = λ f.
+    let size : 3 - shorter ≡ length sign = omega arith in
+    let front : take (3 - shorter) text ≡ sign = ap (λ n. take n text) size ∙ ap (take (length sign)) e ∙ take-append_seam sign rest in
+    let not_here : is_sign (take (3 - shorter) text) ≡ false = here (omega arith) in
+    cc (ap is_sign front) in
+  omega arith
 
 pub letter_no_space : (c : ℕ) → is_letter c ≡ true → is_space c ≡ false
 letter_no_space c h = grind arith
@@ -101,7 +121,7 @@ found_length p xs = length-take-le (prefix_len p xs) xs (prefix_within p xs)
 pub lexeme_head : (w : List ℕ) → IsLexeme w → (c : ℕ) × (cs : List ℕ) × (w ≡ c ∷ cs) × (is_space c ≡ false)
 lexeme_head [] (a_word h) = absurd cc
 lexeme_head [] (a_number h) = absurd cc
-lexeme_head [] (a_sign h) = absurd cc
+lexeme_head [] (a_sign h) = absurd (cc (sign_begins [] h))
 lexeme_head (c ∷ cs) (a_word h) = (c, cs, refl, letter_no_space c (and_left _ _ h))
 lexeme_head (c ∷ cs) (a_number h) = (c, cs, refl, digit_no_space c (and_left _ _ h))
 lexeme_head (c ∷ cs) (a_sign h) = (c, cs, refl, not_false (is_space c) (and_right (not (is_word_byte c)) _ (sign_begins (c ∷ cs) h)))
@@ -129,6 +149,13 @@ next_one {text} {w} {r} {v} {s} n m =
   let fronts : w ≡ v = sym (take-append_seam w r) ∙ ap (λ x. take (length w) x) whole ∙ ap (λ x. take x (v ++ s)) same ∙ take-append_seam v s in
   (fronts, append_cancel_left v r s (ap (λ x. x ++ r) (sym fronts) ∙ whole))
 
+pub clash : (b : Bool) → b ≡ true → b ≡ false → ⊥
+clash b h k = cc
+
+-- two different lexemes are never both the next one
+pub apart : (v w : List ℕ) {text r s : List ℕ} → bytes_eq v w ≡ false → Next text v r → Next text w s → ⊥
+apart v w e n m = clash (bytes_eq v w) ((bytes_eq-Decides v w).1 (next_one n m).0) e
+
 pub next_shorter : {text w r : List ℕ} → Next text w r → length r < length text
 next_shorter {text} {w} {r} n =
   let (c, cs, e, no_space) = lexeme_head w n.is_lexeme in
@@ -144,9 +171,6 @@ blank_ends {text} {w} {r} blank n =
   let parts : (list_all is_space n.space && list_all is_space (c ∷ (cs ++ r))) ≡ true = sym (list_all-append is_space n.space (c ∷ (cs ++ r))) ∙ all in
   let space : is_space c ≡ true = and_left _ _ (and_right (list_all is_space n.space) _ parts) in
   clash (is_space c) space no_space
-  where
-    clash : (b : Bool) → b ≡ true → b ≡ false → ⊥
-    clash b h k = cc
 
 space_split : (text : List ℕ) → text ≡ take (length (take_while is_space text)) text ++ behind_space text
 unfolding behind_space
@@ -238,3 +262,49 @@ longest_sign c cs [] r len letter digit most e h = omega arith
 longest_sign c cs (d ∷ ds) r len letter digit most e h =
   let same : c ≡ d = cc in
   most (d ∷ ds) r e (begins_sign d ds (subst (λ x. is_letter x ≡ false) same letter) (subst (λ x. is_digit x ≡ false) same digit) h)
+
+-- the same, in the steps of the code
+behind_is : (text t : List ℕ) (n : ℕ) → n ≡ length (take_while is_space text) → t ≡ drop n text → t ≡ behind_space text
+unfolding behind_space
+behind_is text t n e f = f ∙ ap (λ m. drop m text) e
+
+pub next_at : (text t w r : List ℕ) (n len : ℕ) → n ≡ length (take_while is_space text) → t ≡ drop n text → w ≡ take len t → r ≡ drop len t
+  → len ≤ length t → IsLexeme (take len t) → ((v s : List ℕ) → t ≡ v ++ s → IsLexeme v → length v ≤ len) → Next text w r
+next_at text t w r n len e f g h within lexeme longest =
+  let same : t ≡ behind_space text = behind_is text t n e f in
+  let found = next_found text len (subst (λ x. len ≤ length x) same within) (subst (λ x. IsLexeme (take len x)) same lexeme) (subst (λ x. (v s : List ℕ) → x ≡ v ++ s → IsLexeme v → length v ≤ len) same longest) in
+  subst (λ x. Next text x r) (sym (g ∙ ap (take len) same)) (subst (λ x. Next text (take len (behind_space text)) x) (sym (h ∙ ap (drop len) same)) found)
+
+pub none_at : (text t : List ℕ) (n len : ℕ) → n ≡ length (take_while is_space text) → t ≡ drop n text → len ≡ 0
+  → ((v s : List ℕ) → t ≡ v ++ s → IsLexeme v → length v ≤ len) → (w r : List ℕ) → Next text w r → ⊥
+none_at text t n len e f size longest =
+  next_none text (λ v s h l. let short : length v ≤ len = longest v s (behind_is text t n e f ∙ h) l in omega arith)
+
+pub words_of : (xs : List ℕ) (x : ℕ) (ys : List ℕ) (len : ℕ) → xs ≡ x ∷ ys → is_letter x ≡ true → len ≡ length (take_while is_word_byte xs) → IsLexeme (take len xs)
+words_of xs x ys len e letter size = subst (λ n. IsLexeme (take n xs)) (sym size) (subst (λ z. IsLexeme (take (length (take_while is_word_byte z)) z)) (sym e) (word_found x ys letter))
+
+pub words_longest : (xs : List ℕ) (x : ℕ) (ys : List ℕ) (len : ℕ) → xs ≡ x ∷ ys → is_letter x ≡ true → len ≡ length (take_while is_word_byte xs)
+  → (w r : List ℕ) → xs ≡ w ++ r → IsLexeme w → length w ≤ len
+words_longest xs x ys len e letter size w r f h =
+  let most : length w ≤ length (take_while is_word_byte (x ∷ ys)) = longest_word x ys w r letter (sym e ∙ f) h in
+  let same : length (take_while is_word_byte xs) ≡ length (take_while is_word_byte (x ∷ ys)) = ap (λ z. length (take_while is_word_byte z)) e in
+  omega arith
+
+pub numbers_of : (xs : List ℕ) (x : ℕ) (ys : List ℕ) (len : ℕ) → xs ≡ x ∷ ys → is_digit x ≡ true → len ≡ length (take_while is_digit xs) → IsLexeme (take len xs)
+numbers_of xs x ys len e digit size = subst (λ n. IsLexeme (take n xs)) (sym size) (subst (λ z. IsLexeme (take (length (take_while is_digit z)) z)) (sym e) (number_found x ys digit))
+
+pub numbers_longest : (xs : List ℕ) (x : ℕ) (ys : List ℕ) (len : ℕ) → xs ≡ x ∷ ys → is_digit x ≡ true → len ≡ length (take_while is_digit xs)
+  → (w r : List ℕ) → xs ≡ w ++ r → IsLexeme w → length w ≤ len
+numbers_longest xs x ys len e digit size w r f h =
+  let most : length w ≤ length (take_while is_digit (x ∷ ys)) = longest_number x ys w r digit (sym e ∙ f) h in
+  let same : length (take_while is_digit xs) ≡ length (take_while is_digit (x ∷ ys)) = ap (λ z. length (take_while is_digit z)) e in
+  omega arith
+
+pub signs_longest : (xs : List ℕ) (x : ℕ) (ys : List ℕ) (len : ℕ) → xs ≡ x ∷ ys → is_letter x ≡ false → is_digit x ≡ false
+  → ((w r : List ℕ) → xs ≡ w ++ r → is_sign w ≡ true → length w ≤ len)
+  → (w r : List ℕ) → xs ≡ w ++ r → IsLexeme w → length w ≤ len
+signs_longest xs x ys len e letter digit most w r f h =
+  longest_sign x ys w r len letter digit (λ v s g. most v s (e ∙ g)) (sym e ∙ f) h
+
+pub nothing_longest : (xs : List ℕ) → length xs ≡ 0 → (w r : List ℕ) → xs ≡ w ++ r → IsLexeme w → length w ≤ 0
+nothing_longest xs e w r f h = let whole : length xs ≡ length w + length r = ap length f ∙ simp length-append in omega arith

@@ -9,13 +9,13 @@ use Rattle.comet_syntax.specs.declared.program.Act.TheVariants.{Assign, Print, E
 use Rattle.comet_syntax.specs.declared.variables.Variable.{Variable}
 use Rattle.comet_syntax.specs.declared.variables.Among.TheVariants as among
 use Rattle.comet_syntax.specs.Lexeme.{IsBlank, Next, NextAll, NotNext}
-use Rattle.comet_syntax.specs.Name.{is_name}
+use Rattle.comet_syntax.specs.Name.{is_keyword, is_name}
 use Rattle.comet_syntax.specs.Tree.{Tree}
 use Rattle.comet_syntax.specs.Variables.{number_of}
 use Rattle.comet_syntax.specs.Expression.{leaf_of, sum, product, primary, Spells as SpellsPart, a_sum, a_product, a_leaf, in_parentheses, IsEndedExpression}
 use Rattle.comet_syntax.specs.Small.{IsStart, zero_start, start, definition, is_free, IsDeclaration, AreDeclarations, none, more, IsItem, end_line, printed, AreItems, last_item, more_items, IsTarget, IsStatement, assigned, output, AreStatements, ended, further, IsSolver, IsProgram, empty, program, Spells}
-use Rattle.comet_syntax.proofs.Lexing.{next_one, next_shorter, blank_ends}
-use Rattle.comet_syntax.proofs.OneTerm.{next_rest, next_from, clash, apart, one_term, part_shorter, one_ended, ended_shorter}
+use Rattle.comet_syntax.proofs.Lexing.{clash, apart, next_one, next_shorter, blank_ends}
+use Rattle.comet_syntax.proofs.OneTerm.{next_rest, next_from, one_term, part_shorter, one_ended, ended_shorter}
 
 abbrev pub variable_words : List (List ℕ)
 variable_words = codes "var" ∷ codes "{" ∷ codes "int" ∷ codes "}" ∷ []
@@ -113,6 +113,7 @@ begins_none w number_of paren leaf n (a_sum (a_product (a_leaf {term = term} m e
 begins_none w number_of paren leaf n (a_sum (a_product (in_parentheses l m z k) y) x) = apart (codes "(") w paren m n
 
 pub one_item : {vs : List Variable} {text r s : List ℕ} {c d : Act} → IsItem vs text c r → IsItem vs text d s → (c ≡ d) × (r ≡ s)
+unfolding is_keyword
 one_item (end_line n) (end_line m) = (refl, next_rest n m)
 one_item (end_line n) (printed y) = absurd (begins_none (codes "endl") _ refl (λ f. refl) n y)
 one_item (printed x) (end_line m) = absurd (begins_none (codes "endl") _ refl (λ f. refl) m x)
@@ -157,6 +158,7 @@ one_target {vs} {v = v} {w} x y =
   (h, f)
 
 pub one_statement : {vs : List Variable} {text r s : List ℕ} {acts bs : List Act} → IsStatement vs text acts r → IsStatement vs text bs s → (acts ≡ bs) × (r ≡ s)
+unfolding is_keyword
 one_statement (assigned {v = v} {term = term} n c x) (assigned {v = v'} {term = term'} n' c' x') =
   let (h, f) = one_target n n' in
   let (k, l) = one_ended x (ended_from (next_rest c (next_from f c')) x') in

@@ -8,7 +8,7 @@ use Rattle.comet_syntax.specs.Lexeme.{Next, NextAll, NotNext}
 use Rattle.comet_syntax.specs.declared.term.Operation.TheVariants.{Add, Sub, Mul}
 use Rattle.comet_syntax.specs.Tree.{Tree, join}
 use Rattle.comet_syntax.specs.Expression.{Part, sum, product, primary, rest_of_sum, rest_of_product, leaf_of, Spells, a_sum, added, subtracted, sum_ends, a_product, multiplied, product_ends, a_leaf, in_parentheses, IsEndedExpression}
-use Rattle.comet_syntax.proofs.Lexing.{next_one, next_shorter}
+use Rattle.comet_syntax.proofs.Lexing.{next_one, next_shorter, apart}
 
 -- what stands behind a lexeme is one text
 pub next_rest : {text w r s : List ℕ} → Next text w r → Next text w s → r ≡ s
@@ -29,13 +29,6 @@ joined_sum {front = front} op e f s = moved (ap (λ x. rest_of_sum (join op fron
 joined_product : {number_of : List ℕ → Option ℕ} {d : ℕ} {b b' w : List ℕ} {t front next next' : Tree} (op : Operation) → next ≡ next' → b ≡ b'
   → Spells number_of (rest_of_product (join op front next')) d b' t w → Spells number_of (rest_of_product (join op front next)) d b t w
 joined_product {front = front} op e f s = moved (ap (λ x. rest_of_product (join op front x)) e) f s
-
-pub clash : (b : Bool) → b ≡ true → b ≡ false → ⊥
-clash b h k = cc
-
--- two different lexemes are never both the next one
-pub apart : (v w : List ℕ) {text r s : List ℕ} → bytes_eq v w ≡ false → Next text v r → Next text w s → ⊥
-apart v w e n m = clash (bytes_eq v w) ((bytes_eq-Decides v w).1 (next_one n m).0) e
 
 leaf_is_bare : (number_of : List ℕ → Option ℕ) {text lexeme r s : List ℕ} {t : Tree} → Next text lexeme r → leaf_of number_of lexeme ≡ Some t → Next text (codes "(") s → ⊥
 leaf_is_bare number_of {t = t} n e m = let f : None ≡ Some t = subst (λ x. leaf_of number_of x ≡ Some t) (next_one n m).0 e in cc

@@ -37,7 +37,7 @@ signs = codes "(" ∷ codes ")" ∷ codes "{" ∷ codes "}" ∷ codes "[" ∷ co
     ∷ codes "++" ∷ codes "--" ∷ codes "+=" ∷ codes "-=" ∷ codes "!" ∷ codes "&&" ∷ codes "||" ∷ codes "<<"
     ∷ codes ".." ∷ codes "." ∷ codes "@" ∷ codes "?" ∷ []
 
-abbrev pub is_sign : List ℕ → Bool
+unfoldable pub is_sign : List ℕ → Bool
 is_sign w = list_any (λ sign. bytes_eq sign w) signs
 
 pub data IsLexeme (w : List ℕ) : Type 0 where

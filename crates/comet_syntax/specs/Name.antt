@@ -16,7 +16,7 @@ keywords = codes "import" ∷ codes "include" ∷ codes "function" ∷ codes "vo
     ∷ codes "ConstraintSystem" ∷ codes "FunctionExpr" ∷ codes "FunctionSum" ∷ codes "UniformDistribution"
     ∷ codes "InputFile" ∷ codes "MinNeighborSelector" ∷ codes "BestMonitor" ∷ codes "Solution" ∷ []
 
-abbrev pub is_keyword : List ℕ → Bool
+unfoldable pub is_keyword : List ℕ → Bool
 is_keyword w = list_any (λ keyword. bytes_eq keyword w) keywords
 
 abbrev pub is_name : List ℕ → Bool

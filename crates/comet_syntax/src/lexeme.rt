@@ -1,6 +1,6 @@
 //! The lexemes of a text.
-ghost use Rattle.std.specs.Prelude.{◌≡◌, true, false, ◌<◌, ◌≤◌, ◌&&◌, ◌||◌, ℕ, List, length, map, take, IfOk, IfErr, IfSome, IfNone, MatchOption, MatchResult};
-ghost use Rattle.std.specs.List.{take_while, list_any};
+ghost use Rattle.std.specs.Prelude.{◌≡◌, true, false, ◌<◌, ◌≤◌, ◌&&◌, ◌||◌, ◌++◌, ℕ, List, length, map, take, IfOk, IfErr, IfSome, IfNone, MatchOption, MatchResult};
+ghost use Rattle.std.specs.List.{take_while, list_all, list_any};
 ghost use Rattle.std.specs.Str.{bytes_eq};
 ghost use Rattle.comet_syntax.specs.Lexeme.{IsBlank, IsLexeme, Next, NextAll, NotNext};
 ghost use Rattle.comet_syntax.specs.Lexeme as lexeme;
@@ -65,6 +65,7 @@ fn is_among(words: &[&str], text: &[u8]) -> bool
 }
 
 /// Whether a lexeme is a sign.
+#[tactic(auto, unfolding(crate::specs::Lexeme::is_sign))]
 fn is_sign(bytes: &[u8]) -> bool
     ensures { result ≡ lexeme.is_sign bytes.now }
 {
@@ -72,6 +73,7 @@ fn is_sign(bytes: &[u8]) -> bool
 }
 
 /// Whether a lexeme is a keyword of the language.
+#[tactic(auto, unfolding(crate::specs::Name::is_keyword))]
 fn is_keyword(bytes: &[u8]) -> bool
     ensures { result ≡ names.is_keyword bytes.now }
 {
@@ -103,13 +105,25 @@ pub fn is_blank(text: &[u8]) -> bool
     text.iter().all(|c| is_space(*c))
 }
 
+fn are_digits(bytes: &[u8]) -> bool
+    ensures { result ≡ list_all lexeme.is_digit bytes.now }
+{
+    bytes.iter().all(|c| is_digit(*c))
+}
+
+fn are_word_bytes(bytes: &[u8]) -> bool
+    ensures { result ≡ list_all lexeme.is_word_byte bytes.now }
+{
+    bytes.iter().all(|c| is_word_byte(*c))
+}
+
 /// Whether a lexeme is a number.
 pub fn is_number(bytes: &[u8]) -> bool
     ensures { result ≡ lexeme.is_number bytes.now }
 {
     match bytes.split_first() {
         None => false,
-        Some((first, others)) => is_digit(*first) && others.iter().all(|c| is_digit(*c)),
+        Some((first, others)) => is_digit(*first) && are_digits(others),
     }
 }
 
@@ -119,7 +133,7 @@ fn is_word(bytes: &[u8]) -> bool
 {
     match bytes.split_first() {
         None => false,
-        Some((first, others)) => is_letter(*first) && others.iter().all(|c| is_word_byte(*c)),
+        Some((first, others)) => is_letter(*first) && are_word_bytes(others),
     }
 }
 
@@ -134,7 +148,7 @@ pub fn is_name(bytes: &[u8]) -> bool
 fn sign_len(text: &[u8]) -> usize
     ensures bound { result ≤ length text.now }
     ensures sign { 0 < result → lexeme.is_sign (take result text.now) ≡ true }
-    ensures longest { (len : ℕ) → result < len → len ≤ length text.now → lexeme.is_sign (take len text.now) ≡ false }
+    ensures longest { (sign rest : List ℕ) → text.now ≡ sign ++ rest → lexeme.is_sign sign ≡ true → length sign ≤ result }
 {
     for shorter in 0..LONGEST_SIGN {
         let len = LONGEST_SIGN - shorter;
@@ -149,11 +163,11 @@ fn sign_len(text: &[u8]) -> usize
 fn lexeme_len(text: &[u8]) -> usize
     ensures bound { result ≤ length text.now }
     ensures is_lexeme { 0 < result → IsLexeme (take result text.now) }
-    ensures longest { (len : ℕ) → result < len → len ≤ length text.now → IsLexeme (take len text.now) → ⊥ }
+    ensures longest { (bytes rest : List ℕ) → text.now ≡ bytes ++ rest → IsLexeme bytes → length bytes ≤ result }
 {
-    match text.first() {
+    match text.split_first() {
         None => 0,
-        Some(first) => {
+        Some((first, _)) => {
             if is_letter(*first) {
                 word_len(text)
             } else if is_digit(*first) {
