@@ -1,3 +1,5 @@
+pub mod Digits
+pub mod Exits
 pub mod Lexing
 pub mod OneProgram
 pub mod OneTerm
