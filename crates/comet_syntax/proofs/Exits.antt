@@ -1,5 +1,5 @@
 -- The exits of the reader's functions.
-use Rattle.std.specs.Prelude.{◌≡◌, refl, ◌<◌, ◌+◌, ℕ, List, ◌∷◌, length, map, drop, slice_index_or, Result, Ok, Err, IfErr}
+use Rattle.std.specs.Prelude.{◌≡◌, refl, ◌<◌, ◌+◌, ℕ, List, ◌∷◌, length, map, drop, slice_index_or, Option, Some, None, IfSome, IfNone, Result, Ok, Err, IfErr}
 use Rattle.std.specs.Result.{IsErrAnd}
 use Rattle.std.proofs.Common.{ap, sym, ◌∙◌, subst, add-one, Bor}
 use Rattle.std.proofs.Math.Seq.{drop-cons}
@@ -16,6 +16,13 @@ passes P r s h f = let p = err_from_is_err_and r h in rw p.1 (subst P (sym p.2) 
 -- memory has run out, which refuses nothing
 pub gives_up : {T : Type 0} (X : Type 0) (r : Result T SmallStop) (s : SmallStop) → IsErrAnd r (λ e. e ≡ s) → s ≡ NoMemory → IfErr r (λ stop. stop ≡ NotSmall → X)
 gives_up X r s h e = passes (λ stop. stop ≡ NotSmall → X) r s h (λ f. let g : NoMemory ≡ NotSmall = sym e ∙ f in absurd cc)
+
+-- what is said of an option that is none, and of one that isn't
+pub if_none : {T : Type 0} (P : Type 0) (o : Option T) → o ≡ None → IfNone o P → P
+if_none P o e h = subst (λ z. IfNone z P) e h
+
+pub if_some : {T : Type 0} (P : T → Type 0) (o : Option T) (x : T) → o ≡ Some x → IfSome o P → P x
+if_some P o x e h = subst (λ z. IfSome z P) e h
 
 words_step : (words : List (Bor (List ℕ))) (i : ℕ) (d : Bor (List ℕ)) → i < length words
   → map (λ bytes. bytes.now) (drop i words) ≡ (slice_index_or words i d).now ∷ map (λ bytes. bytes.now) (drop (i + 1) words)

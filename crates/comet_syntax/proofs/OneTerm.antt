@@ -22,18 +22,18 @@ pub moved : {number_of : List ℕ → Option ℕ} {p p' : Part} {d : ℕ} {b b' 
 moved {number_of} {p} {p'} {d} {b} {b'} {w} {t} e f s = subst (λ x. Spells number_of x d b t w) (sym e) (subst (λ x. Spells number_of p' d x t w) (sym f) s)
 
 -- one operand more, behind which the chain goes on
-joined_sum : {number_of : List ℕ → Option ℕ} {d : ℕ} {b b' w : List ℕ} {t front next next' : Tree} (op : Operation) → next ≡ next' → b ≡ b'
+pub joined_sum : {number_of : List ℕ → Option ℕ} {d : ℕ} {b b' w : List ℕ} {t front next next' : Tree} (op : Operation) → next ≡ next' → b ≡ b'
   → Spells number_of (rest_of_sum (join op front next')) d b' t w → Spells number_of (rest_of_sum (join op front next)) d b t w
 joined_sum {front = front} op e f s = moved (ap (λ x. rest_of_sum (join op front x)) e) f s
 
-joined_product : {number_of : List ℕ → Option ℕ} {d : ℕ} {b b' w : List ℕ} {t front next next' : Tree} (op : Operation) → next ≡ next' → b ≡ b'
+pub joined_product : {number_of : List ℕ → Option ℕ} {d : ℕ} {b b' w : List ℕ} {t front next next' : Tree} (op : Operation) → next ≡ next' → b ≡ b'
   → Spells number_of (rest_of_product (join op front next')) d b' t w → Spells number_of (rest_of_product (join op front next)) d b t w
 joined_product {front = front} op e f s = moved (ap (λ x. rest_of_product (join op front x)) e) f s
 
-leaf_is_bare : (number_of : List ℕ → Option ℕ) {text lexeme r s : List ℕ} {t : Tree} → Next text lexeme r → leaf_of number_of lexeme ≡ Some t → Next text (codes "(") s → ⊥
+pub leaf_is_bare : (number_of : List ℕ → Option ℕ) {text lexeme r s : List ℕ} {t : Tree} → Next text lexeme r → leaf_of number_of lexeme ≡ Some t → Next text (codes "(") s → ⊥
 leaf_is_bare number_of {t = t} n e m = let f : None ≡ Some t = subst (λ x. leaf_of number_of x ≡ Some t) (next_one n m).0 e in cc
 
-leaf_is_one : (number_of : List ℕ → Option ℕ) {v w : List ℕ} {t u : Tree} → v ≡ w → leaf_of number_of v ≡ Some t → leaf_of number_of w ≡ Some u → t ≡ u
+pub leaf_is_one : (number_of : List ℕ → Option ℕ) {v w : List ℕ} {t u : Tree} → v ≡ w → leaf_of number_of v ≡ Some t → leaf_of number_of w ≡ Some u → t ≡ u
 leaf_is_one number_of {v} {w} {t} {u} e f g = let h : Some t ≡ Some u = sym f ∙ ap (leaf_of number_of) e ∙ g in cc
 
 -- each part spells one term, up to one place

@@ -56,9 +56,11 @@ fn leaf(variables: &[Variable], among: Among, lexeme: &[u8]) -> Option<Step>
     ensures none { IfNone result (leaf_of (variables_spec.number_of variables.now among) lexeme.now ≡ None) }
 {
     if is_number(lexeme) {
-        number(lexeme).map(Step::Number)
+        let number = number(lexeme)?;
+        Some(Step::Number(number))
     } else if is_name(lexeme) {
-        number_of(variables, among, lexeme).map(|variable| Step::Variable(variable as u32))
+        let variable = number_of(variables, among, lexeme)?;
+        Some(Step::Variable(variable as u32))
     } else {
         None
     }
