@@ -4,3 +4,4 @@ pub mod Exits
 pub mod Lexing
 pub mod OneProgram
 pub mod OneTerm
+pub mod Parts

@@ -17,6 +17,9 @@ use Rattle.comet_syntax.specs.Small.{IsStart, zero_start, start, definition, is_
 use Rattle.comet_syntax.proofs.Lexing.{clash, apart, next_one, next_shorter, blank_ends}
 use Rattle.comet_syntax.proofs.OneTerm.{next_rest, next_from, one_term, part_shorter, one_ended, ended_shorter}
 
+pub same_next : {text text' w w' r : List ℕ} → w ≡ w' → text ≡ text' → Next text' w' r → Next text w r
+same_next {text} {text'} {w} {w'} {r} e f n = subst (λ z. Next text z r) (sym e) (subst (λ z. Next z w' r) (sym f) n)
+
 abbrev pub variable_words : List (List ℕ)
 variable_words = codes "var" ∷ codes "{" ∷ codes "int" ∷ codes "}" ∷ []
 
@@ -40,7 +43,7 @@ pub all_shorter : (ws : List (List ℕ)) (text r : List ℕ) → NextAll text ws
 all_shorter [] text r x = omega (arith, ap length x)
 all_shorter (w ∷ ws) text r (b, n, x) = omega (arith, next_shorter n, all_shorter ws b r x)
 
-ended_from : {number_of : List ℕ → Option ℕ} {text text' r : List ℕ} {t : Tree} → text ≡ text' → IsEndedExpression number_of text' t r → IsEndedExpression number_of text t r
+pub ended_from : {number_of : List ℕ → Option ℕ} {text text' r : List ℕ} {t : Tree} → text ≡ text' → IsEndedExpression number_of text' t r → IsEndedExpression number_of text t r
 ended_from {number_of} {r = r} {t} e x = subst (λ z. IsEndedExpression number_of z t r) (sym e) x
 
 pub one_start : {vs : List Variable} {text r s : List ℕ} {c d : Declaration} → IsStart vs text c r → IsStart vs text d s → (c ≡ d) × (r ≡ s)
@@ -59,7 +62,7 @@ start_shorter (zero_start n) = next_shorter n
 start_shorter (start n x) = omega (arith, next_shorter n, ended_shorter x)
 start_shorter (definition n x) = omega (arith, next_shorter n, ended_shorter x)
 
-start_from : {vs : List Variable} {text text' r : List ℕ} {d : Declaration} → text ≡ text' → IsStart vs text' d r → IsStart vs text d r
+pub start_from : {vs : List Variable} {text text' r : List ℕ} {d : Declaration} → text ≡ text' → IsStart vs text' d r → IsStart vs text d r
 start_from {vs} {r = r} {d} e x = subst (λ z. IsStart vs z d r) (sym e) x
 
 pub one_declaration : {solver : List ℕ} {vs : List Variable} {text v w r s : List ℕ} {c d : Declaration}
@@ -85,7 +88,7 @@ pub declarations_from : {solver : List ℕ} {before before' after : List Variabl
 declarations_from {solver} {before} {before'} {after} {text} {text'} {r} {ds} e f x =
   subst (λ z. AreDeclarations solver z text ds after r) (sym e) (subst (λ z. AreDeclarations solver before' z ds after r) (sym f) x)
 
-list_from : {solver solver' : List ℕ} {before after : List Variable} {text text' r : List ℕ} {ds : List Declaration} → solver ≡ solver' → text ≡ text'
+pub list_from : {solver solver' : List ℕ} {before after : List Variable} {text text' r : List ℕ} {ds : List Declaration} → solver ≡ solver' → text ≡ text'
   → AreDeclarations solver' before text' ds after r → AreDeclarations solver before text ds after r
 list_from {solver} {solver'} {before} {after} {text} {text'} {r} {ds} e f x =
   subst (λ z. AreDeclarations z before text ds after r) (sym e) (subst (λ z. AreDeclarations solver' before z ds after r) (sym f) x)
@@ -102,7 +105,7 @@ one_list {before = before} (more {name = name} {declaration = declaration} {decl
   (ap (λ z. z ∷ cs) f ∙ ap (λ z. declaration' ∷ z) k, l, m)
 
 -- no name is a keyword
-keyword_is_no_name : (w : List ℕ) {text v r s : List ℕ} → is_name w ≡ false → Next text v r → is_name v ≡ true → Next text w s → ⊥
+pub keyword_is_no_name : (w : List ℕ) {text v r s : List ℕ} → is_name w ≡ false → Next text v r → is_name v ≡ true → Next text w s → ⊥
 keyword_is_no_name w {v = v} absent n name m = clash (is_name w) (subst (λ z. is_name z ≡ true) (next_one n m).0 name) absent
 
 -- no expression begins with such a lexeme
@@ -123,10 +126,10 @@ pub item_shorter : {vs : List Variable} {text r : List ℕ} {c : Act} → IsItem
 item_shorter (end_line n) = omega (arith, next_shorter n)
 item_shorter (printed x) = part_shorter x
 
-item_from : {vs : List Variable} {text text' r : List ℕ} {c : Act} → text ≡ text' → IsItem vs text' c r → IsItem vs text c r
+pub item_from : {vs : List Variable} {text text' r : List ℕ} {c : Act} → text ≡ text' → IsItem vs text' c r → IsItem vs text c r
 item_from {vs} {r = r} {c} e x = subst (λ z. IsItem vs z c r) (sym e) x
 
-items_from : {vs : List Variable} {text text' r : List ℕ} {acts : List Act} → text ≡ text' → AreItems vs text' acts r → AreItems vs text acts r
+pub items_from : {vs : List Variable} {text text' r : List ℕ} {acts : List Act} → text ≡ text' → AreItems vs text' acts r → AreItems vs text acts r
 items_from {vs} {r = r} {acts} e x = subst (λ z. AreItems vs z acts r) (sym e) x
 
 pub items_begin : {vs : List Variable} {text r : List ℕ} {acts : List Act} → AreItems vs text acts r → (rest : List ℕ) × Next text (codes "<<") rest

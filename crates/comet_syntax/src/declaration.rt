@@ -132,7 +132,7 @@ pub fn read_declarations<'a>(alloc: Global, solver: &[u8], text: &'a [u8]) -> Re
     let mut variables = Vec::new(alloc);
     let mut declarations = Vec::new(alloc);
     let mut rest = text;
-    while skip(rest, b"var").is_some() {
+    while let Some(_) = skip(rest, b"var") {
         let read = read_declaration(alloc, solver, variables.as_slice(), rest)?;
         let variable = Variable {
             name: read.name,

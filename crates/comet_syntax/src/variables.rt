@@ -1,5 +1,6 @@
 //! The declared variables.
 ghost use Rattle.std.specs.Prelude.{◌≡◌};
+ghost use Rattle.std.specs.List.{list_any};
 ghost use Rattle.comet_syntax.specs.Variables as variables_spec;
 
 use crate::lexeme::is_name;
@@ -30,9 +31,16 @@ pub fn number_of(variables: &[Variable], among: Among, name: &[u8]) -> Option<us
     }
 }
 
+/// Whether a variable of this name is declared.
+fn is_declared(variables: &[Variable], name: &[u8]) -> bool
+    ensures { result ≡ list_any (variables_spec.is_named Among.All name.now) variables.now }
+{
+    variables.iter().any(|variable| variable.name.as_slice() == name)
+}
+
 /// Whether a lexeme may be the name of a new variable: it is a name that stands for nothing yet.
 pub fn is_new(solver: &[u8], variables: &[Variable], name: &[u8]) -> bool
     ensures { result ≡ variables_spec.is_new solver.now variables.now name.now }
 {
-    is_name(name) && solver != name && !variables.iter().any(|variable| variable.name.as_slice() == name)
+    is_name(name) && solver != name && !is_declared(variables, name)
 }
