@@ -272,3 +272,13 @@ no_body full s x m a absent (empty p) = full p
 no_body full s x m a absent (program n c d e f) =
   let (g, h) = dot_is (one_solver s n).0 (one_solver s n).1 x m c d in
   absent _ (statements_from g (all_rest close_words _ _ _ a (all_from close_words _ _ _ h e)) f)
+
+pub declared_behind : {solver text name behind : List ℕ} {variables slice : List Variable} {d : Declaration} → slice ≡ variables → IsDeclaration solver slice text name d behind → IsDeclaration solver variables text name d behind
+declared_behind {solver} {text} {name} {behind} {d = d} e x = subst (λ vs. IsDeclaration solver vs text name d behind) e x
+
+pub nothing_declared : {solver text : List ℕ} {variables slice : List Variable} → slice ≡ variables → ((name : List ℕ) (d : Declaration) (b : List ℕ) → IsDeclaration solver slice text name d b → ⊥)
+  → (name : List ℕ) (d : Declaration) (b : List ℕ) → IsDeclaration solver variables text name d b → ⊥
+nothing_declared e absent name d b x = absent name d b (declared_behind (sym e) x)
+
+pub body_of : {text : List ℕ} {variables slice : List Variable} {acts : List Act} → slice ≡ variables → AreStatements slice text acts → AreStatements variables text acts
+body_of e x = statements_from (sym e) refl x
