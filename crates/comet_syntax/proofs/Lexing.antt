@@ -37,6 +37,10 @@ pub not_false : (b : Bool) → not b ≡ true → b ≡ false
 not_false true h = cc
 not_false false h = refl
 
+pub not_true : (b : Bool) → not b ≡ false → b ≡ true
+not_true true h = refl
+not_true false h = cc
+
 -- what passes a test that equal texts pass is one of the texts
 pub among_passes : (q : List ℕ → Bool) (words : List (List ℕ)) (w : List ℕ) → list_any (λ word. bytes_eq word w) words ≡ true → list_all q words ≡ true → q w ≡ true
 among_passes q [] w h k = cc

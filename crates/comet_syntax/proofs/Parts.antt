@@ -282,3 +282,6 @@ nothing_declared e absent name d b x = absent name d b (declared_behind (sym e) 
 
 pub body_of : {text : List ℕ} {variables slice : List Variable} {acts : List Act} → slice ≡ variables → AreStatements slice text acts → AreStatements variables text acts
 body_of e x = statements_from (sym e) refl x
+
+pub empty_is : {text : List ℕ} {ds : List Declaration} {acts : List Act} → IsBlank text → ds ≡ [] → acts ≡ [] → IsProgram text ds acts
+empty_is {text} {ds} {acts} blank e f = subst (λ z. IsProgram text z acts) (sym e) (subst (λ z. IsProgram text [] z) (sym f) (empty blank))

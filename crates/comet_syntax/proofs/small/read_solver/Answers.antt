@@ -11,8 +11,8 @@ pub returns-in_err-name-clause-refused : goal.returns-in_err-name-clause-refused
 returns-in_err-name-clause-refused c = passes _ _ c.in_err-name.field-0.0 c.from_residual-in_err-name.ensures.1
   (λ solver end. no_first_name c.in_ok-naming.ensures.ok (if_none _ _ c.in_err-name.ensures.ok_part c.next_lexeme.ensures.none))
 
-pub returns-else-is_name-clause-refused : goal.returns-else-is_name-clause-refused
-returns-else-is_name-clause-refused c = λ solver end. no_solver_name c.in_ok-naming.ensures.ok (if_some _ _ _ c.in_ok-name.ensures.ok_part c.next_lexeme.ensures.some) (sym c.is_name.ensures ∙ c.if-is_name.false)
+pub returns-then-not-is_name-clause-refused : goal.returns-then-not-is_name-clause-refused
+returns-then-not-is_name-clause-refused c = λ solver end. no_solver_name c.in_ok-naming.ensures.ok (if_some _ _ _ c.in_ok-name.ensures.ok_part c.next_lexeme.ensures.some) (sym c.is_name.ensures ∙ c.if-not-is_name.true)
 
 pub returns-in_err-rest-clause-refused : goal.returns-in_err-rest-clause-refused
 returns-in_err-rest-clause-refused c = passes _ _ c.in_err-rest.field-0.0 c.from_residual-in_err-rest.ensures.1
@@ -24,5 +24,5 @@ returns-clause-ok c = record {
   behind = c.in_ok-name.name.rest.now;
   begins = c.in_ok-naming.ensures.ok;
   named = if_some _ _ _ c.in_ok-name.ensures.ok_part c.next_lexeme.ensures.some;
-  is_name = sym c.is_name.ensures ∙ c.if-is_name.true;
+  is_name = sym c.is_name.ensures ∙ c.if-not-is_name.false;
   ends = c.in_ok-rest.ensures.ok }

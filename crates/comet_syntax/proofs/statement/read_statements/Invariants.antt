@@ -2,8 +2,8 @@ use Rattle.std.specs.Prelude.{length}
 use Rattle.comet_syntax.proofs.Parts.{BodySoFar}
 use Rattle.comet_syntax.proofs.statement.read_statements.Given as goal
 
-abbrev pub invariant-loop-alloc : goal.invariant-loop-alloc
-invariant-loop-alloc l = BodySoFar l.variables l.text l.rest l.acts.items
+abbrev pub invariant-loop-rest : goal.invariant-loop-rest
+invariant-loop-rest l = BodySoFar l.variables l.text l.rest l.acts.items
 
-abbrev pub decreases-loop-alloc : goal.decreases-loop-alloc
-decreases-loop-alloc l = length l.rest
+abbrev pub decreases-loop-rest : goal.decreases-loop-rest
+decreases-loop-rest l = length l.rest
