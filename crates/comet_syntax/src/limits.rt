@@ -1,0 +1,7 @@
+//! The limits of small texts.
+
+/// How many bytes a small text has at most.
+pub const MOST_BYTES: usize = 1_048_576;
+
+/// How deep parentheses stand in an expression at most.
+pub const MOST_PARENTHESES: usize = 198;
