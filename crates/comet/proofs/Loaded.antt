@@ -6,8 +6,8 @@ use Rattle.cbl_io.specs.Held.{Held, IsRead}
 use Rattle.comet_syntax.specs.Small.{Spells}
 use Rattle.comet_syntax.specs.declared.program.Declaration.{Declaration}
 use Rattle.comet_syntax.specs.declared.program.Act.{Act}
-use Rattle.comet_syntax.specs.declared.small.TheConstants.{MOST_BYTES}
-use Rattle.comet_syntax.specs.declared.small.FormCause.TheVariants.{NotBuilt}
+use Rattle.comet_syntax.specs.declared.limits.TheConstants.{MOST_BYTES}
+use Rattle.comet_syntax.specs.declared.stop.FormCause.TheVariants.{NotBuilt}
 use Rattle.stmt_run.specs.Meaning.{meaning_of, first_place}
 use Rattle.comet.specs.Output.{Gives, Runs, GivesHeld}
 use Rattle.comet.specs.Loading.{IsLoaded, IsWhatItGives}

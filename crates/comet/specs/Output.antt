@@ -6,7 +6,7 @@ use Rattle.cbl_io.specs.Held.{Held}
 use Rattle.comet_syntax.specs.Small.{Spells}
 use Rattle.comet_syntax.specs.declared.program.Declaration.{Declaration}
 use Rattle.comet_syntax.specs.declared.program.Act.{Act}
-use Rattle.comet_syntax.specs.declared.small.FormCause.TheVariants.{NotBuilt}
+use Rattle.comet_syntax.specs.declared.stop.FormCause.TheVariants.{NotBuilt}
 use Rattle.stmt_run.specs.Meaning.{meaning_of, first_place}
 use Rattle.comet.specs.Status.{cause_of}
 use Rattle.comet.specs.Words.{program_named}

@@ -6,6 +6,7 @@
 //! program's meaning.
 #![tactic(auto)]
 
+pub mod laws;
 mod report;
 #[cfg(test)]
 mod tests;
