@@ -1,12 +1,12 @@
 -- Chains and leaves of expressions, as the code reads them.
-use Rattle.std.specs.Prelude.{◌≡◌, ◌<◌, ◌≤◌, ◌+◌, ◌^◌, ℕ, ℤ, pos, Bool, true, false, List, [], ◌∷◌, ◌++◌, Option, Some, None, length, codes, refl, nat_lt, if◌then◌else◌, FitsSigned}
+use Rattle.std.specs.Prelude.{◌≡◌, ◌<◌, ◌+◌, ◌^◌, ℕ, ℤ, pos, Bool, true, false, List, [], ◌∷◌, ◌++◌, Option, Some, None, length, codes, refl, nat_lt, if◌then◌else◌, FitsSigned}
 use Rattle.std.specs.Int.{w64, cast_signed, cast_unsigned}
 use Rattle.std.proofs.Common.{arith, ap, sym, ◌∙◌, subst, append_assoc}
 use Rattle.std.proofs.lemmas.Int.{to_z-of_z}
 use Rattle.comet_syntax.specs.declared.term.Operation.{Operation}
 use Rattle.comet_syntax.specs.declared.term.Operation.TheVariants.{Add, Sub, Mul}
 use Rattle.comet_syntax.specs.declared.term.Step.{Step}
-use Rattle.comet_syntax.specs.declared.term.Step.TheVariants.{Number, Variable, Join}
+use Rattle.comet_syntax.specs.declared.term.Step.TheVariants.{Number, Join}
 use Rattle.comet_syntax.specs.declared.stop.SmallStop.{SmallStop}
 use Rattle.comet_syntax.specs.declared.limits.TheConstants.{MOST_PARENTHESES}
 use Rattle.comet_syntax.specs.Lexeme.{is_number, Next, NotNext}
@@ -16,7 +16,7 @@ use Rattle.comet_syntax.specs.TreeCode.{tree_of, tree_of-postorder}
 use Rattle.comet_syntax.specs.Expression.{Part, sum, product, primary, rest_of_sum, rest_of_product, number_of_digits, leaf_of, IsPart, a_sum, added, subtracted, sum_ends, a_product, multiplied, product_ends, a_leaf, in_parentheses, IsEndedExpression}
 use Rattle.comet_syntax.specs.Reading.{Reads, Refuses, IsSumJoiner}
 use Rattle.comet_syntax.proofs.Lexing.{next_one, next_shorter, apart}
-use Rattle.comet_syntax.proofs.OneTerm.{next_rest, next_from, moved, joined_sum, joined_product, one_term, leaf_is_bare, leaf_is_one}
+use Rattle.comet_syntax.proofs.OneTerm.{next_rest, next_from, moved, joined_sum, joined_product, one_term, leaf_is_bare}
 
 -- leaves
 pub leaf_number : (f : List ℕ → Option ℕ) (w : List ℕ) (x : ℤ) → is_number w ≡ true

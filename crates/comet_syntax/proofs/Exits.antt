@@ -1,7 +1,7 @@
 -- The exits of the reader's functions.
-use Rattle.std.specs.Prelude.{◌≡◌, refl, ◌<◌, ◌+◌, ℕ, List, ◌∷◌, length, map, drop, slice_index_or, Option, Some, None, IfSome, IfNone, Result, Ok, Err, IfErr}
+use Rattle.std.specs.Prelude.{◌≡◌, refl, ◌<◌, ◌+◌, ℕ, List, ◌∷◌, length, map, drop, slice_index_or, Option, Some, None, IfSome, IfNone, Result, IfErr}
 use Rattle.std.specs.Result.{IsErrAnd}
-use Rattle.std.proofs.Common.{ap, sym, ◌∙◌, subst, add-one, Bor}
+use Rattle.std.proofs.Common.{sym, ◌∙◌, subst, add-one, Bor}
 use Rattle.std.proofs.Math.Seq.{drop-cons}
 use Rattle.std.proofs.lemmas.Result.{err_from_is_err_and}
 use Rattle.comet_syntax.specs.declared.stop.SmallStop.{SmallStop}

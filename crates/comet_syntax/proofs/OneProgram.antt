@@ -5,14 +5,14 @@ use Rattle.std.proofs.Common.{arith, ap, sym, ◌∙◌, subst}
 use Rattle.comet_syntax.specs.declared.program.Declaration.{Declaration}
 use Rattle.comet_syntax.specs.declared.program.Declaration.TheVariants as declarations
 use Rattle.comet_syntax.specs.declared.program.Act.{Act}
-use Rattle.comet_syntax.specs.declared.program.Act.TheVariants.{Assign, Print, EndLine}
+use Rattle.comet_syntax.specs.declared.program.Act.TheVariants.{Assign, Print}
 use Rattle.comet_syntax.specs.declared.variables.Variable.{Variable}
 use Rattle.comet_syntax.specs.declared.variables.Among.TheVariants as among
 use Rattle.comet_syntax.specs.Lexeme.{IsBlank, Next, NextAll, NotNext}
 use Rattle.comet_syntax.specs.Name.{is_keyword, is_name}
 use Rattle.comet_syntax.specs.Tree.{Tree}
 use Rattle.comet_syntax.specs.Variables.{number_of}
-use Rattle.comet_syntax.specs.Expression.{leaf_of, sum, product, primary, IsPart, a_sum, a_product, a_leaf, in_parentheses, IsEndedExpression}
+use Rattle.comet_syntax.specs.Expression.{leaf_of, sum, IsPart, a_sum, a_product, a_leaf, in_parentheses, IsEndedExpression}
 use Rattle.comet_syntax.specs.Small.{IsStart, zero_start, start, definition, is_free, IsDeclaration, AreDeclarations, none, more, IsItem, end_line, printed, AreItems, last_item, more_items, IsTarget, IsStatement, assigned, output, AreStatements, ended, further, IsSolver, IsProgram, empty, program, Spells}
 use Rattle.comet_syntax.proofs.Lexing.{clash, apart, next_one, next_shorter, blank_ends}
 use Rattle.comet_syntax.proofs.OneTerm.{next_rest, next_from, one_term, part_shorter, one_ended, ended_shorter}

@@ -1,13 +1,11 @@
 -- A text spells at most one expression at its front.
-use Rattle.std.specs.Prelude.{◌≡◌, ◌<◌, ◌≤◌, ℕ, Bool, true, false, List, [], ◌∷◌, Option, Some, None, length, codes, refl}
-use Rattle.std.specs.Str.{bytes_eq}
+use Rattle.std.specs.Prelude.{◌≡◌, ◌<◌, ◌≤◌, ℕ, List, Option, Some, None, length, codes, refl}
 use Rattle.std.proofs.Common.{arith, ap, sym, ◌∙◌, subst}
-use Rattle.std.proofs.lemmas.Slice.Eq.{bytes_eq-Decides}
 use Rattle.comet_syntax.specs.declared.term.Operation.{Operation}
-use Rattle.comet_syntax.specs.Lexeme.{Next, NextAll, NotNext}
+use Rattle.comet_syntax.specs.Lexeme.{Next}
 use Rattle.comet_syntax.specs.declared.term.Operation.TheVariants.{Add, Sub, Mul}
 use Rattle.comet_syntax.specs.Tree.{Tree, join}
-use Rattle.comet_syntax.specs.Expression.{Part, sum, product, primary, rest_of_sum, rest_of_product, leaf_of, IsPart, a_sum, added, subtracted, sum_ends, a_product, multiplied, product_ends, a_leaf, in_parentheses, IsEndedExpression}
+use Rattle.comet_syntax.specs.Expression.{Part, rest_of_sum, rest_of_product, leaf_of, IsPart, a_sum, added, subtracted, sum_ends, a_product, multiplied, product_ends, a_leaf, in_parentheses, IsEndedExpression}
 use Rattle.comet_syntax.proofs.Lexing.{next_one, next_shorter, apart}
 
 -- what stands behind a lexeme is one text

@@ -1,23 +1,20 @@
 -- Declarations and statements, as the code reads them.
-use Rattle.std.specs.Prelude.{◌≡◌, ◌<◌, ◌≤◌, ◌+◌, ℕ, pos, Bool, true, false, not, List, [], ◌∷◌, ◌++◌, Option, Some, None, length, codes, refl}
+use Rattle.std.specs.Prelude.{◌≡◌, ◌≤◌, ◌+◌, ℕ, Bool, true, false, List, [], ◌∷◌, ◌++◌, Some, None, length, codes, refl}
 use Rattle.std.proofs.Common.{arith, ap, sym, ◌∙◌, subst, append_assoc, append-nil, length-append}
 use Rattle.comet_syntax.specs.declared.program.Declaration.{Declaration}
-use Rattle.comet_syntax.specs.declared.program.Declaration.TheVariants as declarations
 use Rattle.comet_syntax.specs.declared.program.Act.{Act}
-use Rattle.comet_syntax.specs.declared.program.Act.TheVariants.{Assign, Print, EndLine}
-use Rattle.comet_syntax.specs.declared.stop.SmallStop.{SmallStop}
 use Rattle.comet_syntax.specs.declared.variables.Variable.{Variable}
 use Rattle.comet_syntax.specs.declared.variables.Among.TheVariants as among
 use Rattle.comet_syntax.specs.Lexeme.{IsBlank, Next, NextAll, NotNext}
 use Rattle.comet_syntax.specs.Name.{is_name, is_keyword}
-use Rattle.comet_syntax.specs.Tree.{Tree, number}
+use Rattle.comet_syntax.specs.Tree.{Tree}
 use Rattle.comet_syntax.specs.Variables.{number_of, is_new}
 use Rattle.comet_syntax.specs.Expression.{IsExpression, IsEndedExpression}
-use Rattle.comet_syntax.specs.Reading.{Refuses, Adds}
-use Rattle.comet_syntax.specs.Small.{IsStart, zero_start, start, definition, is_free, IsDeclaration, AreDeclarations, none, more, IsItem, end_line, printed, AreItems, last_item, more_items, IsTarget, IsStatement, assigned, output, AreStatements, ended, further, IsSolver, IsProgram, empty, program, Spells}
-use Rattle.comet_syntax.proofs.Lexing.{next_one, next_shorter, apart, clash, blank_ends}
-use Rattle.comet_syntax.proofs.OneTerm.{next_rest, next_from, one_ended}
-use Rattle.comet_syntax.proofs.OneProgram.{variable_words, solver_words, call_words, close_words, all_rest, all_from, ended_from, start_from, list_from, one_list, one_target, one_solver, keyword_is_no_name, same_next, one_declaration, declaration_shorter, declaration_begins, declarations_from, one_item, item_from, item_shorter, items_begin, items_from, one_statement, statement_shorter, statement_begins, statements_from}
+use Rattle.comet_syntax.specs.Reading.{Adds}
+use Rattle.comet_syntax.specs.Small.{IsStart, zero_start, start, definition, is_free, IsDeclaration, AreDeclarations, none, more, IsItem, end_line, printed, AreItems, last_item, more_items, IsTarget, IsStatement, assigned, output, AreStatements, ended, further, IsSolver, IsProgram, empty, program}
+use Rattle.comet_syntax.proofs.Lexing.{next_one, apart, clash}
+use Rattle.comet_syntax.proofs.OneTerm.{next_rest, next_from}
+use Rattle.comet_syntax.proofs.OneProgram.{variable_words, solver_words, call_words, close_words, all_rest, all_from, ended_from, start_from, list_from, one_list, one_target, one_solver, keyword_is_no_name, same_next, one_declaration, declaration_shorter, declaration_begins, declarations_from, one_item, item_from, items_from, one_statement, statement_begins, statements_from}
 
 -- All declarations so far: what stands behind them goes on exactly as the whole.
 pub record ListSoFar (solver text rest : List ℕ) (variables : List Variable) (ds : List Declaration) : Type 0 where

@@ -1,4 +1,4 @@
-use Rattle.std.specs.Prelude.{true, false}
+use Rattle.std.specs.Prelude.{false}
 use Rattle.std.proofs.Common.{sym, ◌∙◌, ◌≡◌, subst}
 use Rattle.comet_syntax.specs.Variables.{is_new}
 use Rattle.comet_syntax.proofs.Exits.{passes, if_none, if_some}

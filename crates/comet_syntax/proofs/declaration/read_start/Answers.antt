@@ -1,4 +1,4 @@
-use Rattle.std.proofs.Common.{ap, sym, subst}
+use Rattle.std.proofs.Common.{sym, subst}
 use Rattle.comet_syntax.specs.declared.program.Declaration.TheVariants as declarations
 use Rattle.comet_syntax.specs.Small.{IsStart, zero_start, start, definition}
 use Rattle.comet_syntax.proofs.Exits.{passes}

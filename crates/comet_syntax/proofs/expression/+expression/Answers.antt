@@ -1,4 +1,3 @@
-use Rattle.std.specs.Prelude.{◌<◌, length}
 use Rattle.std.proofs.Common.{arith}
 use Rattle.comet_syntax.proofs.Exits.{passes}
 use Rattle.comet_syntax.proofs.Lexing.{next_shorter}

@@ -1,5 +1,5 @@
-use Rattle.std.specs.Prelude.{refl, FitsSigned}
-use Rattle.std.proofs.Common.{rules, w64, sym, ◌∙◌}
+use Rattle.std.specs.Prelude.{refl}
+use Rattle.std.proofs.Common.{rules, sym, ◌∙◌}
 use Rattle.comet_syntax.specs.Variables.{number_of}
 use Rattle.comet_syntax.specs.Tree.{variable}
 use Rattle.comet_syntax.proofs.Chains.{leaf_step, leaf_variable}

@@ -1,7 +1,7 @@
-use Rattle.std.specs.Prelude.{◌≡◌, ◌≤◌, ◌<◌, ◌+◌, ◌*◌, ◌-◌, ◌^◌, slice_index, drop}
+use Rattle.std.specs.Prelude.{◌≡◌, ◌<◌, ◌+◌, ◌*◌, ◌-◌, ◌^◌, slice_index, drop}
 use Rattle.std.proofs.Common.{arith, ap, sym, subst, ◌∙◌}
-use Rattle.comet_syntax.specs.Expression.{digits_behind, number_of_digits}
-use Rattle.comet_syntax.proofs.Digits.{at_least, digit_here, digit_bounds, digits_step, no_more_digits}
+use Rattle.comet_syntax.specs.Expression.{digits_behind}
+use Rattle.comet_syntax.proofs.Digits.{at_least, digit_here, digits_step, no_more_digits}
 use Rattle.comet_syntax.proofs.expression.wide_number.Goals as goal
 
 pub returns-in_err-checked_mul : goal.returns-in_err-checked_mul

@@ -1,6 +1,4 @@
-use Rattle.std.specs.Prelude.{length}
 use Rattle.std.proofs.Common.{arith, ◌∙◌, sym}
-use Rattle.std.proofs.lemmas.Bool.Decides.{leb_tells}
 use Rattle.comet_syntax.proofs.Lexing.{sign_at_most, sign_step}
 use Rattle.comet_syntax.proofs.lexeme.sign_len.Goals as goal
 use Rattle.comet_syntax.proofs.lexeme.sign_len.Goals.{else-len-text-via-then-len-text+else-is_sign, else-len-text-via-else-len-text}
