@@ -1,13 +1,13 @@
 -- The longest lexeme at the front of a text, and that there is one next lexeme at most.
-use Rattle.std.specs.Prelude.{◌≡◌, ◌≢◌, ◌==◌, ◌<◌, ◌≤◌, ◌+◌, ◌-◌, ◌⊎◌, ℕ, Bool, true, false, not, ◌&&◌, ◌||◌, nat_le, nat_lt, List, [], ◌∷◌, ◌++◌, length, take, drop, codes, refl, if◌then◌else◌}
+use Rattle.std.specs.Prelude.{◌≡◌, ◌<◌, ◌≤◌, ◌+◌, ◌-◌, ◌⊎◌, ℕ, Bool, true, false, not, ◌&&◌, ◌||◌, nat_le, List, [], ◌∷◌, ◌++◌, length, take, drop, refl, if◌then◌else◌}
 use Rattle.std.specs.List.{list_all, list_any, prefix_len, take_while}
 use Rattle.std.specs.Str.{bytes_eq}
-use Rattle.std.proofs.Common.{arith, rules, ap, sym, ◌∙◌, subst, inl, inr, suc, zero, append_assoc, length-append}
+use Rattle.std.proofs.Common.{arith, rules, ap, sym, ◌∙◌, subst, inl, inr, length-append}
 use Rattle.std.proofs.Math.Seq.{take-append_seam, drop-append_seam}
 use Rattle.std.proofs.lemmas.List.{take-append-drop, length-take-le, append_cancel_left}
 use Rattle.std.proofs.lemmas.List.Folds.{list_all-append}
 use Rattle.std.proofs.lemmas.Slice.Eq.{bytes_eq-Decides}
-use Rattle.comet_syntax.specs.Lexeme.{is_space, is_letter, is_digit, is_word_byte, is_word, is_number, is_sign, signs, is_blank, IsBlank, IsLexeme, a_word, a_number, a_sign, Next, NextAll, NotNext}
+use Rattle.comet_syntax.specs.Lexeme.{is_space, is_letter, is_digit, is_word_byte, is_word, is_number, is_sign, signs, IsBlank, IsLexeme, a_word, a_number, a_sign, Next}
 
 pub or_cases : (a b : Bool) → (a || b) ≡ true → (a ≡ true) ⊎ (b ≡ true)
 or_cases true b h = inl refl
@@ -44,9 +44,10 @@ not_true false h = cc
 -- what passes a test that equal texts pass is one of the texts
 pub among_passes : (q : List ℕ → Bool) (words : List (List ℕ)) (w : List ℕ) → list_any (λ word. bytes_eq word w) words ≡ true → list_all q words ≡ true → q w ≡ true
 among_passes q [] w h k = cc
-among_passes q (word ∷ words) w h k = elim (or_cases (bytes_eq word w) _ h)
-  [ inl e ↦ subst (λ x. q x ≡ true) ((bytes_eq-Decides word w).0 e) (and_left _ _ k)
-  | inr e ↦ among_passes q words w e (and_right (q word) _ k) ]
+among_passes q (word ∷ words) w h k = elim (or_cases (bytes_eq word w) _ h) [
+  | inl e ↦ subst (λ x. q x ≡ true) ((bytes_eq-Decides word w).0 e) (and_left _ _ k)
+  | inr e ↦ among_passes q words w e (and_right (q word) _ k)
+]
 
 -- no sign has more than three bytes
 pub sign_is_short : (w : List ℕ) → is_sign w ≡ true → nat_le (length w) 3 ≡ true
@@ -67,18 +68,18 @@ sign_begins w h = among_passes begins_as_sign signs w h refl
 
 -- the code tries the longer signs first
 pub sign_step : (text : List ℕ) (shorter : ℕ) → shorter < 3
-  → ((sign rest : List ℕ) → text ≡ sign ++ rest → is_sign sign ≡ true → length sign + shorter ≤ 3)
-  → (3 - shorter ≤ length text → is_sign (take (3 - shorter) text) ≡ false)
-  → (sign rest : List ℕ) → text ≡ sign ++ rest → is_sign sign ≡ true → length sign + (shorter + 1) ≤ 3
+    → ((sign rest : List ℕ) → text ≡ sign ++ rest → is_sign sign ≡ true → length sign + shorter ≤ 3)
+    → (3 - shorter ≤ length text → is_sign (take (3 - shorter) text) ≡ false)
+    → (sign rest : List ℕ) → text ≡ sign ++ rest → is_sign sign ≡ true → length sign + (shorter + 1) ≤ 3
 sign_step text shorter low before here sign rest e h =
-  let at_most : length sign + shorter ≤ 3 = before sign rest e h in
-  let whole : length text ≡ length sign + length rest = ap length e ∙ simp length-append in
-  let below : length sign + shorter ≡ 3 → ⊥ = λ f.
+    let at_most : length sign + shorter ≤ 3 = before sign rest e h in
+    let whole : length text ≡ length sign + length rest = ap length e ∙ simp length-append in
+    let below : length sign + shorter ≡ 3 → ⊥ = λ f.
     let size : 3 - shorter ≡ length sign = omega arith in
     let front : take (3 - shorter) text ≡ sign = ap (λ n. take n text) size ∙ ap (take (length sign)) e ∙ take-append_seam sign rest in
     let not_here : is_sign (take (3 - shorter) text) ≡ false = here (omega arith) in
     cc (ap is_sign front) in
-  omega arith
+    omega arith
 
 pub letter_no_space : (c : ℕ) → is_letter c ≡ true → is_space c ≡ false
 letter_no_space c h = grind arith
@@ -96,26 +97,26 @@ take_one_more n x xs = search rules
 pub all_prefix : (p : ℕ → Bool) (xs : List ℕ) → list_all p (take (prefix_len p xs) xs) ≡ true
 all_prefix p [] = refl
 all_prefix p (x ∷ xs) = elim (p x) as (λ b. p x ≡ b → list_all p (take (if b then 1 + prefix_len p xs else 0) (x ∷ xs)) ≡ true)
-  [ true ↦ (λ e. rw (take_one_more (prefix_len p xs) x xs) (and_both _ _ e (all_prefix p xs))) | false ↦ (λ e. refl) ] refl
+    [ true ↦ (λ e. rw (take_one_more (prefix_len p xs) x xs) (and_both _ _ e (all_prefix p xs))) | false ↦ (λ e. refl) ] refl
 
 pub prefix_within : (p : ℕ → Bool) (xs : List ℕ) → prefix_len p xs ≤ length xs
 prefix_within p [] = omega arith
 prefix_within p (x ∷ xs) = elim (p x) as (λ b. (if b then 1 + prefix_len p xs else 0) ≤ length (x ∷ xs))
-  [ true ↦ omega (arith, prefix_within p xs) | false ↦ omega arith ]
+    [ true ↦ omega (arith, prefix_within p xs) | false ↦ omega arith ]
 
 -- a front whose bytes all pass is no longer than what a test finds
 pub front_within : (p : ℕ → Bool) (xs ys : List ℕ) → list_all p xs ≡ true → length xs ≤ prefix_len p (xs ++ ys)
 front_within p [] ys h = omega arith
 front_within p (x ∷ xs) ys h =
-  let here : p x ≡ true = and_left _ _ h in
-  rw here (omega (arith, front_within p xs ys (and_right (p x) _ h)))
+    let here : p x ≡ true = and_left _ _ h in
+    rw here (omega (arith, front_within p xs ys (and_right (p x) _ h)))
 
 -- behind a front whose bytes all pass, and before a byte that doesn't
 pub prefix_is : (p : ℕ → Bool) (xs : List ℕ) (y : ℕ) (ys : List ℕ) → list_all p xs ≡ true → p y ≡ false → prefix_len p (xs ++ (y ∷ ys)) ≡ length xs
 prefix_is p [] y ys h k = rw k refl
 prefix_is p (x ∷ xs) y ys h k =
-  let here : p x ≡ true = and_left _ _ h in
-  rw here (omega (arith, prefix_is p xs y ys (and_right (p x) _ h) k))
+    let here : p x ≡ true = and_left _ _ h in
+    rw here (omega (arith, prefix_is p xs y ys (and_right (p x) _ h) k))
 
 -- how many bytes a test finds from the front
 pub found_length : (p : ℕ → Bool) (xs : List ℕ) → length (take_while p xs) ≡ prefix_len p xs
@@ -137,21 +138,21 @@ behind_space text = drop (length (take_while is_space text)) text
 pub next_front : {text w r : List ℕ} → Next text w r → behind_space text ≡ w ++ r
 unfolding behind_space
 next_front {text} {w} {r} n =
-  let (c, cs, e, no_space) = lexeme_head w n.is_lexeme in
-  let whole : text ≡ n.space ++ (c ∷ (cs ++ r)) = n.spelled ∙ ap (λ x. n.space ++ (x ++ r)) e in
-  let found : length (take_while is_space text) ≡ length n.space =
+    let (c, cs, e, no_space) = lexeme_head w n.is_lexeme in
+    let whole : text ≡ n.space ++ (c ∷ (cs ++ r)) = n.spelled ∙ ap (λ x. n.space ++ (x ++ r)) e in
+    let found : length (take_while is_space text) ≡ length n.space =
     found_length is_space text ∙ ap (prefix_len is_space) whole ∙ prefix_is is_space n.space c (cs ++ r) n.blank no_space in
-  rw found (ap (drop (length n.space)) n.spelled ∙ drop-append_seam n.space (w ++ r))
+    rw found (ap (drop (length n.space)) n.spelled ∙ drop-append_seam n.space (w ++ r))
 
 -- a text has one next lexeme at most
 pub next_one : {text w r v s : List ℕ} → Next text w r → Next text v s → (w ≡ v) × (r ≡ s)
 next_one {text} {w} {r} {v} {s} n m =
-  let whole : w ++ r ≡ v ++ s = sym (next_front n) ∙ next_front m in
-  let low : length w < length v → ⊥ = λ h. n.longest v s whole h m.is_lexeme in
-  let high : length v < length w → ⊥ = λ h. m.longest w r (sym whole) h n.is_lexeme in
-  let same : length w ≡ length v = omega arith in
-  let fronts : w ≡ v = sym (take-append_seam w r) ∙ ap (λ x. take (length w) x) whole ∙ ap (λ x. take x (v ++ s)) same ∙ take-append_seam v s in
-  (fronts, append_cancel_left v r s (ap (λ x. x ++ r) (sym fronts) ∙ whole))
+    let whole : w ++ r ≡ v ++ s = sym (next_front n) ∙ next_front m in
+    let low : length w < length v → ⊥ = λ h. n.longest v s whole h m.is_lexeme in
+    let high : length v < length w → ⊥ = λ h. m.longest w r (sym whole) h n.is_lexeme in
+    let same : length w ≡ length v = omega arith in
+    let fronts : w ≡ v = sym (take-append_seam w r) ∙ ap (λ x. take (length w) x) whole ∙ ap (λ x. take x (v ++ s)) same ∙ take-append_seam v s in
+    (fronts, append_cancel_left v r s (ap (λ x. x ++ r) (sym fronts) ∙ whole))
 
 pub clash : (b : Bool) → b ≡ true → b ≡ false → ⊥
 clash b h k = cc
@@ -162,19 +163,19 @@ apart v w e n m = clash (bytes_eq v w) ((bytes_eq-Decides v w).1 (next_one n m).
 
 pub next_shorter : {text w r : List ℕ} → Next text w r → length r < length text
 next_shorter {text} {w} {r} n =
-  let (c, cs, e, no_space) = lexeme_head w n.is_lexeme in
-  let sizes : length text ≡ length n.space + (length (c ∷ cs) + length r) = ap length n.spelled ∙ ap (λ x. length (n.space ++ (x ++ r))) e ∙ simp length-append in
-  omega arith
+    let (c, cs, e, no_space) = lexeme_head w n.is_lexeme in
+    let sizes : length text ≡ length n.space + (length (c ∷ cs) + length r) = ap length n.spelled ∙ ap (λ x. length (n.space ++ (x ++ r))) e ∙ simp length-append in
+    omega arith
 
 -- a text of nothing but white space has no lexeme
 pub blank_ends : {text w r : List ℕ} → IsBlank text → Next text w r → ⊥
 blank_ends {text} {w} {r} blank n =
-  let (c, cs, e, no_space) = lexeme_head w n.is_lexeme in
-  let whole : text ≡ n.space ++ (c ∷ (cs ++ r)) = n.spelled ∙ ap (λ x. n.space ++ (x ++ r)) e in
-  let all : list_all is_space (n.space ++ (c ∷ (cs ++ r))) ≡ true = subst (λ x. list_all is_space x ≡ true) whole blank in
-  let parts : (list_all is_space n.space && list_all is_space (c ∷ (cs ++ r))) ≡ true = sym (list_all-append is_space n.space (c ∷ (cs ++ r))) ∙ all in
-  let space : is_space c ≡ true = and_left _ _ (and_right (list_all is_space n.space) _ parts) in
-  clash (is_space c) space no_space
+    let (c, cs, e, no_space) = lexeme_head w n.is_lexeme in
+    let whole : text ≡ n.space ++ (c ∷ (cs ++ r)) = n.spelled ∙ ap (λ x. n.space ++ (x ++ r)) e in
+    let all : list_all is_space (n.space ++ (c ∷ (cs ++ r))) ≡ true = subst (λ x. list_all is_space x ≡ true) whole blank in
+    let parts : (list_all is_space n.space && list_all is_space (c ∷ (cs ++ r))) ≡ true = sym (list_all-append is_space n.space (c ∷ (cs ++ r))) ∙ all in
+    let space : is_space c ≡ true = and_left _ _ (and_right (list_all is_space n.space) _ parts) in
+    clash (is_space c) space no_space
 
 space_split : (text : List ℕ) → text ≡ take (length (take_while is_space text)) text ++ behind_space text
 unfolding behind_space
@@ -182,32 +183,33 @@ space_split text = sym (take-append-drop (length (take_while is_space text)) tex
 
 -- the code finds the longest
 pub next_found : (text : List ℕ) (len : ℕ) → len ≤ length (behind_space text) → IsLexeme (take len (behind_space text))
-  → ((w r : List ℕ) → behind_space text ≡ w ++ r → IsLexeme w → length w ≤ len)
-  → Next text (take len (behind_space text)) (drop len (behind_space text))
+    → ((w r : List ℕ) → behind_space text ≡ w ++ r → IsLexeme w → length w ≤ len)
+    → Next text (take len (behind_space text)) (drop len (behind_space text))
 next_found text len within is_lexeme longest = record {
   space = take (length (take_while is_space text)) text;
   blank = subst (λ n. list_all is_space (take n text) ≡ true) (sym (found_length is_space text)) (all_prefix is_space text);
   spelled = space_split text ∙ ap (λ x. take (length (take_while is_space text)) text ++ x) (sym (take-append-drop len (behind_space text)));
   is_lexeme = is_lexeme;
   longest = λ longer behind e h l.
-    let size : length (take len (behind_space text)) ≡ len = length-take-le len (behind_space text) within in
-    let most : length longer ≤ len = longest longer behind (sym (take-append-drop len (behind_space text)) ∙ e) l in
-    omega arith }
+      let size : length (take len (behind_space text)) ≡ len = length-take-le len (behind_space text) within in
+      let most : length longer ≤ len = longest longer behind (sym (take-append-drop len (behind_space text)) ∙ e) l in
+      omega arith;
+}
 
 pub next_none : (text : List ℕ) → ((w r : List ℕ) → behind_space text ≡ w ++ r → IsLexeme w → length w ≤ 0)
-  → (w r : List ℕ) → Next text w r → ⊥
+    → (w r : List ℕ) → Next text w r → ⊥
 next_none text none w r n =
-  let (c, cs, e, no_space) = lexeme_head w n.is_lexeme in
-  let short : length w ≤ 0 = none w r (next_front n) n.is_lexeme in
-  let long : length w ≡ length (c ∷ cs) = ap length e in
-  omega arith
+    let (c, cs, e, no_space) = lexeme_head w n.is_lexeme in
+    let short : length w ≤ 0 = none w r (next_front n) n.is_lexeme in
+    let long : length w ≡ length (c ∷ cs) = ap length e in
+    omega arith
 
 -- a front whose bytes pass is no longer than what a test finds
 pub longest_run : (p : ℕ → Bool) (xs w r : List ℕ) → xs ≡ w ++ r → list_all p w ≡ true → length w ≤ length (take_while p xs)
 longest_run p xs w r e h =
-  let most : length w ≤ prefix_len p (w ++ r) = front_within p w r h in
-  let same : prefix_len p xs ≡ prefix_len p (w ++ r) = ap (prefix_len p) e in
-  omega (arith, found_length p xs)
+    let most : length w ≤ prefix_len p (w ++ r) = front_within p w r h in
+    let same : prefix_len p xs ≡ prefix_len p (w ++ r) = ap (prefix_len p) e in
+    omega (arith, found_length p xs)
 
 letter_in_word : (c : ℕ) → is_letter c ≡ true → is_word_byte c ≡ true
 letter_in_word c h = or_left _ _ h
@@ -239,33 +241,33 @@ word_bytes c cs h = and_both _ _ (letter_in_word c (and_left _ _ h)) (and_right 
 pub longest_word : (c : ℕ) (cs w r : List ℕ) → is_letter c ≡ true → c ∷ cs ≡ w ++ r → IsLexeme w → length w ≤ length (take_while is_word_byte (c ∷ cs))
 longest_word c cs [] r letter e h = omega arith
 longest_word c cs (d ∷ ds) r letter e h =
-  let same : c ≡ d = cc in
-  longest_run is_word_byte (c ∷ cs) (d ∷ ds) r e (word_bytes d ds (begins_word d ds (subst (λ x. is_letter x ≡ true) same letter) h))
+    let same : c ≡ d = cc in
+    longest_run is_word_byte (c ∷ cs) (d ∷ ds) r e (word_bytes d ds (begins_word d ds (subst (λ x. is_letter x ≡ true) same letter) h))
 
 pub longest_number : (c : ℕ) (cs w r : List ℕ) → is_digit c ≡ true → c ∷ cs ≡ w ++ r → IsLexeme w → length w ≤ length (take_while is_digit (c ∷ cs))
 longest_number c cs [] r digit e h = omega arith
 longest_number c cs (d ∷ ds) r digit e h =
-  let same : c ≡ d = cc in
-  longest_run is_digit (c ∷ cs) (d ∷ ds) r e (begins_number d ds (subst (λ x. is_digit x ≡ true) same digit) h)
+    let same : c ≡ d = cc in
+    longest_run is_digit (c ∷ cs) (d ∷ ds) r e (begins_number d ds (subst (λ x. is_digit x ≡ true) same digit) h)
 
 found_behind : (p : ℕ → Bool) (c : ℕ) (cs : List ℕ) → p c ≡ true → take (length (take_while p (c ∷ cs))) (c ∷ cs) ≡ c ∷ take (prefix_len p cs) cs
 found_behind p c cs h = ap (λ n. take n (c ∷ cs)) (found_length p (c ∷ cs)) ∙ (rw h (take_one_more (prefix_len p cs) c cs))
 
 pub word_found : (c : ℕ) (cs : List ℕ) → is_letter c ≡ true → IsLexeme (take (length (take_while is_word_byte (c ∷ cs))) (c ∷ cs))
 word_found c cs letter = subst IsLexeme (sym (found_behind is_word_byte c cs (letter_in_word c letter)))
-  (a_word (and_both _ _ letter (all_prefix is_word_byte cs)))
+    (a_word (and_both _ _ letter (all_prefix is_word_byte cs)))
 
 pub number_found : (c : ℕ) (cs : List ℕ) → is_digit c ≡ true → IsLexeme (take (length (take_while is_digit (c ∷ cs))) (c ∷ cs))
 number_found c cs digit = subst IsLexeme (sym (found_behind is_digit c cs digit))
-  (a_number (and_both _ _ digit (all_prefix is_digit cs)))
+    (a_number (and_both _ _ digit (all_prefix is_digit cs)))
 
 pub longest_sign : (c : ℕ) (cs w r : List ℕ) (len : ℕ) → is_letter c ≡ false → is_digit c ≡ false
-  → ((w r : List ℕ) → c ∷ cs ≡ w ++ r → is_sign w ≡ true → length w ≤ len)
-  → c ∷ cs ≡ w ++ r → IsLexeme w → length w ≤ len
+    → ((w r : List ℕ) → c ∷ cs ≡ w ++ r → is_sign w ≡ true → length w ≤ len)
+    → c ∷ cs ≡ w ++ r → IsLexeme w → length w ≤ len
 longest_sign c cs [] r len letter digit most e h = omega arith
 longest_sign c cs (d ∷ ds) r len letter digit most e h =
-  let same : c ≡ d = cc in
-  most (d ∷ ds) r e (begins_sign d ds (subst (λ x. is_letter x ≡ false) same letter) (subst (λ x. is_digit x ≡ false) same digit) h)
+    let same : c ≡ d = cc in
+    most (d ∷ ds) r e (begins_sign d ds (subst (λ x. is_letter x ≡ false) same letter) (subst (λ x. is_digit x ≡ false) same digit) h)
 
 -- the same, in the steps of the code
 behind_is : (text t : List ℕ) (n : ℕ) → n ≡ length (take_while is_space text) → t ≡ drop n text → t ≡ behind_space text
@@ -273,42 +275,42 @@ unfolding behind_space
 behind_is text t n e f = f ∙ ap (λ m. drop m text) e
 
 pub next_at : (text t w r : List ℕ) (n len : ℕ) → n ≡ length (take_while is_space text) → t ≡ drop n text → w ≡ take len t → r ≡ drop len t
-  → len ≤ length t → IsLexeme (take len t) → ((v s : List ℕ) → t ≡ v ++ s → IsLexeme v → length v ≤ len) → Next text w r
+    → len ≤ length t → IsLexeme (take len t) → ((v s : List ℕ) → t ≡ v ++ s → IsLexeme v → length v ≤ len) → Next text w r
 next_at text t w r n len e f g h within lexeme longest =
-  let same : t ≡ behind_space text = behind_is text t n e f in
-  let found = next_found text len (subst (λ x. len ≤ length x) same within) (subst (λ x. IsLexeme (take len x)) same lexeme) (subst (λ x. (v s : List ℕ) → x ≡ v ++ s → IsLexeme v → length v ≤ len) same longest) in
-  subst (λ x. Next text x r) (sym (g ∙ ap (take len) same)) (subst (λ x. Next text (take len (behind_space text)) x) (sym (h ∙ ap (drop len) same)) found)
+    let same : t ≡ behind_space text = behind_is text t n e f in
+    let found = next_found text len (subst (λ x. len ≤ length x) same within) (subst (λ x. IsLexeme (take len x)) same lexeme) (subst (λ x. (v s : List ℕ) → x ≡ v ++ s → IsLexeme v → length v ≤ len) same longest) in
+    subst (λ x. Next text x r) (sym (g ∙ ap (take len) same)) (subst (λ x. Next text (take len (behind_space text)) x) (sym (h ∙ ap (drop len) same)) found)
 
 pub none_at : (text t : List ℕ) (n len : ℕ) → n ≡ length (take_while is_space text) → t ≡ drop n text → len ≡ 0
-  → ((v s : List ℕ) → t ≡ v ++ s → IsLexeme v → length v ≤ len) → (w r : List ℕ) → Next text w r → ⊥
+    → ((v s : List ℕ) → t ≡ v ++ s → IsLexeme v → length v ≤ len) → (w r : List ℕ) → Next text w r → ⊥
 none_at text t n len e f size longest =
-  next_none text (λ v s h l. let short : length v ≤ len = longest v s (behind_is text t n e f ∙ h) l in omega arith)
+    next_none text (λ v s h l. let short : length v ≤ len = longest v s (behind_is text t n e f ∙ h) l in omega arith)
 
 pub words_of : (xs : List ℕ) (x : ℕ) (ys : List ℕ) (len : ℕ) → xs ≡ x ∷ ys → is_letter x ≡ true → len ≡ length (take_while is_word_byte xs) → IsLexeme (take len xs)
 words_of xs x ys len e letter size = subst (λ n. IsLexeme (take n xs)) (sym size) (subst (λ z. IsLexeme (take (length (take_while is_word_byte z)) z)) (sym e) (word_found x ys letter))
 
 pub words_longest : (xs : List ℕ) (x : ℕ) (ys : List ℕ) (len : ℕ) → xs ≡ x ∷ ys → is_letter x ≡ true → len ≡ length (take_while is_word_byte xs)
-  → (w r : List ℕ) → xs ≡ w ++ r → IsLexeme w → length w ≤ len
+    → (w r : List ℕ) → xs ≡ w ++ r → IsLexeme w → length w ≤ len
 words_longest xs x ys len e letter size w r f h =
-  let most : length w ≤ length (take_while is_word_byte (x ∷ ys)) = longest_word x ys w r letter (sym e ∙ f) h in
-  let same : length (take_while is_word_byte xs) ≡ length (take_while is_word_byte (x ∷ ys)) = ap (λ z. length (take_while is_word_byte z)) e in
-  omega arith
+    let most : length w ≤ length (take_while is_word_byte (x ∷ ys)) = longest_word x ys w r letter (sym e ∙ f) h in
+    let same : length (take_while is_word_byte xs) ≡ length (take_while is_word_byte (x ∷ ys)) = ap (λ z. length (take_while is_word_byte z)) e in
+    omega arith
 
 pub numbers_of : (xs : List ℕ) (x : ℕ) (ys : List ℕ) (len : ℕ) → xs ≡ x ∷ ys → is_digit x ≡ true → len ≡ length (take_while is_digit xs) → IsLexeme (take len xs)
 numbers_of xs x ys len e digit size = subst (λ n. IsLexeme (take n xs)) (sym size) (subst (λ z. IsLexeme (take (length (take_while is_digit z)) z)) (sym e) (number_found x ys digit))
 
 pub numbers_longest : (xs : List ℕ) (x : ℕ) (ys : List ℕ) (len : ℕ) → xs ≡ x ∷ ys → is_digit x ≡ true → len ≡ length (take_while is_digit xs)
-  → (w r : List ℕ) → xs ≡ w ++ r → IsLexeme w → length w ≤ len
+    → (w r : List ℕ) → xs ≡ w ++ r → IsLexeme w → length w ≤ len
 numbers_longest xs x ys len e digit size w r f h =
-  let most : length w ≤ length (take_while is_digit (x ∷ ys)) = longest_number x ys w r digit (sym e ∙ f) h in
-  let same : length (take_while is_digit xs) ≡ length (take_while is_digit (x ∷ ys)) = ap (λ z. length (take_while is_digit z)) e in
-  omega arith
+    let most : length w ≤ length (take_while is_digit (x ∷ ys)) = longest_number x ys w r digit (sym e ∙ f) h in
+    let same : length (take_while is_digit xs) ≡ length (take_while is_digit (x ∷ ys)) = ap (λ z. length (take_while is_digit z)) e in
+    omega arith
 
 pub signs_longest : (xs : List ℕ) (x : ℕ) (ys : List ℕ) (len : ℕ) → xs ≡ x ∷ ys → is_letter x ≡ false → is_digit x ≡ false
-  → ((w r : List ℕ) → xs ≡ w ++ r → is_sign w ≡ true → length w ≤ len)
-  → (w r : List ℕ) → xs ≡ w ++ r → IsLexeme w → length w ≤ len
+    → ((w r : List ℕ) → xs ≡ w ++ r → is_sign w ≡ true → length w ≤ len)
+    → (w r : List ℕ) → xs ≡ w ++ r → IsLexeme w → length w ≤ len
 signs_longest xs x ys len e letter digit most w r f h =
-  longest_sign x ys w r len letter digit (λ v s g. most v s (e ∙ g)) (sym e ∙ f) h
+    longest_sign x ys w r len letter digit (λ v s g. most v s (e ∙ g)) (sym e ∙ f) h
 
 pub nothing_longest : (xs : List ℕ) → length xs ≡ 0 → (w r : List ℕ) → xs ≡ w ++ r → IsLexeme w → length w ≤ 0
 nothing_longest xs e w r f h = let whole : length xs ≡ length w + length r = ap length f ∙ simp length-append in omega arith

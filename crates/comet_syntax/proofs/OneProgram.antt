@@ -5,14 +5,14 @@ use Rattle.std.proofs.Common.{arith, ap, sym, ◌∙◌, subst}
 use Rattle.comet_syntax.specs.declared.program.Declaration.{Declaration}
 use Rattle.comet_syntax.specs.declared.program.Declaration.TheVariants as declarations
 use Rattle.comet_syntax.specs.declared.program.Act.{Act}
-use Rattle.comet_syntax.specs.declared.program.Act.TheVariants.{Assign, Print, EndLine}
+use Rattle.comet_syntax.specs.declared.program.Act.TheVariants.{Assign, Print}
 use Rattle.comet_syntax.specs.declared.variables.Variable.{Variable}
 use Rattle.comet_syntax.specs.declared.variables.Among.TheVariants as among
 use Rattle.comet_syntax.specs.Lexeme.{IsBlank, Next, NextAll, NotNext}
 use Rattle.comet_syntax.specs.Name.{is_keyword, is_name}
 use Rattle.comet_syntax.specs.Tree.{Tree}
 use Rattle.comet_syntax.specs.Variables.{number_of}
-use Rattle.comet_syntax.specs.Expression.{leaf_of, sum, product, primary, Spells as SpellsPart, a_sum, a_product, a_leaf, in_parentheses, IsEndedExpression}
+use Rattle.comet_syntax.specs.Expression.{leaf_of, sum, IsPart, a_sum, a_product, a_leaf, in_parentheses, IsEndedExpression}
 use Rattle.comet_syntax.specs.Small.{IsStart, zero_start, start, definition, is_free, IsDeclaration, AreDeclarations, none, more, IsItem, end_line, printed, AreItems, last_item, more_items, IsTarget, IsStatement, assigned, output, AreStatements, ended, further, IsSolver, IsProgram, empty, program, Spells}
 use Rattle.comet_syntax.proofs.Lexing.{clash, apart, next_one, next_shorter, blank_ends}
 use Rattle.comet_syntax.proofs.OneTerm.{next_rest, next_from, one_term, part_shorter, one_ended, ended_shorter}
@@ -66,15 +66,15 @@ pub start_from : {vs : List Variable} {text text' r : List ℕ} {d : Declaration
 start_from {vs} {r = r} {d} e x = subst (λ z. IsStart vs z d r) (sym e) x
 
 pub one_declaration : {solver : List ℕ} {vs : List Variable} {text v w r s : List ℕ} {c d : Declaration}
-  → IsDeclaration solver vs text v c r → IsDeclaration solver vs text w d s → (v ≡ w) × (c ≡ d) × (r ≡ s)
+    → IsDeclaration solver vs text v c r → IsDeclaration solver vs text w d s → (v ≡ w) × (c ≡ d) × (r ≡ s)
 one_declaration x y =
-  let e = all_rest variable_words _ _ _ x.begins y.begins in
-  let (f, g) = next_one x.named (next_from e y.named) in
-  let h = next_rest x.opened (next_from g y.opened) in
-  let i = next_rest x.solved (next_from h y.solved) in
-  let j = next_rest x.closed (next_from i y.closed) in
-  let (k, l) = one_start x.started (start_from j y.started) in
-  (f, k, l)
+    let e = all_rest variable_words _ _ _ x.begins y.begins in
+    let (f, g) = next_one x.named (next_from e y.named) in
+    let h = next_rest x.opened (next_from g y.opened) in
+    let i = next_rest x.solved (next_from h y.solved) in
+    let j = next_rest x.closed (next_from i y.closed) in
+    let (k, l) = one_start x.started (start_from j y.started) in
+    (f, k, l)
 
 pub declaration_shorter : {solver : List ℕ} {vs : List Variable} {text v r : List ℕ} {d : Declaration} → IsDeclaration solver vs text v d r → length r < length text
 declaration_shorter x = omega (arith, all_shorter variable_words _ _ x.begins, next_shorter x.named, next_shorter x.opened, next_shorter x.solved, next_shorter x.closed, start_shorter x.started)
@@ -84,25 +84,25 @@ pub declaration_begins : {solver : List ℕ} {vs : List Variable} {text v r : Li
 declaration_begins x absent = let (b, n, m) = x.begins in absent b n
 
 pub declarations_from : {solver : List ℕ} {before before' after : List Variable} {text text' r : List ℕ} {ds : List Declaration} → before ≡ before' → text ≡ text'
-  → AreDeclarations solver before' text' ds after r → AreDeclarations solver before text ds after r
+    → AreDeclarations solver before' text' ds after r → AreDeclarations solver before text ds after r
 declarations_from {solver} {before} {before'} {after} {text} {text'} {r} {ds} e f x =
-  subst (λ z. AreDeclarations solver z text ds after r) (sym e) (subst (λ z. AreDeclarations solver before' z ds after r) (sym f) x)
+    subst (λ z. AreDeclarations solver z text ds after r) (sym e) (subst (λ z. AreDeclarations solver before' z ds after r) (sym f) x)
 
 pub list_from : {solver solver' : List ℕ} {before after : List Variable} {text text' r : List ℕ} {ds : List Declaration} → solver ≡ solver' → text ≡ text'
-  → AreDeclarations solver' before text' ds after r → AreDeclarations solver before text ds after r
+    → AreDeclarations solver' before text' ds after r → AreDeclarations solver before text ds after r
 list_from {solver} {solver'} {before} {after} {text} {text'} {r} {ds} e f x =
-  subst (λ z. AreDeclarations z before text ds after r) (sym e) (subst (λ z. AreDeclarations solver' before z ds after r) (sym f) x)
+    subst (λ z. AreDeclarations z before text ds after r) (sym e) (subst (λ z. AreDeclarations solver' before z ds after r) (sym f) x)
 
 pub one_list : {solver : List ℕ} {before after after' : List Variable} {text r s : List ℕ} {cs ds : List Declaration}
-  → AreDeclarations solver before text cs after r → AreDeclarations solver before text ds after' s → (cs ≡ ds) × (after ≡ after') × (r ≡ s)
+    → AreDeclarations solver before text cs after r → AreDeclarations solver before text ds after' s → (cs ≡ ds) × (after ≡ after') × (r ≡ s)
 one_list (none p) (none q) = (refl, refl, refl)
 one_list (none p) (more y w) = absurd (declaration_begins y p)
 one_list (more x v) (none q) = absurd (declaration_begins x q)
 one_list {before = before} (more {name = name} {declaration = declaration} {declarations = cs} x v) (more {name = name'} {declaration = declaration'} y w) =
-  let (e, f, g) = one_declaration x y in
-  let h : before ++ (record { name = name; is_free = is_free declaration } ∷ []) ≡ before ++ (record { name = name'; is_free = is_free declaration' } ∷ []) = ap (λ z. before ++ (record { name = z; is_free = is_free declaration } ∷ [])) e ∙ ap (λ z. before ++ (record { name = name'; is_free = is_free z } ∷ [])) f in
-  let (k, l, m) = one_list v (declarations_from h g w) in
-  (ap (λ z. z ∷ cs) f ∙ ap (λ z. declaration' ∷ z) k, l, m)
+    let (e, f, g) = one_declaration x y in
+    let h : before ++ (record { name = name; is_free = is_free declaration } ∷ []) ≡ before ++ (record { name = name'; is_free = is_free declaration' } ∷ []) = ap (λ z. before ++ (record { name = z; is_free = is_free declaration } ∷ [])) e ∙ ap (λ z. before ++ (record { name = name'; is_free = is_free z } ∷ [])) f in
+    let (k, l, m) = one_list v (declarations_from h g w) in
+    (ap (λ z. z ∷ cs) f ∙ ap (λ z. declaration' ∷ z) k, l, m)
 
 -- no name is a keyword
 pub keyword_is_no_name : (w : List ℕ) {text v r s : List ℕ} → is_name w ≡ false → Next text v r → is_name v ≡ true → Next text w s → ⊥
@@ -110,9 +110,9 @@ keyword_is_no_name w {v = v} absent n name m = clash (is_name w) (subst (λ z. i
 
 -- no expression begins with such a lexeme
 pub begins_none : (w : List ℕ) (number_of : List ℕ → Option ℕ) {d : ℕ} {text r s : List ℕ} {t : Tree} → bytes_eq (codes "(") w ≡ false → ((f : List ℕ → Option ℕ) → leaf_of f w ≡ None)
-  → Next text w s → SpellsPart number_of sum d text t r → ⊥
+    → Next text w s → IsPart number_of sum d text t r → ⊥
 begins_none w number_of paren leaf n (a_sum (a_product (a_leaf {term = term} m e) y) x) =
-  let f : None ≡ Some term = sym (leaf number_of) ∙ ap (leaf_of number_of) (next_one n m).0 ∙ e in absurd cc
+    let f : None ≡ Some term = sym (leaf number_of) ∙ ap (leaf_of number_of) (next_one n m).0 ∙ e in absurd cc
 begins_none w number_of paren leaf n (a_sum (a_product (in_parentheses l m z k) y) x) = apart (codes "(") w paren m n
 
 pub one_item : {vs : List Variable} {text r s : List ℕ} {c d : Act} → IsItem vs text c r → IsItem vs text d s → (c ≡ d) × (r ≡ s)
@@ -139,15 +139,15 @@ items_begin (more_items n x y) = (_, n)
 pub one_row : {vs : List Variable} {text r s : List ℕ} {acts bs : List Act} → AreItems vs text acts r → AreItems vs text bs s → (acts ≡ bs) × (r ≡ s)
 one_row (last_item n x m) (last_item n' x' m') = let (e, f) = one_item x (item_from (next_rest n n') x') in (ap (λ z. z ∷ []) e, next_rest m (next_from f m'))
 one_row (last_item n x m) (more_items n' x' y') =
-  let (e, f) = one_item x (item_from (next_rest n n') x') in
-  absurd (apart (codes ";") (codes "<<") refl m (next_from f (items_begin y').1))
+    let (e, f) = one_item x (item_from (next_rest n n') x') in
+    absurd (apart (codes ";") (codes "<<") refl m (next_from f (items_begin y').1))
 one_row (more_items n x y) (last_item n' x' m') =
-  let (e, f) = one_item x (item_from (next_rest n n') x') in
-  absurd (apart (codes ";") (codes "<<") refl (next_from f m') (items_begin y).1)
+    let (e, f) = one_item x (item_from (next_rest n n') x') in
+    absurd (apart (codes ";") (codes "<<") refl (next_from f m') (items_begin y).1)
 one_row (more_items {act = act} {acts = acts} n x y) (more_items {act = act'} {acts = acts'} n' x' y') =
-  let (e, f) = one_item x (item_from (next_rest n n') x') in
-  let (g, h) = one_row y (items_from f y') in
-  (ap (λ z. z ∷ acts) e ∙ ap (λ z. act' ∷ z) g, h)
+    let (e, f) = one_item x (item_from (next_rest n n') x') in
+    let (g, h) = one_row y (items_from f y') in
+    (ap (λ z. z ∷ acts) e ∙ ap (λ z. act' ∷ z) g, h)
 
 pub items_shorter : {vs : List Variable} {text r : List ℕ} {acts : List Act} → AreItems vs text acts r → length r < length text
 items_shorter (last_item n x m) = omega (arith, next_shorter n, item_shorter x, next_shorter m)
@@ -155,17 +155,17 @@ items_shorter (more_items n x y) = omega (arith, next_shorter n, item_shorter x,
 
 pub one_target : {vs : List Variable} {text r s : List ℕ} {v w : ℕ} → IsTarget vs text v r → IsTarget vs text w s → (v ≡ w) × (r ≡ s)
 one_target {vs} {v = v} {w} x y =
-  let (e, f) = next_one x.next y.next in
-  let g : Some v ≡ Some w = sym x.numbered ∙ ap (number_of vs among.Free) e ∙ y.numbered in
-  let h : v ≡ w = cc in
-  (h, f)
+    let (e, f) = next_one x.next y.next in
+    let g : Some v ≡ Some w = sym x.numbered ∙ ap (number_of vs among.Free) e ∙ y.numbered in
+    let h : v ≡ w = cc in
+    (h, f)
 
 pub one_statement : {vs : List Variable} {text r s : List ℕ} {acts bs : List Act} → IsStatement vs text acts r → IsStatement vs text bs s → (acts ≡ bs) × (r ≡ s)
 unfolding is_keyword
 one_statement (assigned {v = v} {term = term} n c x) (assigned {v = v'} {term = term'} n' c' x') =
-  let (h, f) = one_target n n' in
-  let (k, l) = one_ended x (ended_from (next_rest c (next_from f c')) x') in
-  (ap (λ z. Assign z term ∷ []) h ∙ ap (λ z. Assign v' z ∷ []) k, l)
+    let (h, f) = one_target n n' in
+    let (k, l) = one_ended x (ended_from (next_rest c (next_from f c')) x') in
+    (ap (λ z. Assign z term ∷ []) h ∙ ap (λ z. Assign v' z ∷ []) k, l)
 one_statement (assigned n c x) (output m y) = absurd (keyword_is_no_name (codes "cout") refl n.next n.is_name m)
 one_statement (output m y) (assigned n c x) = absurd (keyword_is_no_name (codes "cout") refl n.next n.is_name m)
 one_statement (output n x) (output m y) = one_row x (items_from (next_rest n m) y)
@@ -186,15 +186,15 @@ one_body (ended p) (ended q) = refl
 one_body (ended p) (further y w e) = absurd (statement_begins y p)
 one_body (further x v e) (ended q) = absurd (statement_begins x q)
 one_body (further {front = front} {acts = acts} x v e) (further {front = front'} {acts = acts'} y w e') =
-  let (f, g) = one_statement x y in
-  let h = one_body v (statements_from refl g w) in
-  e ∙ ap (λ z. z ++ acts) f ∙ ap (λ z. front' ++ z) h ∙ sym e'
+    let (f, g) = one_statement x y in
+    let h = one_body v (statements_from refl g w) in
+    e ∙ ap (λ z. z ++ acts) f ∙ ap (λ z. front' ++ z) h ∙ sym e'
 
 pub one_solver : {text v w r s : List ℕ} → IsSolver text v r → IsSolver text w s → (v ≡ w) × (r ≡ s)
 one_solver x y =
-  let e = all_rest solver_words _ _ _ x.begins y.begins in
-  let (f, g) = next_one x.named (next_from e y.named) in
-  (f, all_rest call_words _ _ _ x.ends (all_from call_words _ _ _ g y.ends))
+    let e = all_rest solver_words _ _ _ x.begins y.begins in
+    let (f, g) = next_one x.named (next_from e y.named) in
+    (f, all_rest call_words _ _ _ x.ends (all_from call_words _ _ _ g y.ends))
 
 pub solver_begins : {text v r : List ℕ} → IsSolver text v r → IsBlank text → ⊥
 solver_begins x blank = let (b, n, m) = x.begins in blank_ends blank n
@@ -207,11 +207,11 @@ one_small (empty p) (empty q) = (refl, refl)
 one_small (empty p) (program n c d e f) = absurd (solver_begins n p)
 one_small (program n c d e f) (empty p) = absurd (solver_begins n p)
 one_small (program n c d e f) (program n' c' d' e' f') =
-  let (h, j) = one_solver n n' in
-  let (k, l, o) = one_list c (list_from h j c') in
-  let p = (next_one d (next_from o d')).1 in
-  let q = all_rest close_words _ _ _ e (all_from close_words _ _ _ p e') in
-  (k, one_body f (statements_from l q f'))
+    let (h, j) = one_solver n n' in
+    let (k, l, o) = one_list c (list_from h j c') in
+    let p = (next_one d (next_from o d')).1 in
+    let q = all_rest close_words _ _ _ e (all_from close_words _ _ _ p e') in
+    (k, one_body f (statements_from l q f'))
 
 pub one_spelled : {text : List ℕ} {cs ds : List Declaration} {acts bs : List Act} → Spells text cs acts → Spells text ds bs → (cs ≡ ds) × (acts ≡ bs)
 one_spelled x y = one_small x.1 y.1

@@ -1,7 +1,7 @@
 -- The lexemes of a text. A lexeme is a word (a letter or `_`, and then letters, digits and `_`), a
 -- number (one or more digits), or a sign of the language. The next lexeme of a text is the longest that
--- can be read behind the white space at its front. A comment or a string is no lexeme. A rule of this
--- project, as in C.
+-- can be read behind the white space at its front. There is none for a string, and a comment would begin
+-- with a sign that no small program has. A rule of this project, as in C.
 use Rattle.std.specs.Prelude.{◌≡◌, ◌==◌, ◌<◌, ℕ, Bool, true, false, ◌&&◌, ◌||◌, nat_le, List, [], ◌∷◌, ◌++◌, length, codes}
 use Rattle.std.specs.List.{list_all, list_any}
 use Rattle.std.specs.Str.{bytes_eq}

@@ -8,12 +8,12 @@ use Rattle.comet_syntax.specs.declared.stop.SmallStop.{SmallStop}
 use Rattle.comet_syntax.specs.declared.stop.SmallStop.TheVariants.{NotSmall}
 use Rattle.comet_syntax.specs.Tree.{Tree, postorder}
 use Rattle.comet_syntax.specs.Lexeme.{Next}
-use Rattle.comet_syntax.specs.Expression.{Part, Spells}
+use Rattle.comet_syntax.specs.Expression.{Part, IsPart}
 
 -- a part stands at the front of the text, and its term's steps were added behind the old ones
 pub record Reads (number_of : List ℕ → Option ℕ) (part : Part) (depth : ℕ) (text rest : List ℕ) (old new : List Step) : Type 0 where
   pub term : Tree
-  pub spelled : Spells number_of part depth text term rest
+  pub spelled : IsPart number_of part depth text term rest
   pub steps : new ≡ old ++ postorder term
 
 -- unless memory ran out, nothing of a kind stands at the front of the text

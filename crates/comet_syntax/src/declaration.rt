@@ -53,7 +53,11 @@ fn zero(alloc: Global) -> Result<Term, SmallStop>
 }
 
 /// Reads what stands behind the name and the solver of a declaration.
-fn read_start<'a>(alloc: Global, variables: &[Variable], text: &'a [u8]) -> Result<Start<'a>, SmallStop>
+fn read_start<'a>(
+    alloc: Global,
+    variables: &[Variable],
+    text: &'a [u8],
+) -> Result<Start<'a>, SmallStop>
     requires { length variables.now ≤ MOST_BYTES }
     ensures ok { IfOk result (λ start. IsStart variables.now text.now start.declaration start.rest.now) }
     ensures refused { IfErr result (Refuses (IsStart variables.now text.now)) }
@@ -78,7 +82,11 @@ fn read_start<'a>(alloc: Global, variables: &[Variable], text: &'a [u8]) -> Resu
 }
 
 /// Reads the name of a new variable.
-fn read_new_name<'a>(solver: &[u8], variables: &[Variable], text: &'a [u8]) -> Result<Lexeme<'a>, SmallStop>
+fn read_new_name<'a>(
+    solver: &[u8],
+    variables: &[Variable],
+    text: &'a [u8],
+) -> Result<Lexeme<'a>, SmallStop>
     ensures ok { IfOk result (λ name. Next text.now name.bytes.now name.rest.now × (variables_spec.is_new solver.now variables.now name.bytes.now ≡ true)) }
     ensures refused { IfErr result (λ stop. (name rest : List ℕ) → Next text.now name rest → variables_spec.is_new solver.now variables.now name ≡ true → ⊥) }
 {
@@ -91,7 +99,12 @@ fn read_new_name<'a>(solver: &[u8], variables: &[Variable], text: &'a [u8]) -> R
 }
 
 /// Reads a declaration, behind those of the variables.
-fn read_declaration<'a>(alloc: Global, solver: &[u8], variables: &[Variable], text: &'a [u8]) -> Result<Declared<'a>, SmallStop>
+fn read_declaration<'a>(
+    alloc: Global,
+    solver: &[u8],
+    variables: &[Variable],
+    text: &'a [u8],
+) -> Result<Declared<'a>, SmallStop>
     requires { length variables.now ≤ MOST_BYTES }
     ensures ok { IfOk result (λ read. IsDeclaration solver.now variables.now text.now read.name read.declaration read.rest.now) }
     ensures refused { IfErr result (λ stop. stop ≡ SmallStop.NotSmall → (name : List ℕ) (declaration : DeclarationOf) (rest : List ℕ) →
@@ -122,7 +135,11 @@ fn is_free(declaration: &Declaration) -> bool
 }
 
 /// Reads all declarations.
-pub fn read_declarations<'a>(alloc: Global, solver: &[u8], text: &'a [u8]) -> Result<Declarations<'a>, SmallStop>
+pub fn read_declarations<'a>(
+    alloc: Global,
+    solver: &[u8],
+    text: &'a [u8],
+) -> Result<Declarations<'a>, SmallStop>
     requires { length text.now ≤ MOST_BYTES }
     ensures ok { IfOk result (λ read. AreDeclarations solver.now [] text.now read.declarations.items read.variables.items read.rest.now) }
     ensures few { IfOk result (λ read. length read.variables.items ≤ MOST_BYTES) }

@@ -4,7 +4,7 @@ ghost use Rattle.std.specs.List.{list_all};
 ghost use Rattle.comet_syntax.specs.Lexeme.{Next, NotNext, is_digit, is_number};
 ghost use Rattle.comet_syntax.specs.Variables as variables_spec;
 ghost use Rattle.comet_syntax.specs.Tree.{Tree, postorder};
-ghost use Rattle.comet_syntax.specs.Expression.{number_of_digits, leaf_of, sum, product, primary, IsEndedExpression, Spells};
+ghost use Rattle.comet_syntax.specs.Expression.{number_of_digits, leaf_of, sum, product, primary, IsEndedExpression, IsPart};
 ghost use Rattle.comet_syntax.specs.Reading.{Reads, Refuses, IsSumJoiner};
 
 use crate::lexeme::{expect, is_name, is_number, next_lexeme, skip};
@@ -35,7 +35,9 @@ fn wide_number(digits: &[u8]) -> Option<u64>
 {
     let mut number: u64 = 0;
     for digit in digits {
-        number = number.checked_mul(10)?.checked_add(u64::from(*digit - b'0'))?;
+        number = number
+            .checked_mul(10)?
+            .checked_add(u64::from(*digit - b'0'))?;
     }
     Some(number)
 }
@@ -97,7 +99,7 @@ fn read_sum<'a>(
     requires shallow { depth ≤ MOST_PARENTHESES }
     requires few { length variables.now ≤ MOST_BYTES }
     ensures ok { IfOk result (λ rest. Reads (variables_spec.number_of variables.now among) sum depth text.now rest.now steps.old.items steps.new.items) }
-    ensures refused { IfErr result (Refuses (Spells (variables_spec.number_of variables.now among) sum depth text.now)) }
+    ensures refused { IfErr result (Refuses (IsPart (variables_spec.number_of variables.now among) sum depth text.now)) }
 {
     let mut rest = read_product(variables, among, depth, text, steps)?;
     while let Some(joiner) = sum_joiner(rest) {
@@ -119,7 +121,7 @@ fn read_product<'a>(
     requires shallow { depth ≤ MOST_PARENTHESES }
     requires few { length variables.now ≤ MOST_BYTES }
     ensures ok { IfOk result (λ rest. Reads (variables_spec.number_of variables.now among) product depth text.now rest.now steps.old.items steps.new.items) }
-    ensures refused { IfErr result (Refuses (Spells (variables_spec.number_of variables.now among) product depth text.now)) }
+    ensures refused { IfErr result (Refuses (IsPart (variables_spec.number_of variables.now among) product depth text.now)) }
 {
     let mut rest = read_primary(variables, among, depth, text, steps)?;
     while let Some(operand) = skip(rest, b"*") {
@@ -141,7 +143,7 @@ fn read_primary<'a>(
     requires shallow { depth ≤ MOST_PARENTHESES }
     requires few { length variables.now ≤ MOST_BYTES }
     ensures ok { IfOk result (λ rest. Reads (variables_spec.number_of variables.now among) primary depth text.now rest.now steps.old.items steps.new.items) }
-    ensures refused { IfErr result (Refuses (Spells (variables_spec.number_of variables.now among) primary depth text.now)) }
+    ensures refused { IfErr result (Refuses (IsPart (variables_spec.number_of variables.now among) primary depth text.now)) }
 {
     if let Some(inner) = skip(text, b"(") {
         if depth == MOST_PARENTHESES {
@@ -156,11 +158,16 @@ fn read_primary<'a>(
 }
 
 /// Reads a number or a variable, in whatever parentheses.
-fn read_leaf<'a>(variables: &[Variable], among: Among, text: &'a [u8], steps: &mut Vec<Step>) -> Result<&'a [u8], SmallStop>
+fn read_leaf<'a>(
+    variables: &[Variable],
+    among: Among,
+    text: &'a [u8],
+    steps: &mut Vec<Step>,
+) -> Result<&'a [u8], SmallStop>
     requires few { length variables.now ≤ MOST_BYTES }
     requires bare { NotNext text.now (codes "(") }
     ensures ok { IfOk result (λ rest. (depth : ℕ) → Reads (variables_spec.number_of variables.now among) primary depth text.now rest.now steps.old.items steps.new.items) }
-    ensures refused { IfErr result (λ stop. (depth : ℕ) → Refuses (Spells (variables_spec.number_of variables.now among) primary depth text.now) stop) }
+    ensures refused { IfErr result (λ stop. (depth : ℕ) → Refuses (IsPart (variables_spec.number_of variables.now among) primary depth text.now) stop) }
 {
     let next = next_lexeme(text).ok_or(SmallStop::NotSmall)?;
     let step = leaf(variables, among, next.bytes).ok_or(SmallStop::NotSmall)?;
@@ -169,10 +176,15 @@ fn read_leaf<'a>(variables: &[Variable], among: Among, text: &'a [u8], steps: &m
 }
 
 /// Reads a whole expression.
-pub fn read_expression<'a>(alloc: Global, variables: &[Variable], among: Among, text: &'a [u8]) -> Result<Expression<'a>, SmallStop>
+pub fn read_expression<'a>(
+    alloc: Global,
+    variables: &[Variable],
+    among: Among,
+    text: &'a [u8],
+) -> Result<Expression<'a>, SmallStop>
     requires { length variables.now ≤ MOST_BYTES }
-    ensures ok { IfOk result (λ read. Spells (variables_spec.number_of variables.now among) sum 0 text.now read.term read.rest.now) }
-    ensures refused { IfErr result (Refuses (Spells (variables_spec.number_of variables.now among) sum 0 text.now)) }
+    ensures ok { IfOk result (λ read. IsPart (variables_spec.number_of variables.now among) sum 0 text.now read.term read.rest.now) }
+    ensures refused { IfErr result (Refuses (IsPart (variables_spec.number_of variables.now among) sum 0 text.now)) }
 {
     let mut steps = Vec::new(alloc);
     let rest = read_sum(variables, among, 0, text, &mut steps)?;
@@ -183,7 +195,12 @@ pub fn read_expression<'a>(alloc: Global, variables: &[Variable], among: Among, 
 }
 
 /// Reads an expression and the `;` behind it.
-pub fn read_ended_expression<'a>(alloc: Global, variables: &[Variable], among: Among, text: &'a [u8]) -> Result<Expression<'a>, SmallStop>
+pub fn read_ended_expression<'a>(
+    alloc: Global,
+    variables: &[Variable],
+    among: Among,
+    text: &'a [u8],
+) -> Result<Expression<'a>, SmallStop>
     requires { length variables.now ≤ MOST_BYTES }
     ensures ok { IfOk result (λ read. IsEndedExpression (variables_spec.number_of variables.now among) text.now read.term read.rest.now) }
     ensures refused { IfErr result (Refuses (IsEndedExpression (variables_spec.number_of variables.now among) text.now)) }

@@ -8,5 +8,4 @@ ghost use Rattle.comet_syntax.specs.Small.{Spells};
 pub fn one_program()
     ensures { (text : List ℕ) (ds es : List Declaration) (acts bs : List Act) →
         Spells text ds acts → Spells text es bs → (ds ≡ es) × (acts ≡ bs) }
-{
-}
+{}

@@ -27,7 +27,11 @@ struct Target<'a> {
 }
 
 /// Reads an item of a `cout`.
-fn read_item<'a>(alloc: Global, variables: &[Variable], text: &'a [u8]) -> Result<Item<'a>, SmallStop>
+fn read_item<'a>(
+    alloc: Global,
+    variables: &[Variable],
+    text: &'a [u8],
+) -> Result<Item<'a>, SmallStop>
     requires { length variables.now ≤ MOST_BYTES }
     ensures ok { IfOk result (λ item. IsItem variables.now text.now item.act item.rest.now) }
     ensures refused { IfErr result (Refuses (IsItem variables.now text.now)) }
@@ -46,7 +50,12 @@ fn read_item<'a>(alloc: Global, variables: &[Variable], text: &'a [u8]) -> Resul
 }
 
 /// Reads the items of a `cout`, and adds what they do.
-fn read_items<'a>(alloc: Global, variables: &[Variable], text: &'a [u8], acts: &mut Vec<Act>) -> Result<&'a [u8], SmallStop>
+fn read_items<'a>(
+    alloc: Global,
+    variables: &[Variable],
+    text: &'a [u8],
+    acts: &mut Vec<Act>,
+) -> Result<&'a [u8], SmallStop>
     requires { length variables.now ≤ MOST_BYTES }
     ensures ok { IfOk result (λ rest. Adds (AreItems variables.now text.now) rest.now acts.old.items acts.new.items) }
     ensures refused { IfErr result (Refuses (AreItems variables.now text.now)) }
@@ -81,7 +90,12 @@ fn read_target<'a>(variables: &[Variable], text: &'a [u8]) -> Result<Target<'a>,
 }
 
 /// Reads a statement, and adds what it does.
-fn read_statement<'a>(alloc: Global, variables: &[Variable], text: &'a [u8], acts: &mut Vec<Act>) -> Result<&'a [u8], SmallStop>
+fn read_statement<'a>(
+    alloc: Global,
+    variables: &[Variable],
+    text: &'a [u8],
+    acts: &mut Vec<Act>,
+) -> Result<&'a [u8], SmallStop>
     requires { length variables.now ≤ MOST_BYTES }
     ensures ok { IfOk result (λ rest. Adds (IsStatement variables.now text.now) rest.now acts.old.items acts.new.items) }
     ensures refused { IfErr result (Refuses (IsStatement variables.now text.now)) }
@@ -98,7 +112,11 @@ fn read_statement<'a>(alloc: Global, variables: &[Variable], text: &'a [u8], act
 }
 
 /// Reads all statements, up to the end of the text.
-pub fn read_statements(alloc: Global, variables: &[Variable], text: &[u8]) -> Result<Vec<Act>, SmallStop>
+pub fn read_statements(
+    alloc: Global,
+    variables: &[Variable],
+    text: &[u8],
+) -> Result<Vec<Act>, SmallStop>
     requires { length variables.now ≤ MOST_BYTES }
     ensures ok { IfOk result (λ acts. AreStatements variables.now text.now acts.items) }
     ensures refused { IfErr result (λ stop. stop ≡ SmallStop.NotSmall → (acts : List ActOf) → AreStatements variables.now text.now acts → ⊥) }

@@ -26,8 +26,11 @@ pub fn number_of(variables: &[Variable], among: Among, name: &[u8]) -> Option<us
     ensures { result ≡ variables_spec.number_of variables.now among name.now }
 {
     match among {
-        Among::All => variables.iter().position(|variable| variable.name.as_slice() == name),
-        Among::Free => variables.iter().position(|variable| variable.is_free && variable.name.as_slice() == name),
+        Among::All => variables
+            .iter()
+            .position(|variable| variable.name.as_slice() == name),
+        Among::Free => variables.iter().position(|variable| variable.is_free
+            && variable.name.as_slice() == name),
     }
 }
 
@@ -35,7 +38,9 @@ pub fn number_of(variables: &[Variable], among: Among, name: &[u8]) -> Option<us
 fn is_declared(variables: &[Variable], name: &[u8]) -> bool
     ensures { result ≡ list_any (variables_spec.is_named Among.All name.now) variables.now }
 {
-    variables.iter().any(|variable| variable.name.as_slice() == name)
+    variables
+        .iter()
+        .any(|variable| variable.name.as_slice() == name)
 }
 
 /// Whether a lexeme may be the name of a new variable: it is a name that stands for nothing yet.

@@ -6,7 +6,7 @@ use Rattle.comet_syntax.proofs.declaration.read_declarations.Goals as goal
 
 pub returns-in_err-read-clause-refused : goal.returns-in_err-read-clause-refused
 returns-in_err-read-clause-refused c = passes _ _ c.in_err-read.field-0.0 c.from_residual.ensures.1
-  (λ e. stops_list c.loop-variables.invariant c.in-Some.ensures.some (nothing_declared c.as_slice.ensures.value (c.in_err-read.ensures.refused e)))
+    (λ e. stops_list c.loop-variables.invariant c.in-Some.ensures.some (nothing_declared c.as_slice.ensures.value (c.in_err-read.ensures.refused e)))
 
 pub loop-variables-smaller : goal.loop-variables-smaller
 loop-variables-smaller c = omega (arith, declaration_shorter c.in_ok-read.ensures.ok)

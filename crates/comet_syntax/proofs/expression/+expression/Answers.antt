@@ -1,4 +1,3 @@
-use Rattle.std.specs.Prelude.{◌<◌, length}
 use Rattle.std.proofs.Common.{arith}
 use Rattle.comet_syntax.proofs.Exits.{passes}
 use Rattle.comet_syntax.proofs.Lexing.{next_shorter}
@@ -12,11 +11,11 @@ read_primary-returns-then-depth-eq-MOST_PARENTHESES-clause-refused t c = λ e u 
 
 pub read_primary-returns-in_err-behind-clause-refused : goal.read_primary-returns-in_err-behind-clause-refused
 read_primary-returns-in_err-behind-clause-refused t c = passes _ _ c.in_err-behind.field-0.0 c.from_residual.ensures.1
-  (λ e u end. no_inner c.in-Some.ensures.some (c.in_err-behind.ensures.refused e))
+    (λ e u end. no_inner c.in-Some.ensures.some (c.in_err-behind.ensures.refused e))
 
 pub read_primary-returns-in_err-rest-clause-refused : goal.read_primary-returns-in_err-rest-clause-refused
 read_primary-returns-in_err-rest-clause-refused t c = passes _ _ c.in_err-rest.field-0.0 c.from_residual-in_err-rest.ensures.1
-  (λ e u end. not_closed c.in-Some.ensures.some c.in_ok-behind.ensures.ok.spelled c.in_err-rest.ensures.refused)
+    (λ e u end. not_closed c.in-Some.ensures.some c.in_ok-behind.ensures.ok.spelled c.in_err-rest.ensures.refused)
 
 pub read_primary-returns-in-Some-clause-ok : goal.read_primary-returns-in-Some-clause-ok
 read_primary-returns-in-Some-clause-ok t c = closes (omega arith) c.in-Some.ensures.some c.in_ok-behind.ensures.ok c.in_ok-rest.ensures.ok
@@ -26,7 +25,7 @@ read_product-loop-operand-init t c = starts_product c.in_ok-rest.ensures.ok
 
 pub read_product-returns-in_err-rest-2-clause-refused : goal.read_product-returns-in_err-rest-2-clause-refused
 read_product-returns-in_err-rest-2-clause-refused t c = passes _ _ c.in_err-rest-2.field-0.0 c.from_residual-in_err-rest-2.ensures.1
-  (no_operand c.loop-operand.invariant c.in-Some.ensures.some c.in_err-rest-2.ensures.refused)
+    (no_operand c.loop-operand.invariant c.in-Some.ensures.some c.in_err-rest-2.ensures.refused)
 
 pub read_product-loop-operand-smaller : goal.read_product-loop-operand-smaller
 read_product-loop-operand-smaller t c = omega (arith, next_shorter c.in-Some.ensures.some, part_shorter c.in_ok-rest-2.ensures.ok.spelled)
@@ -42,7 +41,7 @@ read_sum-loop-joiner-init t c = starts_sum c.in_ok-rest.ensures.ok
 
 pub read_sum-returns-in_err-rest-2-clause-refused : goal.read_sum-returns-in_err-rest-2-clause-refused
 read_sum-returns-in_err-rest-2-clause-refused t c = passes _ _ c.in_err-rest-2.field-0.0 c.from_residual-in_err-rest-2.ensures.1
-  (no_summand _ c.loop-joiner.invariant c.in-Some.ensures.some c.in_err-rest-2.ensures.refused)
+    (no_summand _ c.loop-joiner.invariant c.in-Some.ensures.some c.in_err-rest-2.ensures.refused)
 
 pub read_sum-loop-joiner-smaller : goal.read_sum-loop-joiner-smaller
 read_sum-loop-joiner-smaller t c = omega (arith, joiner_shorter _ _ _ c.in-Some.ensures.some, part_shorter c.in_ok-rest-2.ensures.ok.spelled)

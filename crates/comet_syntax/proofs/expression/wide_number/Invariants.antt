@@ -8,4 +8,5 @@ abbrev pub invariant-loop-digit : goal.invariant-loop-digit
 invariant-loop-digit l = record {
   so_far : digits_behind l.number (drop l.digit-index l.digits) ≡ number_of_digits l.digits;
   fits : l.number < 2 ^ 64;
-  digits : list_all is_digit (drop l.digit-index l.digits) ≡ true }
+  digits : list_all is_digit (drop l.digit-index l.digits) ≡ true;
+}

@@ -6,4 +6,5 @@ use Rattle.comet_syntax.proofs.lexeme.expect_all.Given as goal
 abbrev pub invariant-loop-lexeme : goal.invariant-loop-lexeme
 invariant-loop-lexeme l = record {
   forward : (end : List ℕ) → NextAll l.rest (map (λ bytes. bytes.now) (drop l.lexeme-index l.lexemes)) end → NextAll l.text (map (λ bytes. bytes.now) l.lexemes) end;
-  backward : (end : List ℕ) → NextAll l.text (map (λ bytes. bytes.now) l.lexemes) end → NextAll l.rest (map (λ bytes. bytes.now) (drop l.lexeme-index l.lexemes)) end }
+  backward : (end : List ℕ) → NextAll l.text (map (λ bytes. bytes.now) l.lexemes) end → NextAll l.rest (map (λ bytes. bytes.now) (drop l.lexeme-index l.lexemes)) end;
+}

@@ -1,6 +1,5 @@
 use Rattle.std.proofs.Common.{◌∙◌, sym}
-use Rattle.comet_syntax.proofs.Lexing.{words_of, words_longest, numbers_of, numbers_longest, signs_longest, nothing_longest}
-use Rattle.comet_syntax.specs.Lexeme.{a_sign}
+use Rattle.comet_syntax.proofs.Lexing.{words_of, words_longest, numbers_of, numbers_longest}
 use Rattle.comet_syntax.proofs.lexeme.lexeme_len.Goals as goal
 
 pub returns-then-is_letter-clause-is_lexeme : goal.returns-then-is_letter-clause-is_lexeme

@@ -7,4 +7,4 @@ returns-then-len-eq0-clause-none c = none_at _ _ _ _ c.space_len.ensures c.split
 
 pub returns-clause-some : goal.returns-clause-some
 returns-clause-some c = next_at _ _ _ _ _ _ c.space_len.ensures c.split_at.ensures.back c.split_at-2.ensures.front c.split_at-2.ensures.back
-  c.lexeme_len-len.ensures.bound (c.lexeme_len-len.ensures.is_lexeme (omega arith)) c.lexeme_len-len.ensures.longest
+    c.lexeme_len-len.ensures.bound (c.lexeme_len-len.ensures.is_lexeme (omega arith)) c.lexeme_len-len.ensures.longest

@@ -5,7 +5,7 @@ use Rattle.comet_syntax.proofs.statement.read_item.Goals as goal
 
 pub returns-in_err-read-clause-refused : goal.returns-in_err-read-clause-refused
 returns-in_err-read-clause-refused c = passes _ _ c.in_err-read.field-0.0 c.from_residual.ensures.1
-  (λ e act end. neither_item c.in_default.ensures.none (c.in_err-read.ensures.refused e))
+    (λ e act end. neither_item c.in_default.ensures.none (c.in_err-read.ensures.refused e))
 
 pub returns-in-Some-clause-ok : goal.returns-in-Some-clause-ok
 returns-in-Some-clause-ok c = end_line c.in-Some.ensures.some

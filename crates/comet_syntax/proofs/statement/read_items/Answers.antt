@@ -10,11 +10,11 @@ loop-item_text-init c = starts_row
 
 pub returns-in_err-item_text-clause-refused : goal.returns-in_err-item_text-clause-refused
 returns-in_err-item_text-clause-refused c = passes _ _ c.in_err-item_text.field-0.0 c.from_residual.ensures.1
-  (λ e. stops_row c.loop-item_text.invariant c.in_err-item_text.ensures.refused)
+    (λ e. stops_row c.loop-item_text.invariant c.in_err-item_text.ensures.refused)
 
 pub returns-in_err-item-clause-refused : goal.returns-in_err-item-clause-refused
 returns-in_err-item-clause-refused c = passes _ _ c.in_err-item.field-0.0 c.from_residual-in_err-item.ensures.1
-  (λ e. stops_item c.loop-item_text.invariant c.in_ok-item_text.ensures.ok (c.in_err-item.ensures.refused e))
+    (λ e. stops_item c.loop-item_text.invariant c.in_ok-item_text.ensures.ok (c.in_err-item.ensures.refused e))
 
 pub returns-in-Some-clause-ok : goal.returns-in-Some-clause-ok
 returns-in-Some-clause-ok c = ends_row c.loop-item_text.invariant c.in_ok-item_text.ensures.ok c.in_ok-item.ensures.ok c.in-Some.ensures.some c.in_ok-push.ensures.items

@@ -10,7 +10,7 @@ loop-rest-init c = starts_body c.new-acts.ensures.items
 
 pub returns-in_err-rest-clause-refused : goal.returns-in_err-rest-clause-refused
 returns-in_err-rest-clause-refused c = passes _ _ c.in_err-rest.field-0.0 c.from_residual.ensures.1
-  (λ e. stops_body c.loop-rest.invariant (λ blank. clash _ blank (sym c.is_blank.ensures ∙ c.loop-rest-test.true)) (c.in_err-rest.ensures.refused e))
+    (λ e. stops_body c.loop-rest.invariant (λ blank. clash _ blank (sym c.is_blank.ensures ∙ c.loop-rest-test.true)) (c.in_err-rest.ensures.refused e))
 
 pub loop-rest-smaller : goal.loop-rest-smaller
 loop-rest-smaller c = omega (arith, statement_shorter c.in_ok-rest.ensures.ok.stands)
