@@ -10,17 +10,20 @@
 
 mod arithmetic;
 mod faults;
+mod fuel;
 mod ids;
 mod input;
 mod int_set;
+pub mod limits;
 mod names;
 mod node_rule;
 mod numbers;
 mod place;
 mod text;
 
-pub use arithmetic::{add, mul, sub};
+pub use arithmetic::{add, div, mul, rem, sub};
 pub use faults::{Limit, NoMemory, NodeFault, RunFault};
+pub use fuel::{Fuel, Spent, Steps};
 pub use ids::{NodeId, VarId};
 pub use input::{Change, Input, NodeValue};
 pub use int_set::IntSet;
