@@ -1,2 +1,5 @@
+pub mod CountLemmas
+pub mod InputLemmas
 pub mod SetLemmas
 pub mod SetSearch
+pub mod TotalLemmas

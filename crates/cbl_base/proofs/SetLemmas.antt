@@ -76,15 +76,15 @@ is_member-without v w s =
 pub is_member-with_members : (v : ℤ) (vs s : List ℤ) → is_member v (with_members vs s) ≡ (is_member v vs || is_member v s)
 is_member-with_members v [] s = refl
 is_member-with_members v (w ∷ vs) s =
-    let first = is_member-with v w (with_members vs s) in
-    let later = is_member-with_members v vs s in
+    let first = is_member-with v w s in
+    let later = is_member-with_members v vs (with_member w s) in
     grind (arith, first, later)
 
 pub is_member-without_members : (v : ℤ) (vs s : List ℤ) → is_member v (without_members vs s) ≡ (not (is_member v vs) && is_member v s)
 is_member-without_members v [] s = refl
 is_member-without_members v (w ∷ vs) s =
-    let first = is_member-without v w (without_members vs s) in
-    let later = is_member-without_members v vs s in
+    let first = is_member-without v w s in
+    let later = is_member-without_members v vs (without_member w s) in
     grind (arith, first, later)
 
 -- the set of a list has the list's members
@@ -134,11 +134,11 @@ rising-without v s rising =
 
 pub rising-with_members : (vs s : List ℤ) → IsRising s → IsRising (with_members vs s)
 rising-with_members [] s rising = rising
-rising-with_members (v ∷ vs) s rising = rising-with v (with_members vs s) (rising-with_members vs s rising)
+rising-with_members (v ∷ vs) s rising = rising-with_members vs (with_member v s) (rising-with v s rising)
 
 pub rising-without_members : (vs s : List ℤ) → IsRising s → IsRising (without_members vs s)
 rising-without_members [] s rising = rising
-rising-without_members (v ∷ vs) s rising = rising-without v (without_members vs s) (rising-without_members vs s rising)
+rising-without_members (v ∷ vs) s rising = rising-without_members vs (without_member v s) (rising-without v s rising)
 
 pub rising-set_of : (xs : List ℤ) → IsRising (set_of xs)
 rising-set_of xs = rising-with_members xs [] tt
