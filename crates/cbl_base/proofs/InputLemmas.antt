@@ -2,7 +2,7 @@
 use Rattle.std.proofs.Common.{◌≡◌, ◌≢◌, ℕ, zero, suc, ℤ, ◌<◌, true, false, List, [], ◌∷◌, ◌+◌, length, get_or, set, take, refl, ap, sym, ◌∙◌, subst, arith}
 use Rattle.std.specs.Prelude.{pos, Option, Some, None, slice_get}
 use Rattle.std.proofs.lemmas.Bool.{both_ways}
-use Rattle.std.proofs.lemmas.List.{length-map, length-set, map-set}
+use Rattle.std.proofs.lemmas.List.{length-map, length-set}
 use Rattle.std.proofs.lemmas.Option.{get_or_from_slice_get}
 use Rattle.cbl_base.specs.declared.input.Input.{Input}
 use Rattle.cbl_base.specs.declared.input.Input.TheVariants.{Int, Set}
@@ -10,6 +10,7 @@ use Rattle.cbl_base.specs.declared.input.Change.{Change}
 use Rattle.cbl_base.specs.declared.input.Change.TheVariants.{Int as IntChange, Set as SetChange}
 use Rattle.std.proofs.lemmas.List.Sums.{fold_more}
 use Rattle.cbl_base.specs.Inputs.{InputKind, number_kind, kind_of, kinds_of, all_numbers, numbers_of, as_inputs}
+use Rattle.cbl_base.proofs.PlaceLemmas.{others_stay}
 use Rattle.cbl_base.specs.Changes.{place_of, edited, after_change, after_changes, IsEdit, IsChange, NoneAt, AreChanges}
 
 -- ---- numbers as inputs
@@ -43,16 +44,9 @@ length-after_changes inputs [] = refl
 length-after_changes inputs (c ∷ cs) = length-after_changes (after_change inputs c) cs ∙ length-after_change inputs c
 
 -- another place stays as it was
-get-set_other : (inputs : List Input) (i k : ℕ) (x : Input) → k ≢ i → slice_get (set inputs i x) k ≡ slice_get inputs k
-get-set_other [] i k x ne = refl
-get-set_other (y ∷ inputs) zero zero x ne = absurd (ne refl)
-get-set_other (y ∷ inputs) zero (suc k) x ne = refl
-get-set_other (y ∷ inputs) (suc i) zero x ne = refl
-get-set_other (y ∷ inputs) (suc i) (suc k) x ne = get-set_other inputs i k x (λ e. ne (ap suc e))
-
 pub get-after_change_other : (inputs : List Input) (c : Change) (k : ℕ) → k ≢ place_of c → slice_get (after_change inputs c) k ≡ slice_get inputs k
-get-after_change_other inputs (IntChange place old new) k ne = get-set_other inputs place k (Int new) ne
-get-after_change_other inputs (SetChange place added removed) k ne = get-set_other inputs place k _ ne
+get-after_change_other inputs (IntChange place old new) k ne = others_stay inputs place k (Int new) ne
+get-after_change_other inputs (SetChange place added removed) k ne = others_stay inputs place k _ ne
 
 pub get-after_changes_other : (inputs : List Input) (cs : List Change) (k : ℕ) → NoneAt k cs → slice_get (after_changes inputs cs) k ≡ slice_get inputs k
 get-after_changes_other inputs [] k far = refl

@@ -19,6 +19,8 @@ mod names;
 mod node_rule;
 mod numbers;
 mod place;
+#[cfg(test)]
+mod tests;
 mod text;
 
 pub use arithmetic::{add, div, mul, rem, sub};
