@@ -1,2 +1,9 @@
 pub mod Arithmetic
+pub mod Changes
+pub mod Counts
 pub mod Faults
+pub mod Inputs
+pub mod NodeLaw
+pub mod NumberRule
+pub mod Sets
+pub mod Totals

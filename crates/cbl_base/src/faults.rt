@@ -53,6 +53,35 @@ pub enum RunFault {
     UserSpent,
 }
 
+/// Why a probe of a node gives no value.
+#[derive(Clone, Copy, PartialEq, Eq, Debug)]
+pub enum NodeFault {
+    Run(RunFault),
+    NoMemory,
+}
+
+impl From<NoMemory> for NodeFault {
+    ghost use Rattle.std.specs.Prelude.{◌≡◌};
+    ghost use Rattle.cbl_base.specs.declared.faults.NodeFault.TheVariants.{NoMemory as WithoutMemory};
+
+    ghost from_gives = { λ _ fault. fault ≡ WithoutMemory };
+
+    fn from(_error: NoMemory) -> NodeFault {
+        NodeFault::NoMemory
+    }
+}
+
+impl From<RunFault> for NodeFault {
+    ghost use Rattle.std.specs.Prelude.{◌≡◌};
+    ghost use Rattle.cbl_base.specs.declared.faults.NodeFault.TheVariants.{Run};
+
+    ghost from_gives = { λ fault made. made ≡ Run fault };
+
+    fn from(fault: RunFault) -> NodeFault {
+        NodeFault::Run(fault)
+    }
+}
+
 impl Limit {
     /// The word that a user sees for what there is too many of.
     pub fn text(self) -> &'static str

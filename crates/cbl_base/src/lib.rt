@@ -1,22 +1,38 @@
-//! What every crate of the project names: places in a text, the faults of a run, texts and their
-//! lists, and exact arithmetic on 64-bit signed numbers.
+//! What every crate of the project names: places in a text, the faults of a run, texts and lists of
+//! numbers, sets, exact arithmetic on 64-bit signed numbers, and the law of a node.
 //!
-//! It knows nothing of programs, solvers or files. The layers above use that `add`, `sub` and `mul`
-//! give the exact result or refuse exactly where it doesn't fit, and that a `Text` is seen as its
-//! list of bytes.
+//! It knows nothing of programs, solvers or files, and of no operation by name. The layers above use
+//! that `add`, `sub` and `mul` give the exact result or refuse exactly where it doesn't fit, that a
+//! `Text` is seen as its list of bytes, `Numbers` as its list of numbers and an `IntSet` as the
+//! rising list of its members, and that whatever is a `NodeRule` answers by its rule of the inputs
+//! that it holds.
 #![tactic(auto)]
 
 mod arithmetic;
 mod faults;
+mod fuel;
+mod ids;
+mod input;
+mod int_set;
+pub mod limits;
 mod names;
+mod node_rule;
+mod numbers;
 mod place;
-mod text;
-
-pub use arithmetic::{add, mul, sub};
-pub use faults::{Limit, NoMemory, RunFault};
-pub use names::Names;
-pub use place::Place;
-pub use text::Text;
-
 #[cfg(test)]
 mod tests;
+mod text;
+#[cfg(test)]
+mod text_tests;
+
+pub use arithmetic::{add, div, mul, rem, sub};
+pub use faults::{Limit, NoMemory, NodeFault, RunFault};
+pub use fuel::{Fuel, Spent, Steps};
+pub use ids::{NodeId, VarId};
+pub use input::{Change, Input, NodeValue};
+pub use int_set::IntSet;
+pub use names::Names;
+pub use node_rule::NodeRule;
+pub use numbers::Numbers;
+pub use place::Place;
+pub use text::Text;
