@@ -8,10 +8,10 @@ use cbl_base::NoMemory;
 ///
 /// Its meanings are `takes` (which requests a state takes), `after` (the state after a request),
 /// `answer` (the reply) and `can_have` (which replies a request can have, whatever the state is).
-pub trait Replays: Send + Drop {
-    type Request: Send + Drop;
+pub trait Replays: Drop {
+    type Request: Drop;
 
-    type Reply: Send + Drop;
+    type Reply: Drop;
 
     ghost takes: { Self → Self.Request → Type 0 };
 

@@ -9,12 +9,13 @@
 mod arithmetic;
 mod faults;
 mod names;
+mod numbers;
 mod place;
 mod text;
-
 
 pub use arithmetic::{add, mul, sub};
 pub use faults::{Limit, NoMemory, RunFault};
 pub use names::Names;
+pub use numbers::Numbers;
 pub use place::Place;
 pub use text::Text;
