@@ -1,0 +1,3 @@
+pub mod Offers
+pub mod Steps
+pub mod Asked

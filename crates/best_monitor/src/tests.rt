@@ -1,0 +1,176 @@
+ghost use Rattle.std.specs.Prelude.{◌≡◌, ◌<◌, [], ◌∷◌, ◌++◌, length, IfOk, IfSome};
+ghost use Rattle.best_monitor.specs.declared.request.Reply.{Reply};
+ghost use Rattle.best_turn.specs.Seats.{start_of, IsSeatOf, view_of};
+ghost use Rattle.best_monitor.specs.Board.{monitor_of};
+
+use super::*;
+use best_turn::{Front, Replays, Seat, Turn};
+use cbl_base::{NoMemory, Numbers};
+use std::alloc::Global;
+use std::sync::Wait;
+use std::test::*;
+use std::thread;
+use std::thread::Threads;
+
+fn board_of_one(alloc: Global) -> Result<Board, NoMemory>
+    ensures { IfOk result (λ b. length b ≡ 1) }
+{
+    let mut board = Board::new(alloc);
+    board.declare()?;
+    Ok(board)
+}
+
+fn report(alloc: Global, value: i64, list: &[i64]) -> Result<Request, NoMemory>
+    ensures { IfOk result (λ q. monitor_of q ≡ 0) }
+{
+    Ok(Request::Report {
+        monitor: 0,
+        value,
+        list: Numbers::from_slice(alloc, list)?,
+    })
+}
+
+#[test]
+fn an_equal_report_does_not_replace(rt: HostRuntime) -> Result<(), Fail> {
+    let board = board_of_one(rt.alloc())?;
+    let (turn, mut seat) = Turn::make(rt.alloc(), board)?;
+    let (reply, front) = seat.call(&rt, &turn, 0, report(rt.alloc(), 5, &[1])?)?;
+    assert!(rt; matches!(reply, Reply::Truth(true)));
+    assert_eq!(rt; front, Front(1));
+    let (reply, front) = seat.call(&rt, &turn, 0, report(rt.alloc(), 5, &[2])?)?;
+    assert!(rt; matches!(reply, Reply::Truth(false)));
+    assert_eq!(rt; front, Front(2));
+    Ok(())
+}
+
+#[test]
+fn a_list_is_copied_where_there_is_room(rt: HostRuntime) -> Result<(), Fail> {
+    let mut board = board_of_one(rt.alloc())?;
+    let copy = |room| Request::Copy { monitor: 0, room };
+    assert!(rt; matches!(board.reply(&copy(1))?, Reply::Missing));
+    board.step(&report(rt.alloc(), 5, &[1])?)?;
+    assert!(rt; matches!(board.reply(&copy(0))?, Reply::Long(1)));
+    let Reply::List(list) = board.reply(&copy(1))? else {
+        return Err(Fail::new("no list"));
+    };
+    assert_eq!(rt; list.len(), 1);
+    assert_eq!(rt; list.get(0), Some(1));
+    Ok(())
+}
+
+// Reports 1,000 values from `from` down, each with itself as its list.
+fn report_all<R: Wait>(
+    rt: &R,
+    alloc: Global,
+    turn: &Turn<Board>,
+    mut seat: Seat<Board>,
+    iteration: u32,
+    from: i64,
+) -> Option<Seat<Board>>
+    requires seat { IsSeatOf turn.now seat }
+    requires declared { 0 < length (start_of turn.now) }
+    ensures seat { IfSome result (λ s. IsSeatOf turn.now s) }
+    ensures numbers { IfSome result (λ s. (length (view_of s).made ≡ length (view_of seat).made) × ((view_of s).rest ≡ (view_of seat).rest)) }
+{
+    for i in 0..1000i64 {
+        let value = from.wrapping_sub(i);
+        let request = report(alloc, value, &[value]).ok()?;
+        let Ok(_) = seat.call(rt, turn, iteration, request) else {
+            return None;
+        };
+    }
+    Some(seat)
+}
+
+// Two threads report through seats of their own. What the board's best is then, and how long the history.
+#[tactic(auto, using(crate::specs::BoardLaws::length_fold))]
+fn report_by_two<R: Threads + Wait + Sync>(
+    rt: &R,
+    alloc: Global,
+) -> Option<(Result<Reply, NoMemory>, usize)> {
+    let board = board_of_one(alloc).ok()?;
+    let (turn, mut one) = Turn::make(alloc, board).ok()?;
+    let two = one.split(&turn);
+    let shared = &turn;
+    let (a, b) = thread::join(
+        rt,
+        move || -> Option<Seat<Board>>
+            requires { IsSeatOf shared.now one × (0 < length (start_of shared.now)) }
+            ensures { IfSome result (λ s. IsSeatOf shared.entry.now s × (length (view_of s).made ≡ length (view_of one).made) × ((view_of s).rest ≡ (view_of one).rest)) }
+        { report_all(rt, alloc, shared, one, 0, 5000) },
+        move || -> Option<Seat<Board>>
+            requires { IsSeatOf shared.now two × (0 < length (start_of shared.now)) }
+            ensures { IfSome result (λ s. IsSeatOf shared.entry.now s × (length (view_of s).made ≡ length (view_of two).made) × ((view_of s).rest ≡ (view_of two).rest)) }
+        { report_all(rt, alloc, shared, two, 1, 3000) },
+    );
+    let mut last = a?;
+    last.join(&turn, b?);
+    let (state, history) = turn.close(last);
+    Some((state.reply(&Request::Value { monitor: 0 }), history.len()))
+}
+
+#[test]
+fn two_threads_report_and_the_least_stays(rt: HostRuntime) -> Result<(), Fail> {
+    let Some((best, calls)) = report_by_two(&rt, rt.alloc()) else {
+        return Err(Fail::new("no memory"));
+    };
+    assert!(rt; matches!(best, Ok(Reply::Number(2001))));
+    assert_eq!(rt; calls, 2000);
+    Ok(())
+}
+
+// Asks twice, through any port.
+fn ask_twice<P: MonitorPort<Board>>(
+    port: &mut P,
+    first: Request,
+    second: Request,
+) -> Result<Reply, PortStop>
+    requires { P.takes port.old first × P.takes port.old second }
+    ensures asked { IfOk result (λ r. (x : Reply) × (P.asked port.new ≡ P.asked port.old ++ (first, x) ∷ [] ++ (second, r) ∷ [])) }
+    ensures base { P.base port.new ≡ P.base port.old }
+{
+    port.ask(first)?;
+    let reply = port.ask(second)?;
+    Ok(reply)
+}
+
+#[test]
+#[tactic(auto, using(crate::proofs::Asked::seat_of_base))]
+fn a_port_asks_through_its_seat(rt: HostRuntime) -> Result<(), Fail> {
+    let board = board_of_one(rt.alloc())?;
+    let (turn, seat) = Turn::make(rt.alloc(), board)?;
+    let mut port = SeatPort::new(&rt, &turn, seat, 0);
+    let reply = ask_twice(
+        &mut port,
+        report(rt.alloc(), 5, &[1])?,
+        Request::Has { monitor: 0 },
+    )?;
+    assert!(rt; matches!(reply, Reply::Truth(true)));
+    let seat = port.into_seat();
+    let (_, history) = turn.close(seat);
+    assert_eq!(rt; history.len(), 2);
+    Ok(())
+}
+
+#[test]
+fn a_journal_keeps_its_loops(rt: HostRuntime) -> Result<(), Fail> {
+    let mut journal = Journal::new(rt.alloc());
+    assert!(rt; journal.is_empty());
+    let mut entries = Vec::new(rt.alloc());
+    entries.push(best_turn::Entry {
+        iteration: 3,
+        request: Request::Has { monitor: 0 },
+        reply: Reply::Truth(false),
+    })?;
+    journal.push(LoopHistory {
+        iterations: 4,
+        entries: Entries::from_vec(entries),
+    })?;
+    assert_eq!(rt; journal.len(), 1);
+    let Some(history) = journal.get(0) else {
+        return Err(Fail::new("no loop"));
+    };
+    assert_eq!(rt; (history.iterations, history.entries.len()), (4, 1));
+    assert!(rt; journal.get(1).is_none());
+    Ok(())
+}
