@@ -1,6 +1,7 @@
 -- Expressions. A sum is a chain of products joined by `+` and `-`, a product a chain of primaries joined
 -- by `*`, and a primary a number, a variable, or a sum in parentheses. A chain groups from the left, and
--- goes on as long as the next lexeme joins. Parentheses stand at most 198 deep. From the book.
+-- goes on as long as the next lexeme joins. From the book. That parentheses stand at most 198 deep, and
+-- that numbers have at most 63 bits, are rules of this project.
 use Rattle.std.specs.Prelude.{◌≡◌, ◌+◌, ◌*◌, ◌-◌, ◌<◌, ◌^◌, ℕ, pos, List, [], ◌∷◌, Option, Some, None, option_map, if◌then◌else◌, nat_lt, codes}
 use Rattle.comet_syntax.specs.declared.term.Operation.TheVariants.{Add, Sub, Mul}
 use Rattle.comet_syntax.specs.declared.limits.TheConstants.{MOST_PARENTHESES}

@@ -87,8 +87,10 @@ fn read_new_name<'a>(
     variables: &[Variable],
     text: &'a [u8],
 ) -> Result<Lexeme<'a>, SmallStop>
-    ensures ok { IfOk result (λ name. Next text.now name.bytes.now name.rest.now × (variables_spec.is_new solver.now variables.now name.bytes.now ≡ true)) }
-    ensures refused { IfErr result (λ stop. (name rest : List ℕ) → Next text.now name rest → variables_spec.is_new solver.now variables.now name ≡ true → ⊥) }
+    ensures ok { IfOk result (λ name.
+        Next text.now name.bytes.now name.rest.now × (variables_spec.is_new solver.now variables.now name.bytes.now ≡ true)) }
+    ensures refused { IfErr result (λ stop.
+        (name rest : List ℕ) → Next text.now name rest → variables_spec.is_new solver.now variables.now name ≡ true → ⊥) }
 {
     let name = next_lexeme(text).ok_or(SmallStop::NotSmall)?;
     if is_new(solver, variables, name.bytes) {
@@ -106,8 +108,10 @@ fn read_declaration<'a>(
     text: &'a [u8],
 ) -> Result<Declared<'a>, SmallStop>
     requires { length variables.now ≤ MOST_BYTES }
-    ensures ok { IfOk result (λ read. IsDeclaration solver.now variables.now text.now read.name read.declaration read.rest.now) }
-    ensures refused { IfErr result (λ stop. stop ≡ SmallStop.NotSmall → (name : List ℕ) (declaration : DeclarationOf) (rest : List ℕ) →
+    ensures ok { IfOk result (λ read.
+        IsDeclaration solver.now variables.now text.now read.name read.declaration read.rest.now) }
+    ensures refused { IfErr result (λ stop.
+        stop ≡ SmallStop.NotSmall → (name : List ℕ) (declaration : DeclarationOf) (rest : List ℕ) →
         IsDeclaration solver.now variables.now text.now name declaration rest → ⊥) }
 {
     let naming = expect_all(text, &["var", "{", "int", "}"])?;
@@ -141,9 +145,11 @@ pub fn read_declarations<'a>(
     text: &'a [u8],
 ) -> Result<Declarations<'a>, SmallStop>
     requires { length text.now ≤ MOST_BYTES }
-    ensures ok { IfOk result (λ read. AreDeclarations solver.now [] text.now read.declarations.items read.variables.items read.rest.now) }
+    ensures ok { IfOk result (λ read.
+        AreDeclarations solver.now [] text.now read.declarations.items read.variables.items read.rest.now) }
     ensures few { IfOk result (λ read. length read.variables.items ≤ MOST_BYTES) }
-    ensures refused { IfErr result (λ stop. stop ≡ SmallStop.NotSmall → (declarations : List DeclarationOf) (variables : List VariableOf) (rest : List ℕ) →
+    ensures refused { IfErr result (λ stop.
+        stop ≡ SmallStop.NotSmall → (declarations : List DeclarationOf) (variables : List VariableOf) (rest : List ℕ) →
         AreDeclarations solver.now [] text.now declarations variables rest → ⊥) }
 {
     let mut variables = Vec::new(alloc);

@@ -2,7 +2,7 @@
 ghost use Rattle.std.specs.Prelude.{◌≡◌, true, ◌≤◌, ◌<◌, ◌^◌, ◌++◌, ℕ, pos, List, [], ◌∷◌, length, IfOk, IfErr, IfSome, IfNone, SomeIff, Some, None, codes, nat_lt, if◌then◌else◌, option_map};
 ghost use Rattle.std.specs.List.{list_all};
 ghost use Rattle.comet_syntax.specs.Lexeme.{Next, NotNext, is_digit, is_number};
-ghost use Rattle.comet_syntax.specs.Variables as variables_spec;
+ghost use Rattle.comet_syntax.specs.Variables.{number_of as numbers};
 ghost use Rattle.comet_syntax.specs.Tree.{Tree, postorder};
 ghost use Rattle.comet_syntax.specs.Expression.{number_of_digits, leaf_of, sum, product, primary, IsEndedExpression, IsPart};
 ghost use Rattle.comet_syntax.specs.Reading.{Reads, Refuses, IsSumJoiner};
@@ -54,8 +54,9 @@ fn number(digits: &[u8]) -> Option<i64>
 /// none.
 fn leaf(variables: &[Variable], among: Among, lexeme: &[u8]) -> Option<Step>
     requires { length variables.now ≤ MOST_BYTES }
-    ensures some { IfSome result (λ step. (term : Tree) × (postorder term ≡ step ∷ []) × (leaf_of (variables_spec.number_of variables.now among) lexeme.now ≡ Some term)) }
-    ensures none { IfNone result (leaf_of (variables_spec.number_of variables.now among) lexeme.now ≡ None) }
+    ensures some { IfSome result (λ step.
+        (term : Tree) × (postorder term ≡ step ∷ []) × (leaf_of (numbers variables.now among) lexeme.now ≡ Some term)) }
+    ensures none { IfNone result (leaf_of (numbers variables.now among) lexeme.now ≡ None) }
 {
     if is_number(lexeme) {
         let number = number(lexeme)?;
@@ -98,8 +99,9 @@ fn read_sum<'a>(
 ) -> Result<&'a [u8], SmallStop>
     requires shallow { depth ≤ MOST_PARENTHESES }
     requires few { length variables.now ≤ MOST_BYTES }
-    ensures ok { IfOk result (λ rest. Reads (variables_spec.number_of variables.now among) sum depth text.now rest.now steps.old.items steps.new.items) }
-    ensures refused { IfErr result (Refuses (IsPart (variables_spec.number_of variables.now among) sum depth text.now)) }
+    ensures ok { IfOk result (λ rest.
+        Reads (numbers variables.now among) sum depth text.now rest.now steps.old.items steps.new.items) }
+    ensures refused { IfErr result (Refuses (IsPart (numbers variables.now among) sum depth text.now)) }
 {
     let mut rest = read_product(variables, among, depth, text, steps)?;
     while let Some(joiner) = sum_joiner(rest) {
@@ -120,8 +122,9 @@ fn read_product<'a>(
 ) -> Result<&'a [u8], SmallStop>
     requires shallow { depth ≤ MOST_PARENTHESES }
     requires few { length variables.now ≤ MOST_BYTES }
-    ensures ok { IfOk result (λ rest. Reads (variables_spec.number_of variables.now among) product depth text.now rest.now steps.old.items steps.new.items) }
-    ensures refused { IfErr result (Refuses (IsPart (variables_spec.number_of variables.now among) product depth text.now)) }
+    ensures ok { IfOk result (λ rest.
+        Reads (numbers variables.now among) product depth text.now rest.now steps.old.items steps.new.items) }
+    ensures refused { IfErr result (Refuses (IsPart (numbers variables.now among) product depth text.now)) }
 {
     let mut rest = read_primary(variables, among, depth, text, steps)?;
     while let Some(operand) = skip(rest, b"*") {
@@ -142,8 +145,9 @@ fn read_primary<'a>(
 ) -> Result<&'a [u8], SmallStop>
     requires shallow { depth ≤ MOST_PARENTHESES }
     requires few { length variables.now ≤ MOST_BYTES }
-    ensures ok { IfOk result (λ rest. Reads (variables_spec.number_of variables.now among) primary depth text.now rest.now steps.old.items steps.new.items) }
-    ensures refused { IfErr result (Refuses (IsPart (variables_spec.number_of variables.now among) primary depth text.now)) }
+    ensures ok { IfOk result (λ rest.
+        Reads (numbers variables.now among) primary depth text.now rest.now steps.old.items steps.new.items) }
+    ensures refused { IfErr result (Refuses (IsPart (numbers variables.now among) primary depth text.now)) }
 {
     if let Some(inner) = skip(text, b"(") {
         if depth == MOST_PARENTHESES {
@@ -166,8 +170,10 @@ fn read_leaf<'a>(
 ) -> Result<&'a [u8], SmallStop>
     requires few { length variables.now ≤ MOST_BYTES }
     requires bare { NotNext text.now (codes "(") }
-    ensures ok { IfOk result (λ rest. (depth : ℕ) → Reads (variables_spec.number_of variables.now among) primary depth text.now rest.now steps.old.items steps.new.items) }
-    ensures refused { IfErr result (λ stop. (depth : ℕ) → Refuses (IsPart (variables_spec.number_of variables.now among) primary depth text.now) stop) }
+    ensures ok { IfOk result (λ rest.
+        (depth : ℕ) → Reads (numbers variables.now among) primary depth text.now rest.now steps.old.items steps.new.items) }
+    ensures refused { IfErr result (λ stop.
+        (depth : ℕ) → Refuses (IsPart (numbers variables.now among) primary depth text.now) stop) }
 {
     let next = next_lexeme(text).ok_or(SmallStop::NotSmall)?;
     let step = leaf(variables, among, next.bytes).ok_or(SmallStop::NotSmall)?;
@@ -183,8 +189,9 @@ pub fn read_expression<'a>(
     text: &'a [u8],
 ) -> Result<Expression<'a>, SmallStop>
     requires { length variables.now ≤ MOST_BYTES }
-    ensures ok { IfOk result (λ read. IsPart (variables_spec.number_of variables.now among) sum 0 text.now read.term read.rest.now) }
-    ensures refused { IfErr result (Refuses (IsPart (variables_spec.number_of variables.now among) sum 0 text.now)) }
+    ensures ok { IfOk result (λ read.
+        IsPart (numbers variables.now among) sum 0 text.now read.term read.rest.now) }
+    ensures refused { IfErr result (Refuses (IsPart (numbers variables.now among) sum 0 text.now)) }
 {
     let mut steps = Vec::new(alloc);
     let rest = read_sum(variables, among, 0, text, &mut steps)?;
@@ -202,8 +209,9 @@ pub fn read_ended_expression<'a>(
     text: &'a [u8],
 ) -> Result<Expression<'a>, SmallStop>
     requires { length variables.now ≤ MOST_BYTES }
-    ensures ok { IfOk result (λ read. IsEndedExpression (variables_spec.number_of variables.now among) text.now read.term read.rest.now) }
-    ensures refused { IfErr result (Refuses (IsEndedExpression (variables_spec.number_of variables.now among) text.now)) }
+    ensures ok { IfOk result (λ read.
+        IsEndedExpression (numbers variables.now among) text.now read.term read.rest.now) }
+    ensures refused { IfErr result (Refuses (IsEndedExpression (numbers variables.now among) text.now)) }
 {
     let read = read_expression(alloc, variables, among, text)?;
     let rest = expect(read.rest, b";")?;

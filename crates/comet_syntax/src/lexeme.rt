@@ -195,7 +195,8 @@ pub fn is_name(bytes: &[u8]) -> bool
 fn sign_len(text: &[u8]) -> usize
     ensures bound { result ≤ length text.now }
     ensures sign { 0 < result → lexeme.is_sign (take result text.now) ≡ true }
-    ensures longest { (sign rest : List ℕ) → text.now ≡ sign ++ rest → lexeme.is_sign sign ≡ true → length sign ≤ result }
+    ensures longest { (sign rest : List ℕ) →
+        text.now ≡ sign ++ rest → lexeme.is_sign sign ≡ true → length sign ≤ result }
 {
     for shorter in 0..LONGEST_SIGN {
         let len = LONGEST_SIGN - shorter;
@@ -210,7 +211,8 @@ fn sign_len(text: &[u8]) -> usize
 fn lexeme_len(text: &[u8]) -> usize
     ensures bound { result ≤ length text.now }
     ensures is_lexeme { 0 < result → IsLexeme (take result text.now) }
-    ensures longest { (bytes rest : List ℕ) → text.now ≡ bytes ++ rest → IsLexeme bytes → length bytes ≤ result }
+    ensures longest { (bytes rest : List ℕ) →
+        text.now ≡ bytes ++ rest → IsLexeme bytes → length bytes ≤ result }
 {
     match text.split_first() {
         None => 0,
@@ -270,7 +272,8 @@ pub fn expect<'a>(text: &'a [u8], bytes: &[u8]) -> Result<&'a [u8], SmallStop>
 /// where they aren't.
 pub fn expect_all<'a>(text: &'a [u8], lexemes: &[&str]) -> Result<&'a [u8], SmallStop>
     ensures ok { IfOk result (λ rest. NextAll text.now (map (λ bytes. bytes.now) lexemes.now) rest.now) }
-    ensures refused { IfErr result (λ stop. (rest : List ℕ) → NextAll text.now (map (λ bytes. bytes.now) lexemes.now) rest → ⊥) }
+    ensures refused { IfErr result (λ stop.
+        (rest : List ℕ) → NextAll text.now (map (λ bytes. bytes.now) lexemes.now) rest → ⊥) }
 {
     let mut rest = text;
     for lexeme in lexemes {

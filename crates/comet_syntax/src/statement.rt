@@ -57,7 +57,8 @@ fn read_items<'a>(
     acts: &mut Vec<Act>,
 ) -> Result<&'a [u8], SmallStop>
     requires { length variables.now ≤ MOST_BYTES }
-    ensures ok { IfOk result (λ rest. Adds (AreItems variables.now text.now) rest.now acts.old.items acts.new.items) }
+    ensures ok { IfOk result (λ rest.
+        Adds (AreItems variables.now text.now) rest.now acts.old.items acts.new.items) }
     ensures refused { IfErr result (Refuses (AreItems variables.now text.now)) }
 {
     let mut rest = text;
@@ -76,7 +77,8 @@ fn read_items<'a>(
 fn read_target<'a>(variables: &[Variable], text: &'a [u8]) -> Result<Target<'a>, SmallStop>
     requires { length variables.now ≤ MOST_BYTES }
     ensures ok { IfOk result (λ target. IsTarget variables.now text.now target.variable target.rest.now) }
-    ensures refused { IfErr result (λ stop. (variable : ℕ) (rest : List ℕ) → IsTarget variables.now text.now variable rest → ⊥) }
+    ensures refused { IfErr result (λ stop.
+        (variable : ℕ) (rest : List ℕ) → IsTarget variables.now text.now variable rest → ⊥) }
 {
     let name = next_lexeme(text).ok_or(SmallStop::NotSmall)?;
     if !is_name(name.bytes) {
@@ -97,7 +99,8 @@ fn read_statement<'a>(
     acts: &mut Vec<Act>,
 ) -> Result<&'a [u8], SmallStop>
     requires { length variables.now ≤ MOST_BYTES }
-    ensures ok { IfOk result (λ rest. Adds (IsStatement variables.now text.now) rest.now acts.old.items acts.new.items) }
+    ensures ok { IfOk result (λ rest.
+        Adds (IsStatement variables.now text.now) rest.now acts.old.items acts.new.items) }
     ensures refused { IfErr result (Refuses (IsStatement variables.now text.now)) }
 {
     if let Some(items) = skip(text, b"cout") {
@@ -119,7 +122,8 @@ pub fn read_statements(
 ) -> Result<Vec<Act>, SmallStop>
     requires { length variables.now ≤ MOST_BYTES }
     ensures ok { IfOk result (λ acts. AreStatements variables.now text.now acts.items) }
-    ensures refused { IfErr result (λ stop. stop ≡ SmallStop.NotSmall → (acts : List ActOf) → AreStatements variables.now text.now acts → ⊥) }
+    ensures refused { IfErr result (λ stop.
+        stop ≡ SmallStop.NotSmall → (acts : List ActOf) → AreStatements variables.now text.now acts → ⊥) }
 {
     let mut acts = Vec::new(alloc);
     let mut rest = text;

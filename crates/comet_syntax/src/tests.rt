@@ -263,6 +263,8 @@ fn refuses_what_is_not_small(rt: HostRuntime) {
 
 #[test]
 fn reads_up_to_its_limits(rt: HostRuntime) -> Result<(), Fail> {
+    assert_eq!(rt; MOST_PARENTHESES, 198);
+    assert_eq!(rt; MOST_BYTES, 1024 * 1024);
     let deep = in_parentheses(rt.alloc(), MOST_PARENTHESES)?;
     let program = read_small(rt.alloc(), deep.as_bytes())?;
     assert_eq!(rt; listing(rt.alloc(), &program)?.as_str(), "print 7; ");
