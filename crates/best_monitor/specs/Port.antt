@@ -1,5 +1,5 @@
 -- What a port does with the rest of a journal that it replays. A rule of this project.
-use Rattle.std.specs.Prelude.{◌≡◌, ◌≢◌, ◌==◌, ℕ, cond, Option, None, Some, List, [], ◌∷◌, map}
+use Rattle.std.specs.Prelude.{◌≡◌, ◌≢◌, ◌==◌, ℕ, cond, Option, None, Some, List, [], ◌∷◌, map, slice_get}
 use Rattle.best_turn.specs.Seated.{TableId}
 use Rattle.best_turn.specs.declared.replays.Entry.{Entry}
 use Rattle.best_turn.specs.declared.view.View.{View}
@@ -39,15 +39,10 @@ module _ {Q R : Type 0} where
   StopsAsTold rest q odds NoMemory = Unit {0}
   StopsAsTold rest q odds (Differs line asked had) = GoesAstray rest q × (odds ≡ (line, asked, had))
 
-  -- this holds of each request and reply
-  abbrev pub HoldsEach : (Q → R → Type 0) → List (Q × R) → Type 0
-  HoldsEach P [] = Unit {0}
-  HoldsEach P (e ∷ es) = P e.0 e.1 × HoldsEach P es
-
   -- this holds of each request and reply of a rest, if one is told
   abbrev pub HoldsAll : (Q → R → Type 0) → Option (List (Q × R)) → Type 0
   HoldsAll P None = Unit {0}
-  HoldsAll P (Some rest) = HoldsEach P rest
+  HoldsAll P (Some rest) = (i : ℕ) (e : Q × R) → slice_get rest i ≡ Some e → P e.0 e.1
 
   -- what was asked in the name of an iteration under the first of these numbers
   abbrev pub asked_in : ℕ → List (ℕ × List (Entry Q R)) → List (Q × R)

@@ -1,12 +1,14 @@
-ghost use Rattle.std.specs.Prelude.{◌≡◌, ◌<◌, [], ◌∷◌, ◌++◌, length, IfOk, IfSome};
+ghost use Rattle.std.specs.Prelude.{◌≡◌, ◌<◌, ℕ, List, [], ◌∷◌, ◌++◌, Option, None, Some, length, IfOk, IfSome};
 ghost use Rattle.best_monitor.specs.declared.request.Reply.{Reply};
 ghost use Rattle.best_turn.specs.Seats.{start_of, IsSeatOf, view_of};
 ghost use Rattle.best_monitor.specs.Board.{monitor_of};
+ghost use Rattle.best_monitor.specs.Port.{StopsAsTold, GoesAstray};
 
 use super::*;
 use best_turn::{Front, Replays, Seat, Turn};
-use cbl_base::{NoMemory, Numbers};
+use cbl_base::{NoMemory, Numbers, Text};
 use std::alloc::Global;
+use std::collections::VecDeque;
 use std::sync::Wait;
 use std::test::*;
 use std::thread;
@@ -172,5 +174,101 @@ fn a_journal_keeps_its_loops(rt: HostRuntime) -> Result<(), Fail> {
     };
     assert_eq!(rt; (history.iterations, history.entries.len()), (4, 1));
     assert!(rt; journal.get(1).is_none());
+    Ok(())
+}
+
+// A state that answers each request with itself.
+#[derive(Drop)]
+struct Echo;
+
+impl Replays for Echo {
+    type Request = u64;
+
+    type Reply = u64;
+
+    ghost takes = { λ s q. Unit {0} };
+
+    ghost after = { λ s q. s };
+
+    ghost answer = { λ s q. q };
+
+    ghost can_have = { λ q r. Unit {0} };
+
+    fn reply(&self, request: &u64) -> Result<u64, NoMemory> {
+        Ok(*request)
+    }
+
+    fn step(&mut self, request: &u64) -> Result<u64, NoMemory> {
+        Ok(*request)
+    }
+
+    ghost takes_same = { λ s q p t. ((λ a. a), (λ a. a)) };
+
+    ghost answer_had = { λ s q t. tt };
+}
+
+// A port that replays these requests and replies.
+#[derive(Drop)]
+struct ReplayPort {
+    alloc: Global,
+    asked: Vec<(u64, u64)>,
+    rest: VecDeque<(u64, u64)>,
+}
+
+impl MonitorPort<Echo> for ReplayPort {
+    ghost asked = { λ p. p.asked.items };
+
+    ghost rest = { λ p. Some p.rest.items };
+
+    ghost odds = { λ p q. (q, [], []) };
+
+    ghost takes = { λ p q. Unit {0} };
+
+    ghost base = { λ p. None };
+
+    fn ask(&mut self, request: u64) -> Result<u64, PortStop> {
+        let Ok(()) = self.asked.reserve(1) else {
+            return Err(PortStop::NoMemory);
+        };
+        let Some((next, reply)) = self.rest.front().copied() else {
+            return Err(differs(self.alloc, request));
+        };
+        if next != request {
+            return Err(differs(self.alloc, request));
+        }
+        let _ = self.rest.pop_front();
+        self.asked.push_reserved((request, reply));
+        Ok(reply)
+    }
+
+    ghost rest_had = { λ p i e h. tt };
+}
+
+fn differs(alloc: Global, request: u64) -> PortStop
+    ensures { (rest : Option (List (ℕ × ℕ))) → GoesAstray rest request → StopsAsTold rest request (request, [], []) result }
+{
+    let Ok(asked) = Text::from_slice(alloc, &[]) else {
+        return PortStop::NoMemory;
+    };
+    let Ok(had) = Text::from_slice(alloc, &[]) else {
+        return PortStop::NoMemory;
+    };
+    PortStop::Differs(request, asked, had)
+}
+
+#[test]
+fn a_port_that_replays_tells_what_differs(rt: HostRuntime) -> Result<(), Fail> {
+    let mut rest = VecDeque::new(rt.alloc());
+    rest.push_back((3, 3))?;
+    rest.push_back((4, 4))?;
+    let mut port = ReplayPort {
+        alloc: rt.alloc(),
+        asked: Vec::new(rt.alloc()),
+        rest,
+    };
+    assert!(rt; matches!(port.ask(3), Ok(3)));
+    assert!(rt; matches!(port.ask(5), Err(PortStop::Differs(5, _, _))));
+    assert!(rt; matches!(port.ask(4), Ok(4)));
+    assert!(rt; matches!(port.ask(4), Err(PortStop::Differs(4, _, _))));
     Ok(())
 }
