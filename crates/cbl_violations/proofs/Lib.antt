@@ -1,0 +1,4 @@
+pub mod AllDifferentLaw
+pub mod NumberLaws
+pub mod TotalLemmas
+pub mod ValuesLemmas

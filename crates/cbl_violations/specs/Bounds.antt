@@ -1,0 +1,11 @@
+-- Bounds are an array of numbers: its first entry is the bound of the value `low`, and each next one
+-- that of the value one above. A value outside has no bound.
+use Rattle.std.specs.Prelude.{ℕ, ℤ, pos, negsuc, ◌-ℤ◌, List, Option, None, slice_get}
+
+-- the entry at an index that may be negative
+abbrev pub entry_at : ℤ → List ℤ → Option ℤ
+entry_at (pos k) bounds = slice_get bounds k
+entry_at (negsuc _) bounds = None
+
+abbrev pub bound_of : ℤ → List ℤ → ℤ → Option ℤ
+bound_of low bounds v = entry_at (v -ℤ low) bounds
