@@ -1,4 +1,6 @@
 pub mod AllDifferentLaw
 pub mod NumberLaws
+pub mod Runs
+pub mod SumSteps
 pub mod TotalLemmas
 pub mod ValuesLemmas

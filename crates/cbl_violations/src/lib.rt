@@ -7,9 +7,30 @@
 #![tactic(auto)]
 
 mod all_different;
+mod cardinality;
+mod combined;
 mod counting;
+mod knapsack;
 mod laws;
+mod multi_knapsack;
+mod relations;
+mod sequence;
 mod summing;
 
 pub use all_different::{all_different_violation_at, all_different_violations};
+pub use cardinality::{
+    at_least_violation_at, at_least_violations, at_most_violation_at, at_most_violations,
+    exactly_violation_at, exactly_violations,
+};
+pub use combined::{
+    all_of_violations, any_of_violations, combined_violation_at, not_held_violations, repeat_value,
+    weighted_total_value,
+};
+pub use knapsack::{knapsack_violation_at, knapsack_violations};
 pub use laws::all_different_law;
+pub use multi_knapsack::{multi_knapsack_violation_at, multi_knapsack_violations};
+pub use relations::{
+    eq_violation_at, eq_violations, le_violation_at, le_violations, lt_violation_at, lt_violations,
+    ne_violation_at, ne_violations,
+};
+pub use sequence::{sequence_violation_at, sequence_violations};

@@ -1,0 +1,65 @@
+//! Items in bins: the load of each bin is to stay within its capacity.
+ghost use Rattle.std.specs.Prelude.{◌≡◌, ◌<◌, length, IsOk};
+ghost use Rattle.cbl_violations.specs.Violations.MultiKnapsack.{load_of, multi_knapsack_violations, multi_knapsack_violation_at};
+
+use crate::counting::bound_of;
+use crate::summing::narrowed;
+use cbl_base::{RunFault, sub};
+
+/// The load of the bin: the sizes of the places with its number.
+fn load_of(inputs: &[i64], sizes: &[i64], bin: i128) -> i128
+    requires { length inputs.now ≡ length sizes.now }
+    ensures { result ≡ load_of bin sizes.now inputs.now }
+{
+    let mut load: i128 = 0;
+    for k in 0..inputs.len() {
+        let is_in_bin = i128::from(inputs[k]) == bin;
+        load += if is_in_bin { i128::from(sizes[k]) } else { 0 };
+    }
+    load
+}
+
+/// Over the bins, how much each one's load is above its capacity: the sum. The first capacity is that of
+/// the bin `low`, and each next one that of the bin one above. `Overflow` exactly where a load, how much
+/// it is above, or the sum doesn't fit.
+pub fn multi_knapsack_violations(
+    inputs: &[i64],
+    sizes: &[i64],
+    low: i64,
+    capacities: &[i64],
+) -> Result<i64, RunFault>
+    requires { length inputs.now ≡ length sizes.now }
+    ensures { result ≡ multi_knapsack_violations sizes.now low capacities.now inputs.now }
+{
+    let mut sum: i128 = 0;
+    for k in 0..capacities.len() {
+        let bin = i128::from(low) + k as i128;
+        let load = narrowed(load_of(inputs, sizes, bin))?;
+        sum += i128::from(sub(load, capacities[k])?.max(0));
+    }
+    narrowed(sum)
+}
+
+/// How much the load of the bin at the place, counted from 0, is above its capacity, and 0 for a value
+/// that is no bin.
+pub fn multi_knapsack_violation_at(
+    inputs: &[i64],
+    place: usize,
+    sizes: &[i64],
+    low: i64,
+    capacities: &[i64],
+) -> i64
+    requires lengths { length inputs.now ≡ length sizes.now }
+    requires within { place < length inputs.now }
+    requires valued { IsOk (multi_knapsack_violations sizes.now low capacities.now inputs.now) }
+    ensures { result ≡ multi_knapsack_violation_at sizes.now low capacities.now inputs.now place }
+{
+    let bin = inputs[place];
+    match bound_of(low, capacities, bin) {
+        Some(capacity) => {
+            let above = load_of(inputs, sizes, i128::from(bin)) - i128::from(capacity);
+            narrowed(above.max(0)).unwrap_or(0)
+        }
+        None => 0,
+    }
+}
