@@ -1,4 +1,5 @@
 pub mod AllDifferentLaw
+pub mod KnapsackRun
 pub mod NumberLaws
 pub mod Runs
 pub mod SumSteps

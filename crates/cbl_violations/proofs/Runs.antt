@@ -129,3 +129,38 @@ run_more_fitting f g s t i n d h e same = run_more (λ k. fitting f (g k)) s t i
 pub run_fails_fitting : (f : ℤ → ℤ) (g : ℕ → ℤ) (s : ℤ) (i n : ℕ) (fault : RunFault) → i < n → exact (g i) ≡ Err fault
     → Err fault ≡ run (λ k. fitting f (g k)) s i (n - i)
 run_fails_fitting f g s i n fault h e = run_fails (λ k. fitting f (g k)) s i n fault h (fitting_err f (g i) fault e)
+
+-- the total of numbers as they are
+pub total_by_itself : (zs : List ℤ) → total_by (λ z. z) zs ≡ total zs
+total_by_itself [] = refl
+total_by_itself (z ∷ zs) = ap (λ y. z +ℤ y) (total_by_itself zs)
+
+pub start_run_plain : (g : ℕ → ℤ) (n : ℕ)
+    → run (λ k. fitting (λ z. z) (g k)) (pos 0) 0 (n - 0)
+      ≡ where_all_fit (each_below n g ++ total (each_below n g) ∷ []) (total (each_below n g))
+start_run_plain g n =
+    start_run (λ z. z) g n
+    ∙ ap (λ z. where_all_fit (each_below n g ++ z ∷ []) z) (total_by_itself (each_below n g))
+
+-- a total over indices, at a step of a loop and at its end
+pub total_more : (f : ℕ → ℤ) (i n : ℕ) → i < n
+    → total_by f (range_with_len i (n - i)) ≡ (f i +ℤ total_by f (range_with_len (i + 1) (n - (i + 1))))
+total_more f i n h = ap (λ m. total_by f (range_with_len i m)) (one_less i n h)
+
+pub total_done : (f : ℕ → ℤ) (i n : ℕ) → n ≤ i → total_by f (range_with_len i (n - i)) ≡ pos 0
+total_done f i n h = let none : n - i ≡ 0 = omega arith in ap (λ m. total_by f (range_with_len i m)) none
+
+pub total_start : (f : ℕ → ℤ) (n : ℕ) → total_by f (range_with_len 0 (n - 0)) ≡ total (each_below n f)
+total_start f n = let all : n - 0 ≡ n = omega arith in ap (λ m. total_by f (range_with_len 0 m)) all
+
+pub where_fitting : (f : ℤ → ℤ) (z : ℤ) → where_all_fit (z ∷ []) (f z) ≡ fitting f z
+where_fitting f z = by_fit (fits_64 z)
+  where
+    by_fit : (b : Bool) → cond (b && true) (Ok (f z)) (Err Overflow) ≡ cond b (Ok (f z)) (Err Overflow)
+    by_fit true = refl
+    by_fit false = refl
+
+pub start_run_at : (f : ℤ → ℤ) (g : ℕ → ℤ) (n m : ℕ) → m ≡ n
+    → run (λ k. fitting f (g k)) (pos 0) 0 (m - 0)
+      ≡ where_all_fit (each_below n g ++ total_by f (each_below n g) ∷ []) (total_by f (each_below n g))
+start_run_at f g n m e = let all : m - 0 ≡ n = omega arith in ap (run (λ k. fitting f (g k)) (pos 0) 0) all ∙ total_run f g n

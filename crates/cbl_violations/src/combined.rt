@@ -1,10 +1,11 @@
 //! What combines constraints: all of them, one of them, none, and totals with weights.
 ghost use Rattle.std.specs.Prelude.{◌≡◌, ◌+◌, ◌<◌, length};
+ghost use Rattle.cbl_base.specs.Arithmetic.{exact};
 ghost use Rattle.cbl_violations.specs.Violations.AllOf.{all_of_violations, combined_violation_at};
 ghost use Rattle.cbl_violations.specs.Violations.AnyOf.{any_of_violations};
 ghost use Rattle.cbl_violations.specs.Violations.NotHeld.{not_held_violations};
 ghost use Rattle.cbl_violations.specs.Violations.Repeat.{repeat_value};
-ghost use Rattle.cbl_violations.specs.Violations.WeightedTotal.{weighted_total_value};
+ghost use Rattle.cbl_violations.specs.Violations.WeightedTotal.{weighted_member, weighted_total_value};
 
 use crate::summing::narrowed;
 use cbl_base::{RunFault, mul};
@@ -42,6 +43,15 @@ pub fn not_held_violations(members: &[i64]) -> Result<i64, RunFault>
     Ok(if members[0] == 0 { 1 } else { 0 })
 }
 
+/// The `k`-th member times its weight. `Overflow` exactly where that doesn't fit.
+fn weighted_member(inputs: &[i64], members: usize, k: usize) -> Result<i64, RunFault>
+    requires member { k < members }
+    requires lengths { length inputs.now ≡ members + members }
+    ensures { result ≡ exact (weighted_member members inputs.now k) }
+{
+    mul(inputs[k], inputs[members + k])
+}
+
 /// The total of so many members, each times its weight; the weights stand behind the members.
 /// `Overflow` exactly where a product or the total doesn't fit.
 pub fn weighted_total_value(inputs: &[i64], members: usize) -> Result<i64, RunFault>
@@ -50,7 +60,7 @@ pub fn weighted_total_value(inputs: &[i64], members: usize) -> Result<i64, RunFa
 {
     let mut sum: i128 = 0;
     for k in 0..members {
-        sum += i128::from(mul(inputs[k], inputs[members + k])?);
+        sum += i128::from(weighted_member(inputs, members, k)?);
     }
     narrowed(sum)
 }

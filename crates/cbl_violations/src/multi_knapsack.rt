@@ -1,10 +1,19 @@
 //! Items in bins: the load of each bin is to stay within its capacity.
 ghost use Rattle.std.specs.Prelude.{◌≡◌, ◌<◌, length, IsOk};
-ghost use Rattle.cbl_violations.specs.Violations.MultiKnapsack.{load_of, multi_knapsack_violations, multi_knapsack_violation_at};
+ghost use Rattle.cbl_violations.specs.Violations.MultiKnapsack.{size_in, load_of, multi_knapsack_violations, multi_knapsack_violation_at};
 
 use crate::counting::bound_of;
 use crate::summing::narrowed;
 use cbl_base::{RunFault, sub};
+
+/// The size at the place where it is in the bin, and 0 else.
+fn size_in(inputs: &[i64], sizes: &[i64], bin: i128, place: usize) -> i64
+    requires lengths { length inputs.now ≡ length sizes.now }
+    requires within { place < length inputs.now }
+    ensures { result ≡ size_in bin sizes.now inputs.now place }
+{
+    if i128::from(inputs[place]) == bin { sizes[place] } else { 0 }
+}
 
 /// The load of the bin: the sizes of the places with its number.
 fn load_of(inputs: &[i64], sizes: &[i64], bin: i128) -> i128
@@ -13,8 +22,7 @@ fn load_of(inputs: &[i64], sizes: &[i64], bin: i128) -> i128
 {
     let mut load: i128 = 0;
     for k in 0..inputs.len() {
-        let is_in_bin = i128::from(inputs[k]) == bin;
-        load += if is_in_bin { i128::from(sizes[k]) } else { 0 };
+        load += i128::from(size_in(inputs, sizes, bin, k));
     }
     load
 }

@@ -48,8 +48,9 @@ pub fn sequence_violations(
 ) -> Result<i64, RunFault>
     ensures { result ≡ sequence_violations values.now most window inputs.now }
 {
+    let windows = windows_in(inputs, window);
     let mut sum: i128 = 0;
-    for start in 0..windows_in(inputs, window) {
+    for start in 0..windows {
         sum += i128::from(surplus_in_window(inputs, start, values, most, window)?.max(0));
     }
     narrowed(sum)
@@ -72,8 +73,9 @@ pub fn sequence_violation_at(
         return 0;
     }
     let size = usize::try_from(window).unwrap_or(0);
+    let windows = windows_in(inputs, window);
     let mut sum: i128 = 0;
-    for start in 0..windows_in(inputs, window) {
+    for start in 0..windows {
         if start <= place && place - start < size {
             let surplus = surplus_in_window(inputs, start, values, most, window).unwrap_or(0);
             sum += i128::from(surplus.max(0));
