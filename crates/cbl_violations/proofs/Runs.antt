@@ -164,3 +164,25 @@ pub start_run_at : (f : ℤ → ℤ) (g : ℕ → ℤ) (n m : ℕ) → m ≡ n
     → run (λ k. fitting f (g k)) (pos 0) 0 (m - 0)
       ≡ where_all_fit (each_below n g ++ total_by f (each_below n g) ∷ []) (total_by f (each_below n g))
 start_run_at f g n m e = let all : m - 0 ≡ n = omega arith in ap (run (λ k. fitting f (g k)) (pos 0) 0) all ∙ total_run f g n
+
+-- two numbers that must fit, where the second is made of the first
+two_by : (b d : Bool) (y z load : ℤ) → cond b (Ok y) (Err Overflow) ≡ Ok load → (b ≡ true) × (y ≡ load)
+two_by true d y z load e = (refl, cc e)
+two_by false d y z load e = cc e
+
+pub two_fit : (y load c : ℤ) → exact y ≡ Ok load → exact (load -ℤ c) ≡ where_all_fit (y ∷ (y -ℤ c) ∷ []) (y -ℤ c)
+two_fit y load c e =
+    let is = two_by (fits_64 y) true y y load e in
+    ap (λ z. exact (z -ℤ c)) (sym is.1)
+    ∙ sym (where_exact (y -ℤ c))
+    ∙ ap (λ b. cond (b && (fits_64 (y -ℤ c) && true)) (Ok (y -ℤ c)) (Err Overflow)) (sym is.0)
+  where
+    where_exact : (z : ℤ) → where_all_fit (z ∷ []) z ≡ exact z
+    where_exact z = where_fitting (λ z. z) z
+
+pub two_fail : (y c : ℤ) (fault : RunFault) → exact y ≡ Err fault → Err fault ≡ where_all_fit (y ∷ (y -ℤ c) ∷ []) (y -ℤ c)
+two_fail y c fault e = by_fit (fits_64 y) e
+  where
+    by_fit : (b : Bool) → cond b (Ok y) (Err Overflow) ≡ Err fault → Err fault ≡ cond (b && (fits_64 (y -ℤ c) && true)) (Ok (y -ℤ c)) (Err Overflow)
+    by_fit true e = cc e
+    by_fit false e = sym e

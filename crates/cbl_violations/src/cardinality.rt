@@ -1,7 +1,8 @@
 //! How often values may stand in a list. The bounds are an array whose first entry is the bound of the
 //! value `low`, and each next one that of the value one above.
-ghost use Rattle.std.specs.Prelude.{◌≡◌, ◌<◌, length, IsOk};
+ghost use Rattle.std.specs.Prelude.{◌≡◌, ◌<◌, pos, length, int_lt, IsOk};
 ghost use Rattle.cbl_base.specs.Arithmetic.{exact};
+ghost use Rattle.cbl_base.specs.Counts.{count_of};
 ghost use Rattle.cbl_violations.specs.Violations.AtMost.{surplus, at_most_violations, at_most_violation_at};
 ghost use Rattle.cbl_violations.specs.Violations.AtLeast.{shortage, at_least_violations, at_least_violation_at};
 ghost use Rattle.cbl_violations.specs.Violations.Exactly.{exactly_violations, exactly_violation_at};
@@ -66,20 +67,28 @@ pub fn exactly_violations(inputs: &[i64], low: i64, bounds: &[i64]) -> Result<i6
     narrowed(sum)
 }
 
+/// Whether the value stands at more places than the bound.
+fn is_over(inputs: &[i64], value: i64, bound: i64) -> bool
+    ensures { result ≡ int_lt bound (pos (count_of value inputs.now)) }
+{
+    places_with(inputs, i128::from(value)) as i128 > i128::from(bound)
+}
+
+#[tactic(auto, unfolding(crate::specs::Violations::AtMost::at_most_violation_at))]
 /// 1 where the value at the place, counted from 0, has a bound and stands at more places, and else 0.
 pub fn at_most_violation_at(inputs: &[i64], place: usize, low: i64, bounds: &[i64]) -> i64
     requires within { place < length inputs.now }
     requires valued { IsOk (at_most_violations low bounds.now inputs.now) }
     ensures { result ≡ at_most_violation_at low bounds.now inputs.now place }
 {
-    let value = inputs[place];
-    let is_over = match bound_of(low, bounds, value) {
-        Some(bound) => places_with(inputs, i128::from(value)) as i128 > i128::from(bound),
-        None => false,
-    };
-    if is_over { 1 } else { 0 }
+    match bound_of(low, bounds, inputs[place]) {
+        Some(bound) if is_over(inputs, inputs[place], bound) => 1,
+        Some(_) => 0,
+        None => 0,
+    }
 }
 
+#[tactic(auto, unfolding(crate::specs::Violations::AtLeast::at_least_violation_at))]
 /// 1 where there are violations, and the value at the place, counted from 0, has no bound or stands at
 /// more places; and else 0.
 pub fn at_least_violation_at(inputs: &[i64], place: usize, low: i64, bounds: &[i64]) -> i64
@@ -90,14 +99,14 @@ pub fn at_least_violation_at(inputs: &[i64], place: usize, low: i64, bounds: &[i
     if at_least_violations(inputs, low, bounds).unwrap_or(0) == 0 {
         return 0;
     }
-    let value = inputs[place];
-    let is_spare = match bound_of(low, bounds, value) {
-        Some(bound) => places_with(inputs, i128::from(value)) as i128 > i128::from(bound),
-        None => true,
-    };
-    if is_spare { 1 } else { 0 }
+    match bound_of(low, bounds, inputs[place]) {
+        Some(bound) if is_over(inputs, inputs[place], bound) => 1,
+        Some(_) => 0,
+        None => 1,
+    }
 }
 
+#[tactic(auto, unfolding(crate::specs::Violations::Exactly::exactly_violation_at))]
 /// 1 where the value at the place, counted from 0, stands at more places than its bound, or has no bound
 /// while there are violations; and else 0.
 pub fn exactly_violation_at(inputs: &[i64], place: usize, low: i64, bounds: &[i64]) -> i64
@@ -105,10 +114,9 @@ pub fn exactly_violation_at(inputs: &[i64], place: usize, low: i64, bounds: &[i6
     requires valued { IsOk (exactly_violations low bounds.now inputs.now) }
     ensures { result ≡ exactly_violation_at low bounds.now inputs.now place }
 {
-    let value = inputs[place];
-    let is_extra = match bound_of(low, bounds, value) {
-        Some(bound) => places_with(inputs, i128::from(value)) as i128 > i128::from(bound),
-        None => exactly_violations(inputs, low, bounds).unwrap_or(0) != 0,
-    };
-    if is_extra { 1 } else { 0 }
+    match bound_of(low, bounds, inputs[place]) {
+        Some(bound) if is_over(inputs, inputs[place], bound) => 1,
+        Some(_) => 0,
+        None => i64::from(exactly_violations(inputs, low, bounds).unwrap_or(0) != 0),
+    }
 }

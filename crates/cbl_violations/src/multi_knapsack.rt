@@ -1,6 +1,7 @@
 //! Items in bins: the load of each bin is to stay within its capacity.
-ghost use Rattle.std.specs.Prelude.{◌≡◌, ◌<◌, length, IsOk};
-ghost use Rattle.cbl_violations.specs.Violations.MultiKnapsack.{size_in, load_of, multi_knapsack_violations, multi_knapsack_violation_at};
+ghost use Rattle.std.specs.Prelude.{◌≡◌, ◌<◌, [], ◌∷◌, length, IsOk};
+ghost use Rattle.cbl_violations.specs.Fitting.{where_all_fit};
+ghost use Rattle.cbl_violations.specs.Violations.MultiKnapsack.{size_in, load_of, load_at, overload_at, multi_knapsack_violations, multi_knapsack_violation_at};
 
 use crate::counting::bound_of;
 use crate::summing::narrowed;
@@ -27,6 +28,24 @@ fn load_of(inputs: &[i64], sizes: &[i64], bin: i128) -> i128
     load
 }
 
+/// How much the load of the bin is above its capacity, the `k`-th. `Overflow` exactly where the load or
+/// that doesn't fit.
+fn overload_at(
+    inputs: &[i64],
+    sizes: &[i64],
+    low: i64,
+    capacities: &[i64],
+    k: usize,
+) -> Result<i64, RunFault>
+    requires lengths { length inputs.now ≡ length sizes.now }
+    requires within { k < length capacities.now }
+    ensures { let load = load_at sizes.now low inputs.now k in let above = overload_at sizes.now low capacities.now inputs.now k in
+        result ≡ where_all_fit (load ∷ above ∷ []) above }
+{
+    let load = narrowed(load_of(inputs, sizes, i128::from(low) + k as i128))?;
+    sub(load, capacities[k])
+}
+
 /// Over the bins, how much each one's load is above its capacity: the sum. The first capacity is that of
 /// the bin `low`, and each next one that of the bin one above. `Overflow` exactly where a load, how much
 /// it is above, or the sum doesn't fit.
@@ -41,9 +60,7 @@ pub fn multi_knapsack_violations(
 {
     let mut sum: i128 = 0;
     for k in 0..capacities.len() {
-        let bin = i128::from(low) + k as i128;
-        let load = narrowed(load_of(inputs, sizes, bin))?;
-        sum += i128::from(sub(load, capacities[k])?.max(0));
+        sum += i128::from(overload_at(inputs, sizes, low, capacities, k)?.max(0));
     }
     narrowed(sum)
 }

@@ -1,4 +1,4 @@
-use Rattle.std.proofs.Common.{◌≡◌, ◌∙◌, sym, ap, Ok, Result, rules, pos, get_or, take, List, [], ◌∷◌, length, fold, ℕ, ◌+◌, arith, to_z}
+use Rattle.std.proofs.Common.{◌≡◌, ◌∙◌, sym, ap, Ok, Result, rules, pos, get_or, take, List, [], ◌∷◌, length, fold, ℕ, ◌+◌, arith, to_z, of_z, refl, w64}
 use Rattle.std.specs.Prelude.{ℤ}
 use Rattle.std.specs.Int.{int_min}
 use Rattle.std.proofs.lemmas.Int.{to_z-of_z}
@@ -20,5 +20,5 @@ unfolding any_of_violations
 returns c =
     let first = to_z-of_z w64 c.in-Some.first.now (search rules) in
     let all = take_all c.loop-member.member-index c.in-Some.others.now c.loop-member-test.false in
-    ap Ok (c.loop-member.invariant ∙ ap (λ xs. fold int_min _ xs) all ∙ ap (λ x. fold int_min x c.in-Some.others.now) first
+    ap Ok (c.loop-member.invariant ∙ ap (λ xs. fold int_min (to_z w64 (of_z w64 c.in-Some.first.now)) xs) all ∙ ap (λ x. fold int_min x c.in-Some.others.now) first
         ∙ sym (ap least c.in-Some.ensures.cases.0))
