@@ -1,5 +1,6 @@
 pub mod AllDifferentLaw
 pub mod KnapsackRun
+pub mod MultiKnapsackRun
 pub mod NumberLaws
 pub mod Runs
 pub mod SumSteps

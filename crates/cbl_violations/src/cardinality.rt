@@ -1,9 +1,8 @@
 //! How often values may stand in a list. The bounds are an array whose first entry is the bound of the
 //! value `low`, and each next one that of the value one above.
-ghost use Rattle.std.specs.Prelude.{◌≡◌, ◌<◌, pos, length, int_lt, IsOk};
+ghost use Rattle.std.specs.Prelude.{◌≡◌, ◌<◌, pos, length, slice_index_or, IsOk};
 ghost use Rattle.cbl_base.specs.Arithmetic.{exact};
-ghost use Rattle.cbl_base.specs.Counts.{count_of};
-ghost use Rattle.cbl_violations.specs.Violations.AtMost.{surplus, at_most_violations, at_most_violation_at};
+ghost use Rattle.cbl_violations.specs.Violations.AtMost.{surplus, is_over, at_most_violations, at_most_violation_at};
 ghost use Rattle.cbl_violations.specs.Violations.AtLeast.{shortage, at_least_violations, at_least_violation_at};
 ghost use Rattle.cbl_violations.specs.Violations.Exactly.{exactly_violations, exactly_violation_at};
 
@@ -67,11 +66,18 @@ pub fn exactly_violations(inputs: &[i64], low: i64, bounds: &[i64]) -> Result<i6
     narrowed(sum)
 }
 
-/// Whether the value stands at more places than the bound.
-fn is_over(inputs: &[i64], value: i64, bound: i64) -> bool
-    ensures { result ≡ int_lt bound (pos (count_of value inputs.now)) }
+/// Whether the value at the place stands at more places than its bound. `None` exactly where it has none.
+fn is_over(inputs: &[i64], place: usize, low: i64, bounds: &[i64]) -> Option<bool>
+    requires { place < length inputs.now }
+    ensures { result ≡ is_over low bounds.now inputs.now (slice_index_or inputs.now place (pos 0)) }
 {
-    places_with(inputs, i128::from(value)) as i128 > i128::from(bound)
+    match bound_of(low, bounds, inputs[place]) {
+        Some(bound) => {
+            let count = places_with(inputs, i128::from(inputs[place]));
+            Some(count as i128 > i128::from(bound))
+        }
+        None => None,
+    }
 }
 
 #[tactic(auto, unfolding(crate::specs::Violations::AtMost::at_most_violation_at))]
@@ -81,11 +87,8 @@ pub fn at_most_violation_at(inputs: &[i64], place: usize, low: i64, bounds: &[i6
     requires valued { IsOk (at_most_violations low bounds.now inputs.now) }
     ensures { result ≡ at_most_violation_at low bounds.now inputs.now place }
 {
-    match bound_of(low, bounds, inputs[place]) {
-        Some(bound) if is_over(inputs, inputs[place], bound) => 1,
-        Some(_) => 0,
-        None => 0,
-    }
+    let is_over = is_over(inputs, place, low, bounds).unwrap_or(false);
+    if is_over { 1 } else { 0 }
 }
 
 #[tactic(auto, unfolding(crate::specs::Violations::AtLeast::at_least_violation_at))]
@@ -96,14 +99,9 @@ pub fn at_least_violation_at(inputs: &[i64], place: usize, low: i64, bounds: &[i
     requires valued { IsOk (at_least_violations low bounds.now inputs.now) }
     ensures { result ≡ at_least_violation_at low bounds.now inputs.now place }
 {
-    if at_least_violations(inputs, low, bounds).unwrap_or(0) == 0 {
-        return 0;
-    }
-    match bound_of(low, bounds, inputs[place]) {
-        Some(bound) if is_over(inputs, inputs[place], bound) => 1,
-        Some(_) => 0,
-        None => 1,
-    }
+    let is_violated = at_least_violations(inputs, low, bounds).unwrap_or(0) != 0;
+    let is_spare = is_over(inputs, place, low, bounds).unwrap_or(true);
+    if is_violated && is_spare { 1 } else { 0 }
 }
 
 #[tactic(auto, unfolding(crate::specs::Violations::Exactly::exactly_violation_at))]
@@ -114,9 +112,7 @@ pub fn exactly_violation_at(inputs: &[i64], place: usize, low: i64, bounds: &[i6
     requires valued { IsOk (exactly_violations low bounds.now inputs.now) }
     ensures { result ≡ exactly_violation_at low bounds.now inputs.now place }
 {
-    match bound_of(low, bounds, inputs[place]) {
-        Some(bound) if is_over(inputs, inputs[place], bound) => 1,
-        Some(_) => 0,
-        None => i64::from(exactly_violations(inputs, low, bounds).unwrap_or(0) != 0),
-    }
+    let is_violated = exactly_violations(inputs, low, bounds).unwrap_or(0) != 0;
+    let is_extra = is_over(inputs, place, low, bounds).unwrap_or(is_violated);
+    if is_extra { 1 } else { 0 }
 }
