@@ -1,6 +1,6 @@
 -- What the loop over the parts of a load gives, and the steps after it.
-use Rattle.std.proofs.Common.{◌≡◌, ℕ, ◌-◌, Bool, true, false, cond, List, [], ◌∷◌, ◌++◌, length, refl, ap, ◌∙◌, sym, ◌&&◌, Ok, Err}
-use Rattle.std.specs.Prelude.{ℤ, pos, ◌-ℤ◌}
+use Rattle.std.proofs.Common.{◌≡◌, ℕ, ◌-◌, ◌<◌, Bool, true, false, cond, List, [], ◌∷◌, ◌++◌, length, refl, ap, ◌∙◌, sym, ◌&&◌, Ok, Err}
+use Rattle.std.specs.Prelude.{ℤ, pos, ◌-ℤ◌, IsOk}
 use Rattle.std.specs.List.{list_all}
 use Rattle.cbl_base.specs.Arithmetic.{exact, fits_64}
 use Rattle.cbl_base.specs.Totals.{total}
@@ -8,6 +8,7 @@ use Rattle.cbl_base.specs.declared.faults.RunFault.{RunFault}
 use Rattle.cbl_base.specs.declared.faults.RunFault.TheVariants.{Overflow}
 use Rattle.cbl_violations.specs.Fitting.{where_all_fit, each_below, excess}
 use Rattle.cbl_violations.specs.Violations.Knapsack.{part_of_load, knapsack_violations}
+use Rattle.cbl_violations.proofs.FitLemmas.{below_fits, list_all_left, all_fit}
 use Rattle.cbl_violations.proofs.Runs.{Answer, and_then, run, fitting, start_run_plain, list_all-append}
 
 -- the parts fit, the load does, and so does how far it is above
@@ -62,3 +63,13 @@ pub knapsack_loaded : (weights : List ℤ) (capacity : ℤ) (xs : List ℤ) (loa
 knapsack_loaded weights capacity xs load e =
     sym (ap (λ load. fitting excess (load -ℤ capacity)) (knapsack_load weights xs load e))
     ∙ sym (knapsack_run weights capacity xs ∙ ap (λ r. and_then r (λ _. fitting excess (total (each_below (length xs) (part_of_load weights xs)) -ℤ capacity))) e)
+
+-- where there is a value, each part fits
+pub parts_fit : (weights : List ℤ) (capacity : ℤ) (xs : List ℤ) → IsOk (knapsack_violations weights capacity xs)
+    → (k : ℕ) → k < length xs → fits_64 (part_of_load weights xs k) ≡ true
+unfolding knapsack_violations
+parts_fit weights capacity xs h k within =
+    let parts = each_below (length xs) (part_of_load weights xs) in
+    let load = total parts in
+    below_fits (part_of_load weights xs) (length xs)
+        (list_all_left fits_64 parts (load ∷ (load -ℤ capacity) ∷ []) (all_fit (parts ++ load ∷ (load -ℤ capacity) ∷ []) (excess (load -ℤ capacity)) h)) k within

@@ -1,4 +1,6 @@
 pub mod AllDifferentLaw
+pub mod BoundLemmas
+pub mod FitLemmas
 pub mod KnapsackRun
 pub mod MultiKnapsackRun
 pub mod NumberLaws

@@ -1,6 +1,6 @@
 -- What the loop over the bins gives.
-use Rattle.std.proofs.Common.{◌≡◌, ℕ, ◌-◌, ◌<◌, Bool, true, false, cond, List, [], ◌∷◌, ◌++◌, length, refl, ap, ◌∙◌, sym, arith, ◌&&◌, Ok, Err}
-use Rattle.std.specs.Prelude.{ℤ, pos, ◌+ℤ◌}
+use Rattle.std.proofs.Common.{◌≡◌, ℕ, ◌-◌, ◌<◌, Bool, true, false, cond, List, [], ◌∷◌, ◌++◌, length, refl, ap, ◌∙◌, sym, arith, ◌&&◌, Ok, Err, Some}
+use Rattle.std.specs.Prelude.{ℤ, pos, ◌+ℤ◌, ◌-ℤ◌, IsOk}
 use Rattle.std.specs.List.{list_all, range_with_len}
 use Rattle.std.proofs.lemmas.Int.{ints}
 use Rattle.cbl_base.specs.Arithmetic.{exact, fits_64}
@@ -8,7 +8,10 @@ use Rattle.cbl_base.specs.Totals.{total_by}
 use Rattle.cbl_base.specs.declared.faults.RunFault.{RunFault}
 use Rattle.cbl_base.specs.declared.faults.RunFault.TheVariants.{Overflow}
 use Rattle.cbl_violations.specs.Fitting.{where_all_fit, each_below, excess}
-use Rattle.cbl_violations.specs.Violations.MultiKnapsack.{load_at, overload_at, multi_knapsack_violations}
+use Rattle.cbl_violations.specs.Violations.MultiKnapsack.{load_of, load_at, overload_at, multi_knapsack_violations}
+use Rattle.cbl_violations.specs.Bounds.{bound_of}
+use Rattle.cbl_violations.proofs.BoundLemmas.{has_bound}
+use Rattle.cbl_violations.proofs.FitLemmas.{below_fits, list_all_left, list_all_right, all_fit}
 use Rattle.cbl_violations.proofs.Runs.{Answer, run, guarded, run_guarded, list_all-append, list_all-map, total_by-map, fit_with_total}
 
 -- whether the load of a bin fits, and how far it is above
@@ -70,3 +73,26 @@ pub bin_err : (sizes : List ℤ) (low : ℤ) (capacities xs : List ℤ) (k : ℕ
     → where_all_fit (load_at sizes low xs k ∷ overload_at sizes low capacities xs k ∷ []) (overload_at sizes low capacities xs k) ≡ Err fault
     → bin_part sizes low capacities xs k ≡ Err fault
 bin_err sizes low capacities xs k fault e = cond_err (bin_fits sizes low capacities xs k) (overload_at sizes low capacities xs k) fault e
+
+-- where there is a value, the load of each bin fits, and so does how far it is above
+pub loads_fit : (sizes : List ℤ) (low : ℤ) (capacities xs : List ℤ) → IsOk (multi_knapsack_violations sizes low capacities xs)
+    → (k : ℕ) → k < length capacities → (fits_64 (load_at sizes low xs k) ≡ true) × (fits_64 (overload_at sizes low capacities xs k) ≡ true)
+unfolding multi_knapsack_violations
+loads_fit sizes low capacities xs h k within =
+    let n = length capacities in
+    let loads = each_below n (load_at sizes low xs) in
+    let overloads = each_below n (overload_at sizes low capacities xs) in
+    let z = total_by excess overloads in
+    let both = list_all_left fits_64 (loads ++ overloads) (z ∷ []) (all_fit (loads ++ overloads ++ z ∷ []) z h) in
+    (below_fits (load_at sizes low xs) n (list_all_left fits_64 loads overloads both) k within,
+     below_fits (overload_at sizes low capacities xs) n (list_all_right fits_64 loads overloads both) k within)
+
+pub bin_loads_fit : (sizes : List ℤ) (low : ℤ) (capacities xs : List ℤ) → IsOk (multi_knapsack_violations sizes low capacities xs)
+    → (bin capacity : ℤ) → bound_of low capacities bin ≡ Some capacity
+    → (fits_64 (load_of bin sizes xs) ≡ true) × (fits_64 (load_of bin sizes xs -ℤ capacity) ≡ true)
+bin_loads_fit sizes low capacities xs h bin capacity e =
+    let found = has_bound low capacities bin capacity e in
+    let fit = loads_fit sizes low capacities xs h found.k found.within in
+    (ap (λ b. fits_64 (load_of b sizes xs)) found.value ∙ fit.0,
+     ap (λ b. fits_64 (load_of b sizes xs -ℤ capacity)) found.value
+     ∙ ap (λ c. fits_64 (load_at sizes low xs found.k -ℤ c)) (sym found.bound) ∙ fit.1)

@@ -82,8 +82,8 @@ pub fn multi_knapsack_violation_at(
     let bin = inputs[place];
     match bound_of(low, capacities, bin) {
         Some(capacity) => {
-            let above = load_of(inputs, sizes, i128::from(bin)) - i128::from(capacity);
-            narrowed(above.max(0)).unwrap_or(0)
+            let load = narrowed(load_of(inputs, sizes, i128::from(bin))).unwrap_or(0);
+            sub(load, capacity).unwrap_or(0).max(0)
         }
         None => 0,
     }

@@ -1,7 +1,8 @@
 //! How often values of a set may stand in places in a row.
-ghost use Rattle.std.specs.Prelude.{◌≡◌, ◌+◌, ◌-ℤ◌, ◌<◌, ◌≤◌, pos, length, IsOk, slice_range};
+ghost use Rattle.std.specs.Prelude.{◌≡◌, ◌<◌, pos, length, IsOk, if◌then◌else◌};
 ghost use Rattle.cbl_base.specs.Arithmetic.{exact};
-ghost use Rattle.cbl_violations.specs.Violations.Sequence.{size_of, windows_in, surplus_in_window, count_in, sequence_violations, sequence_violation_at};
+ghost use Rattle.cbl_violations.specs.Fitting.{excess};
+ghost use Rattle.cbl_violations.specs.Violations.Sequence.{size_of, windows_in, surplus_in_window, count_in, holds_place, sequence_violations, sequence_violation_at};
 
 use crate::summing::narrowed;
 use cbl_base::RunFault;
@@ -13,12 +14,18 @@ fn count_in(inputs: &[i64], values: &[i64]) -> usize
     inputs.iter().filter(|x| values.contains(*x)).count()
 }
 
+/// How many places a window has.
+fn size_of(window: i64) -> usize
+    ensures { result ≡ size_of window }
+{
+    usize::try_from(window).unwrap_or(0)
+}
+
 /// How many windows of the size there are.
 fn windows_in(inputs: &[i64], window: i64) -> usize
     ensures { result ≡ windows_in (size_of window) inputs.now }
 {
-    let size = usize::try_from(window).unwrap_or(0);
-    (inputs.len() + 1).saturating_sub(size)
+    (inputs.len() + 1).saturating_sub(size_of(window))
 }
 
 /// How many more of the set than allowed stand in the window that begins at a place. `Overflow` exactly
@@ -33,7 +40,7 @@ fn surplus_in_window(
     requires { start < windows_in (size_of window) inputs.now }
     ensures { result ≡ exact (surplus_in_window values.now most (size_of window) inputs.now start) }
 {
-    let size = usize::try_from(window).unwrap_or(0);
+    let size = size_of(window);
     let count = count_in(&inputs[start..start + size], values);
     narrowed(count as i128 - i128::from(most))
 }
@@ -56,6 +63,27 @@ pub fn sequence_violations(
     narrowed(sum)
 }
 
+/// How many more of the set than allowed stand in the window that begins at `start`, where there are
+/// more and it holds the place, and else 0.
+fn excess_at(
+    inputs: &[i64],
+    start: usize,
+    place: usize,
+    values: &[i64],
+    most: i64,
+    window: i64,
+) -> i64
+    requires start { start < windows_in (size_of window) inputs.now }
+    requires valued { IsOk (sequence_violations values.now most window inputs.now) }
+    ensures { result ≡ (if holds_place (size_of window) place start then excess (surplus_in_window values.now most (size_of window) inputs.now start) else pos 0) }
+{
+    if start <= place && place < start + size_of(window) {
+        surplus_in_window(inputs, start, values, most, window).unwrap_or(0).max(0)
+    } else {
+        0
+    }
+}
+
 /// Where the value at the place, counted from 0, is in the set, the sum over the windows that hold the
 /// place, and else 0.
 pub fn sequence_violation_at(
@@ -72,14 +100,10 @@ pub fn sequence_violation_at(
     if !values.contains(&inputs[place]) {
         return 0;
     }
-    let size = usize::try_from(window).unwrap_or(0);
     let windows = windows_in(inputs, window);
     let mut sum: i128 = 0;
     for start in 0..windows {
-        if start <= place && place - start < size {
-            let surplus = surplus_in_window(inputs, start, values, most, window).unwrap_or(0);
-            sum += i128::from(surplus.max(0));
-        }
+        sum += i128::from(excess_at(inputs, start, place, values, most, window));
     }
     narrowed(sum).unwrap_or(0)
 }
