@@ -5,6 +5,7 @@ pub mod KnapsackRun
 pub mod MultiKnapsackRun
 pub mod NumberLaws
 pub mod Runs
+pub mod SequenceRun
 pub mod SumSteps
 pub mod TotalLemmas
 pub mod ValuesLemmas
