@@ -35,7 +35,7 @@ pub sum_where_done : (p : ℕ → Bool) (h : ℕ → ℤ) (i n : ℕ) → n ≤ 
 sum_where_done p h i n over = let none : n - i ≡ 0 = omega arith in ap (λ m. sum_where p h (range_with_len i m)) none
 
 -- it is no more than the whole sum
-sum_where_within : (p : ℕ → Bool) (h : ℕ → ℤ) → ((k : ℕ) → pos 0 ≤ℤ h k) → (ks : List ℕ)
+pub sum_where_within : (p : ℕ → Bool) (h : ℕ → ℤ) → ((k : ℕ) → pos 0 ≤ℤ h k) → (ks : List ℕ)
     → (pos 0 ≤ℤ sum_where p h ks) × (sum_where p h ks ≤ℤ total_by h ks)
 sum_where_within p h nonneg [] = (omega (arith, ints), omega (arith, ints))
 sum_where_within p h nonneg (k ∷ ks) = by_test (sum_where_within p h nonneg ks) (p k)

@@ -27,7 +27,10 @@ pub use combined::{
     weighted_total_value,
 };
 pub use knapsack::{knapsack_violation_at, knapsack_violations};
-pub use laws::all_different_law;
+pub use laws::{
+    all_different_law, all_of_law, any_of_law, at_least_law, at_most_law, eq_law, exactly_law,
+    knapsack_law, le_law, lt_law, multi_knapsack_law, ne_law, not_held_law, sequence_law, total_law,
+};
 pub use multi_knapsack::{multi_knapsack_violation_at, multi_knapsack_violations};
 pub use relations::{
     eq_violation_at, eq_violations, le_violation_at, le_violations, lt_violation_at, lt_violations,
