@@ -1,13 +1,12 @@
 -- What it means that all values differ.
-use Rattle.std.proofs.Common.{◌≡◌, ◌≢◌, ◌↔◌, ℕ, zero, suc, ◌+◌, ◌-◌, ◌<◌, ◌≤◌, Bool, true, false, cond, List, [], ◌∷◌, length, get_or, refl, ap, ◌∙◌, sym, arith, ◌||◌, int_eq, count_by, Ok, Result, nat_le}
+use Rattle.std.proofs.Common.{◌≡◌, ◌≢◌, ◌↔◌, ℕ, zero, suc, ◌+◌, ◌<◌, ◌≤◌, Bool, true, false, cond, List, [], ◌∷◌, length, get_or, refl, ap, ◌∙◌, sym, arith, ◌||◌, int_eq, Ok, nat_le}
 use Rattle.std.specs.Prelude.{ℤ, pos, ◌+ℤ◌, ◌≤ℤ◌, AllPairs}
 use Rattle.std.proofs.lemmas.Int.{ints}
 use Rattle.std.proofs.lemmas.List.Sums.{sum_by-cons}
 use Rattle.std.proofs.lemmas.Bool.Decides.{Decides-int_eq, nat_tests}
-use Rattle.cbl_base.specs.Arithmetic.{exact}
 use Rattle.cbl_base.specs.Sets.{is_member}
 use Rattle.cbl_base.specs.Counts.{count_of, values_in}
-use Rattle.cbl_base.specs.Totals.{total, total_by}
+use Rattle.cbl_base.specs.Totals.{total_by}
 use Rattle.cbl_violations.specs.Violations.AllDifferent.{all_different_violations, all_different_violation_at, repeats_of}
 use Rattle.cbl_violations.proofs.NumberLaws.{exact_is}
 use Rattle.cbl_violations.proofs.TotalLemmas.{total_by_nonneg}

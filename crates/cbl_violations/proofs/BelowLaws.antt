@@ -1,9 +1,9 @@
 -- A total of what f gives of each number, where f is never negative: when it is 0.
-use Rattle.std.proofs.Common.{◌≡◌, ℕ, ◌+◌, ◌<◌, ◌≤◌, List, [], ◌∷◌, refl, ap, ◌∙◌, sym, arith, Ok, ◌++◌}
+use Rattle.std.proofs.Common.{◌≡◌, ℕ, ◌<◌, [], ◌∷◌, ◌∙◌, sym, arith, Ok, ◌++◌}
 use Rattle.std.specs.Prelude.{ℤ, pos, negsuc, ◌≤ℤ◌}
 use Rattle.std.specs.List.{range_with_len}
 use Rattle.std.proofs.lemmas.Int.{ints, clamps}
-use Rattle.cbl_base.specs.Totals.{total, total_by}
+use Rattle.cbl_base.specs.Totals.{total_by}
 use Rattle.cbl_violations.specs.Fitting.{where_all_fit, each_below, excess, distance}
 use Rattle.cbl_violations.proofs.NumberLaws.{value_is}
 use Rattle.cbl_violations.proofs.TotalLemmas.{total_by_nonneg, range_zero, range_all_zero}

@@ -1,8 +1,8 @@
 -- What it means that values stand at most, at least or exactly as often as their bounds say.
-use Rattle.std.proofs.Common.{◌≡◌, ◌↔◌, ℕ, ◌+◌, ◌<◌, ◌≤◌, Bool, true, false, cond, List, [], ◌∷◌, ◌++◌, length, get_or, refl, ap, ◌∙◌, sym, subst, arith, Ok, Some, None, Option, ◌&&◌}
-use Rattle.std.specs.Prelude.{ℤ, pos, ◌+ℤ◌, ◌-ℤ◌, ◌≤ℤ◌, int_lt, unwrap_or}
+use Rattle.std.proofs.Common.{◌≡◌, ◌↔◌, ℕ, ◌<◌, true, false, cond, List, length, get_or, refl, ap, ◌∙◌, sym, subst, arith, Ok, Some, None, Option, ◌&&◌}
+use Rattle.std.specs.Prelude.{ℤ, pos, ◌+ℤ◌, ◌≤ℤ◌, int_lt, unwrap_or}
 use Rattle.std.specs.Option.{option_map}
-use Rattle.std.proofs.lemmas.Int.{ints, clamps}
+use Rattle.std.proofs.lemmas.Int.{ints}
 use Rattle.cbl_base.specs.Counts.{count_of}
 use Rattle.cbl_base.specs.Totals.{total_by}
 use Rattle.cbl_violations.specs.Fitting.{each_below, excess, distance}

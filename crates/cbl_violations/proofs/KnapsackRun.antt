@@ -2,14 +2,14 @@
 use Rattle.std.proofs.Common.{◌≡◌, ℕ, ◌-◌, ◌<◌, Bool, true, false, cond, List, [], ◌∷◌, ◌++◌, length, refl, ap, ◌∙◌, sym, ◌&&◌, Ok, Err}
 use Rattle.std.specs.Prelude.{ℤ, pos, ◌-ℤ◌, IsOk}
 use Rattle.std.specs.List.{list_all}
-use Rattle.cbl_base.specs.Arithmetic.{exact, fits_64}
+use Rattle.cbl_base.specs.Arithmetic.{fits_64}
 use Rattle.cbl_base.specs.Totals.{total}
 use Rattle.cbl_base.specs.declared.faults.RunFault.{RunFault}
 use Rattle.cbl_base.specs.declared.faults.RunFault.TheVariants.{Overflow}
-use Rattle.cbl_violations.specs.Fitting.{where_all_fit, each_below, excess}
+use Rattle.cbl_violations.specs.Fitting.{each_below, excess}
 use Rattle.cbl_violations.specs.Violations.Knapsack.{part_of_load, knapsack_violations}
 use Rattle.cbl_violations.proofs.FitLemmas.{below_fits, list_all_left, all_fit}
-use Rattle.cbl_violations.proofs.Runs.{Answer, and_then, run, fitting, start_run_plain, list_all-append}
+use Rattle.cbl_violations.proofs.Runs.{and_then, run, fitting, start_run_plain, list_all-append}
 
 -- the parts fit, the load does, and so does how far it is above
 three_fit : (parts : Bool) (load above : ℤ)

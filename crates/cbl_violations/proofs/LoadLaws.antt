@@ -1,16 +1,16 @@
 -- What it means that loads stay within capacities.
-use Rattle.std.proofs.Common.{◌≡◌, ◌↔◌, ℕ, zero, suc, ◌+◌, ◌<◌, ◌≤◌, Bool, true, false, cond, List, [], ◌∷◌, ◌++◌, length, get_or, refl, ap, ◌∙◌, sym, subst, arith, Ok, Some, None, Option, map, int_eq}
+use Rattle.std.proofs.Common.{◌≡◌, ◌↔◌, ℕ, zero, suc, ◌+◌, cond, List, [], ◌∷◌, ◌++◌, length, get_or, refl, ap, ◌∙◌, sym, subst, arith, Ok, Some, None, Option, map, int_eq}
 use Rattle.std.specs.Prelude.{ℤ, pos, ◌+ℤ◌, ◌-ℤ◌, ◌*ℤ◌, ◌≤ℤ◌}
 use Rattle.std.specs.List.{range_with_len}
 use Rattle.std.specs.Int.{int_min}
 use Rattle.std.specs.Result.{result_unwrap_or}
 use Rattle.std.proofs.lemmas.Int.{ints, clamps}
 use Rattle.cbl_base.specs.Totals.{total, total_by}
-use Rattle.cbl_violations.specs.Fitting.{each_below, where_all_fit, excess}
+use Rattle.cbl_violations.specs.Fitting.{each_below, excess}
 use Rattle.cbl_violations.specs.Bounds.{bound_of, EachBounded}
 use Rattle.cbl_violations.specs.Pairs.{pair_total}
 use Rattle.cbl_violations.specs.Violations.Knapsack.{part_of_load, knapsack_violations, knapsack_violation_at}
-use Rattle.cbl_violations.specs.Violations.MultiKnapsack.{size_in, load_of, load_at, overload_at, excess_of, multi_knapsack_violations, multi_knapsack_violation_at}
+use Rattle.cbl_violations.specs.Violations.MultiKnapsack.{load_of, load_at, overload_at, excess_of, multi_knapsack_violations, multi_knapsack_violation_at}
 use Rattle.cbl_violations.proofs.NumberLaws.{value_is}
 use Rattle.cbl_violations.proofs.CardinalityLaws.{each_bounded, at_index}
 use Rattle.cbl_violations.proofs.BelowLaws.{excess_nonneg, excess_zero, zero_excess, below_nonneg, below_zero, below_all_zero}

@@ -1,6 +1,6 @@
 -- Rules of numbers alone have values of one kind, and exact numbers are the numbers.
-use Rattle.std.proofs.Common.{◌≡◌, ℕ, Bool, true, false, cond, List, refl, ap, ◌∙◌, sym, Result, Ok, Err, ◌^◌}
-use Rattle.std.specs.Prelude.{ℤ, pos, negsuc}
+use Rattle.std.proofs.Common.{◌≡◌, Bool, true, false, cond, List, refl, ap, ◌∙◌, sym, Result, Ok, Err}
+use Rattle.std.specs.Prelude.{ℤ}
 use Rattle.cbl_base.specs.Arithmetic.{exact, fits_64}
 use Rattle.cbl_violations.specs.Fitting.{where_all_fit}
 use Rattle.std.specs.List.{list_all}

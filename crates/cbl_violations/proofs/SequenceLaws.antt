@@ -1,6 +1,6 @@
 -- What it means that no window has too many of a set.
-use Rattle.std.proofs.Common.{◌≡◌, ◌↔◌, ℕ, ◌+◌, ◌-◌, ◌<◌, ◌≤◌, Bool, true, false, cond, List, length, get_or, refl, ap, ◌∙◌, sym, arith, Ok, subst}
-use Rattle.std.specs.Prelude.{ℤ, pos, ◌-ℤ◌, ◌≤ℤ◌, slice_range}
+use Rattle.std.proofs.Common.{◌≡◌, ◌↔◌, ℕ, ◌+◌, ◌≤◌, Bool, true, false, cond, List, length, get_or, refl, ap, ◌∙◌, sym, arith, Ok, subst}
+use Rattle.std.specs.Prelude.{ℤ, pos, ◌≤ℤ◌, slice_range}
 use Rattle.std.specs.List.{range_with_len}
 use Rattle.std.proofs.lemmas.Int.{ints}
 use Rattle.cbl_base.specs.Totals.{total_by}

@@ -1,12 +1,12 @@
 -- What the loop over the windows that hold a place gives.
-use Rattle.std.proofs.Common.{◌≡◌, ℕ, ◌+◌, ◌-◌, ◌<◌, ◌≤◌, Bool, true, false, cond, List, [], ◌∷◌, ◌++◌, length, filter, refl, ap, ◌∙◌, sym, arith, ◌&&◌, Ok, Err, suc}
-use Rattle.std.specs.Prelude.{ℤ, pos, ◌+ℤ◌, ◌≤ℤ◌, IsOk, nat_le, nat_lt}
+use Rattle.std.proofs.Common.{◌≡◌, ℕ, ◌+◌, ◌-◌, ◌<◌, ◌≤◌, Bool, true, false, cond, List, [], ◌∷◌, ◌++◌, filter, refl, ap, ◌∙◌, sym, arith, suc}
+use Rattle.std.specs.Prelude.{ℤ, pos, ◌+ℤ◌, ◌≤ℤ◌, IsOk}
 use Rattle.std.specs.List.{list_all, range_with_len}
 use Rattle.std.proofs.lemmas.Int.{ints, clamps}
 use Rattle.std.proofs.lemmas.Bool.Decides.{nat_tests}
-use Rattle.cbl_base.specs.Arithmetic.{exact, fits_64}
+use Rattle.cbl_base.specs.Arithmetic.{fits_64}
 use Rattle.cbl_base.specs.Totals.{total_by}
-use Rattle.cbl_violations.specs.Fitting.{where_all_fit, each_below, excess}
+use Rattle.cbl_violations.specs.Fitting.{each_below, excess}
 use Rattle.cbl_violations.specs.Violations.Sequence.{surplus_in_window, size_of, windows_in, holds_place, sequence_violations}
 use Rattle.cbl_violations.proofs.FitLemmas.{all_fit, below_fits, list_all_left, list_all_right, and_left, fits_between}
 use Rattle.cbl_violations.proofs.Runs.{total_by-map}

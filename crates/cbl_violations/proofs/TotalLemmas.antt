@@ -1,9 +1,9 @@
 -- Totals of numbers that aren't negative: they aren't either, and are 0 exactly where each number is.
-use Rattle.std.proofs.Common.{◌≡◌, ℕ, zero, suc, ◌+◌, ◌<◌, ◌≤◌, Bool, true, false, List, [], ◌∷◌, refl, ap, ◌∙◌, sym, arith, ◌⊎◌, inl, inr}
-use Rattle.std.specs.Prelude.{ℤ, pos, ◌+ℤ◌, ◌≤ℤ◌, map}
+use Rattle.std.proofs.Common.{◌≡◌, ℕ, zero, suc, ◌+◌, ◌<◌, ◌≤◌, List, [], ◌∷◌, refl, ap, ◌∙◌, sym, arith, ◌⊎◌, inl, inr}
+use Rattle.std.specs.Prelude.{ℤ, pos, ◌≤ℤ◌}
 use Rattle.std.specs.List.{range_with_len}
 use Rattle.std.proofs.lemmas.Int.{ints}
-use Rattle.cbl_base.specs.Totals.{total, total_by}
+use Rattle.cbl_base.specs.Totals.{total_by}
 
 pub total_by_nonneg : {X : Type 0} (f : X → ℤ) → ((x : X) → pos 0 ≤ℤ f x) → (xs : List X) → pos 0 ≤ℤ total_by f xs
 total_by_nonneg f h [] = omega (arith, ints)

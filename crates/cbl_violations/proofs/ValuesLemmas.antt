@@ -1,10 +1,10 @@
 -- Totals over the distinct values of what is left of a list.
-use Rattle.std.proofs.Common.{◌≡◌, ℕ, ◌+◌, ◌-◌, ◌<◌, Bool, true, false, cond, List, [], ◌∷◌, length, get_or, take, drop, refl, ap, ◌∙◌, sym}
+use Rattle.std.proofs.Common.{◌≡◌, ℕ, ◌+◌, ◌-◌, ◌<◌, Bool, true, false, cond, List, ◌∷◌, length, get_or, take, drop, ap, ◌∙◌, sym}
 use Rattle.std.specs.Prelude.{ℤ, ◌+ℤ◌}
 use Rattle.std.proofs.lemmas.List.{drop_more, take_rest}
 use Rattle.cbl_base.specs.Sets.{is_member}
 use Rattle.cbl_base.specs.Counts.{values_in}
-use Rattle.cbl_base.specs.Totals.{total, total_by}
+use Rattle.cbl_base.specs.Totals.{total_by}
 
 -- whether the value at i stands again among the later ones
 later : (xs : List ℤ) (i : ℕ) (v : ℤ) (b : Bool)

@@ -1,6 +1,6 @@
 -- Bounds are an array of numbers: its first entry is the bound of the value `low`, and each next one
 -- that of the value one above. A value outside has no bound.
-use Rattle.std.specs.Prelude.{◌≡◌, ℕ, ℤ, pos, negsuc, ◌-ℤ◌, List, Option, Some, None, slice_get}
+use Rattle.std.specs.Prelude.{◌≡◌, ℤ, pos, negsuc, ◌-ℤ◌, List, Option, Some, None, slice_get}
 
 -- the entry at an index that may be negative
 abbrev pub entry_at : ℤ → List ℤ → Option ℤ

@@ -1,7 +1,7 @@
 -- A value is there where each number that it is made of fits 64 bits signed, and an overflow else. A
 -- sum is one number: its parts must fit where they were computed, its partial sums need not. A rule of
 -- this project.
-use Rattle.std.specs.Prelude.{ℕ, ℤ, pos, List, map, Bool, cond, Result, Ok, Err, if◌then◌else◌, unsigned_abs}
+use Rattle.std.specs.Prelude.{ℕ, ℤ, pos, List, map, Result, Ok, Err, if◌then◌else◌, unsigned_abs}
 use Rattle.std.specs.List.{list_all, range_with_len}
 use Rattle.std.specs.Int.{int_max}
 use Rattle.cbl_base.specs.Arithmetic.{fits_64}

@@ -37,3 +37,6 @@ pub use relations::{
     ne_violation_at, ne_violations,
 };
 pub use sequence::{sequence_violation_at, sequence_violations};
+
+#[cfg(test)]
+mod tests;

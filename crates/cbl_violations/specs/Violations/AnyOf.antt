@@ -1,6 +1,6 @@
 -- One of the constraints is to hold: the least of their violations, and 0 where there is none. A rule
 -- of this project.
-use Rattle.std.specs.Prelude.{ℕ, ℤ, pos, List, [], ◌∷◌, Result, Ok, true, fold}
+use Rattle.std.specs.Prelude.{ℤ, pos, List, [], ◌∷◌, Result, Ok, true, fold}
 use Rattle.std.specs.Int.{int_min}
 use Rattle.cbl_base.specs.NodeLaw.{Rule}
 use Rattle.cbl_base.specs.NumberRule.{rule_of_numbers}

@@ -1,5 +1,5 @@
 -- The constraint is not to hold: 1 where it has 0 violations, and 0 else. A rule of this project.
-use Rattle.std.specs.Prelude.{◌==◌, ℕ, ℤ, pos, List, Result, Ok, if◌then◌else◌, slice_index_or}
+use Rattle.std.specs.Prelude.{◌==◌, ℤ, pos, List, Result, Ok, if◌then◌else◌, slice_index_or}
 use Rattle.std.specs.Ordering.{int_eq}
 use Rattle.cbl_base.specs.NodeLaw.{Rule}
 use Rattle.cbl_base.specs.NumberRule.{rule_of_numbers}

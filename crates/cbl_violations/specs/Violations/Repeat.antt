@@ -1,5 +1,5 @@
 -- The repeat of one number is that number. A rule of this project.
-use Rattle.std.specs.Prelude.{◌==◌, ℕ, ℤ, pos, List, Result, Ok, slice_index_or}
+use Rattle.std.specs.Prelude.{◌==◌, ℤ, pos, List, Result, Ok, slice_index_or}
 use Rattle.cbl_base.specs.NodeLaw.{Rule}
 use Rattle.cbl_base.specs.NumberRule.{rule_of_numbers}
 use Rattle.cbl_base.specs.declared.faults.RunFault.{RunFault}

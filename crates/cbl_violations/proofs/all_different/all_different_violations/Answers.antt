@@ -1,4 +1,4 @@
-use Rattle.std.proofs.Common.{◌≡◌, ◌<◌, ◌≤◌, length, ℕ, ◌+◌, ◌-◌, ◌^◌, drop, get_or, arith, pos, ◌+ℤ◌, ap, ◌∙◌, sym, to_z, of_z, w64, int_eq, FitsSigned, rules, refl}
+use Rattle.std.proofs.Common.{◌≡◌, drop, get_or, arith, pos, ap, ◌∙◌, sym, to_z, of_z, w64, int_eq, FitsSigned, rules}
 use Rattle.std.specs.Int.{w128}
 use Rattle.std.proofs.lemmas.Int.{ints}
 use Rattle.std.proofs.lemmas.List.{drop_all}

@@ -1,4 +1,4 @@
-use Rattle.std.proofs.Common.{◌≡◌, ◌∙◌, ap, arith, to_z, of_z, rules, get_or, drop, pos, ◌+ℤ◌, ◌+◌, w64, FitsSigned}
+use Rattle.std.proofs.Common.{◌≡◌, ◌∙◌, ap, arith, to_z, rules, get_or, drop, pos, ◌+ℤ◌, ◌+◌}
 use Rattle.std.specs.Int.{w128}
 use Rattle.std.proofs.lemmas.Int.{ints}
 use Rattle.std.proofs.lemmas.List.{drop_more, drop_all}

@@ -1,4 +1,4 @@
-use Rattle.std.proofs.Common.{◌≡◌, ◌∙◌, sym, ap, Ok, Result, rules, pos, get_or, take, List, [], ◌∷◌, length, fold, ℕ, ◌+◌, arith, to_z, of_z, refl, w64}
+use Rattle.std.proofs.Common.{◌≡◌, ◌∙◌, sym, ap, Ok, rules, pos, List, [], ◌∷◌, length, fold, arith, to_z, of_z, refl, w64}
 use Rattle.std.specs.Prelude.{ℤ}
 use Rattle.std.specs.Int.{int_min}
 use Rattle.std.proofs.lemmas.Int.{to_z-of_z}

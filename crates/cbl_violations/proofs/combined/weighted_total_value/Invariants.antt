@@ -1,4 +1,4 @@
-use Rattle.std.proofs.Common.{◌≡◌, ◌-◌, ◌*◌, ◌^◌, length, pos, neg_ℤ, ◌≤ℤ◌}
+use Rattle.std.proofs.Common.{◌≡◌, ◌-◌, ◌*◌, ◌^◌, pos, neg_ℤ, ◌≤ℤ◌}
 use Rattle.cbl_violations.specs.Violations.WeightedTotal.{weighted_member, weighted_total_value}
 use Rattle.cbl_violations.proofs.Runs.{run, fitting}
 use Rattle.cbl_violations.proofs.combined.weighted_total_value.Given as goal

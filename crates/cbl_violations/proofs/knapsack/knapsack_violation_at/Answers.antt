@@ -1,4 +1,4 @@
-use Rattle.std.proofs.Common.{◌≡◌, ◌∙◌, sym, ap, rules, to_z, of_z, pos, w64}
+use Rattle.std.proofs.Common.{◌∙◌, ap, rules, to_z, of_z, pos, w64}
 use Rattle.std.specs.Int.{int_max, int_min}
 use Rattle.std.specs.Result.{result_unwrap_or}
 use Rattle.std.proofs.lemmas.Int.{to_z-of_z}

@@ -4,7 +4,7 @@ use Rattle.std.specs.Int.{w128}
 use Rattle.std.proofs.lemmas.Int.{ints, clamps}
 use Rattle.cbl_base.specs.Arithmetic.{exact}
 use Rattle.cbl_violations.specs.Fitting.{excess}
-use Rattle.cbl_violations.specs.Violations.Knapsack.{part_of_load, knapsack_violations}
+use Rattle.cbl_violations.specs.Violations.Knapsack.{part_of_load}
 use Rattle.cbl_violations.proofs.Runs.{Answer, run, fitting, fitting_ok, fitting_err, run_more_fitting, run_done, run_fails_fitting}
 use Rattle.cbl_violations.proofs.KnapsackRun.{knapsack_fails, knapsack_loaded}
 use Rattle.cbl_violations.proofs.SumSteps.{add_part}

@@ -1,6 +1,4 @@
 use Rattle.std.proofs.Common.{◌≡◌, ◌-◌, ◌*◌, ◌^◌, length, pos, neg_ℤ, ◌≤ℤ◌}
-use Rattle.cbl_violations.specs.Fitting.{each_below}
-use Rattle.cbl_base.specs.Totals.{total}
 use Rattle.cbl_violations.specs.Violations.Knapsack.{part_of_load}
 use Rattle.cbl_violations.proofs.Runs.{run, fitting}
 use Rattle.cbl_violations.proofs.knapsack.knapsack_violations.Given as goal

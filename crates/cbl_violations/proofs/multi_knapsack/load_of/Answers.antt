@@ -1,8 +1,6 @@
-use Rattle.std.proofs.Common.{◌≡◌, ◌∙◌, sym, ap, arith, to_z, of_z, rules, pos, ◌+◌, ◌-◌, ◌+ℤ◌, w64, length, FitsSigned}
+use Rattle.std.proofs.Common.{◌≡◌, ◌∙◌, ap, arith, to_z, of_z, rules, length}
 use Rattle.std.specs.Int.{w128}
-use Rattle.std.specs.List.{range_with_len}
 use Rattle.std.proofs.lemmas.Int.{ints, to_z-of_z}
-use Rattle.cbl_base.specs.Totals.{total_by}
 use Rattle.cbl_violations.specs.Violations.MultiKnapsack.{size_in, load_of}
 use Rattle.cbl_violations.proofs.Runs.{total_more, total_start, total_done}
 use Rattle.cbl_violations.proofs.SumSteps.{add_part}

@@ -3,7 +3,7 @@ use Rattle.std.specs.Int.{w128, int_max}
 use Rattle.std.proofs.lemmas.Int.{ints, to_z-of_z}
 use Rattle.cbl_base.specs.Arithmetic.{exact}
 use Rattle.cbl_violations.specs.Bounds.{bound_of}
-use Rattle.cbl_violations.specs.Violations.MultiKnapsack.{load_of, excess_of, multi_knapsack_violations, multi_knapsack_violation_at}
+use Rattle.cbl_violations.specs.Violations.MultiKnapsack.{load_of, excess_of, multi_knapsack_violation_at}
 use Rattle.cbl_violations.proofs.FitLemmas.{unwrapped}
 use Rattle.cbl_violations.proofs.MultiKnapsackRun.{bin_loads_fit}
 use Rattle.cbl_violations.proofs.multi_knapsack.multi_knapsack_violation_at.Goals as goal

@@ -1,8 +1,8 @@
-use Rattle.std.proofs.Common.{◌≡◌, ◌∙◌, sym, ap, arith, Ok, Err, rules, to_z, of_z, pos, w64, FitsSigned, ◌+ℤ◌, ◌-ℤ◌, get_or}
+use Rattle.std.proofs.Common.{◌≡◌, ◌∙◌, sym, ap, arith, Err, rules, to_z, of_z, pos, w64, FitsSigned, ◌+ℤ◌, ◌-ℤ◌, get_or}
 use Rattle.std.specs.Int.{w128}
 use Rattle.std.proofs.lemmas.Int.{ints, to_z-of_z}
 use Rattle.cbl_base.specs.Arithmetic.{exact}
-use Rattle.cbl_violations.specs.Violations.MultiKnapsack.{load_of, load_at, overload_at}
+use Rattle.cbl_violations.specs.Violations.MultiKnapsack.{load_of, load_at}
 use Rattle.cbl_violations.proofs.Runs.{two_fit, two_fail}
 use Rattle.cbl_violations.proofs.multi_knapsack.overload_at.Goals as goal
 

@@ -3,7 +3,7 @@ use Rattle.std.specs.Int.{w128}
 use Rattle.std.proofs.lemmas.Int.{ints, clamps}
 use Rattle.cbl_base.specs.Arithmetic.{exact}
 use Rattle.cbl_violations.specs.Fitting.{excess}
-use Rattle.cbl_violations.proofs.Runs.{fitting, fitting_ok, fitting_err, where_fitting}
+use Rattle.cbl_violations.proofs.Runs.{fitting_ok, where_fitting}
 use Rattle.cbl_violations.proofs.relations.lt_violations.Goals as goal
 
 pub returns : goal.returns

@@ -1,9 +1,9 @@
-use Rattle.std.proofs.Common.{◌≡◌, ◌∙◌, sym, ap, arith, rules, to_z, of_z, pos, w64, cond, ◌+◌, ◌<◌}
+use Rattle.std.proofs.Common.{◌∙◌, sym, ap, arith, rules, to_z, of_z, pos, w64, cond, ◌+◌, ◌<◌}
 use Rattle.std.specs.Int.{int_max}
 use Rattle.std.proofs.lemmas.Int.{to_z-of_z}
 use Rattle.cbl_base.specs.Arithmetic.{exact}
 use Rattle.cbl_violations.specs.Fitting.{excess}
-use Rattle.cbl_violations.specs.Violations.Sequence.{surplus_in_window, size_of, holds_place}
+use Rattle.cbl_violations.specs.Violations.Sequence.{surplus_in_window, size_of}
 use Rattle.cbl_violations.proofs.FitLemmas.{unwrapped}
 use Rattle.cbl_violations.proofs.SequenceRun.{holds, surplus_fits}
 use Rattle.cbl_violations.proofs.sequence.excess_at.Goals as goal

@@ -1,10 +1,8 @@
-use Rattle.std.proofs.Common.{◌≡◌, ◌∙◌, sym, ap, arith, rules, to_z, of_z, pos, w64, cond, get_or, List, ℕ}
-use Rattle.std.specs.Prelude.{ℤ}
+use Rattle.std.proofs.Common.{◌≡◌, ◌∙◌, sym, ap, arith, rules, to_z, of_z, pos, w64, cond}
 use Rattle.std.specs.Int.{w128}
 use Rattle.std.specs.List.{range_with_len}
 use Rattle.std.proofs.lemmas.Int.{ints, to_z-of_z}
 use Rattle.cbl_base.specs.Arithmetic.{exact}
-use Rattle.cbl_base.specs.Sets.{is_member}
 use Rattle.cbl_violations.specs.Fitting.{excess}
 use Rattle.cbl_violations.specs.Violations.Sequence.{surplus_in_window, size_of, windows_in, holds_place, sequence_violation_at}
 use Rattle.cbl_violations.proofs.FitLemmas.{unwrapped}

@@ -1,10 +1,10 @@
-use Rattle.std.proofs.Common.{◌≡◌, ◌∙◌, ap, sym, arith, pos, to_z, of_z, Err, rules, w64, length, ◌-◌, List}
+use Rattle.std.proofs.Common.{◌≡◌, ◌∙◌, ap, sym, arith, to_z, of_z, Err, rules, w64, List}
 use Rattle.std.specs.Prelude.{ℤ}
 use Rattle.std.specs.Int.{w128}
 use Rattle.std.proofs.lemmas.Int.{ints, to_z-of_z}
 use Rattle.cbl_violations.specs.Fitting.{excess}
-use Rattle.cbl_violations.specs.Violations.Sequence.{surplus_in_window, size_of, windows_in, sequence_violations}
-use Rattle.cbl_violations.proofs.Runs.{run, fitting, start_run_at, run_more_fitting, run_done, run_fails_fitting}
+use Rattle.cbl_violations.specs.Violations.Sequence.{surplus_in_window, size_of, sequence_violations}
+use Rattle.cbl_violations.proofs.Runs.{start_run_at, run_more_fitting, run_done, run_fails_fitting}
 use Rattle.cbl_violations.proofs.SumSteps.{add_excess}
 use Rattle.cbl_violations.proofs.sequence.sequence_violations.Goals as goal
 
