@@ -93,6 +93,7 @@ module _ (f : ℤ → ℤ) (nonneg : (v : ℤ) → pos 0 ≤ℤ f v) where
     where
       split : (b : Bool) → is_member x xs ≡ b → total_by f (values_in (x ∷ xs)) ≡ total_by f (cond b (values_in xs) (x ∷ values_in xs))
       split b g = ap (λ b. total_by f (cond b (values_in xs) (x ∷ values_in xs))) g
+
       by_tests : (total_by f (values_in xs) ≡ pos 0 → is_member v xs ≡ true → f v ≡ pos 0) → (a : Bool) → is_member x xs ≡ a → (b : Bool) → int_eq x v ≡ b → (c : Bool) → is_member v xs ≡ c → f v ≡ pos 0
       by_tests later true g b h true i = later (sym (split true g) ∙ e) i
       by_tests later false g b h true i =
@@ -131,6 +132,7 @@ differ xs z e = (there, back)
         let once = stands_once xs (e ∙ ap Ok none) i d (omega arith) in
         let twice = count_two (get_or xs i d) xs i j d l h refl (sym same) in
         omega (arith, once, twice)
+
     back : AllPairs ◌≢◌ xs → z ≡ pos 0
     back h = sym (violations_are xs z e) ∙ all_zero (repeats_of xs) (repeats_nonneg xs) (λ v. omega (arith, ints, count_small xs h v)) (values_in xs)
 

@@ -1,8 +1,8 @@
 -- What combines constraints, over members and weights that aren't negative.
-use Rattle.std.proofs.Common.{◌≡◌, ◌↔◌, ℕ, zero, suc, ◌+◌, List, [], ◌∷◌, ◌++◌, get_or, refl, ◌∙◌, sym, subst, arith, Ok, Result, fold, map}
-use Rattle.std.specs.Prelude.{ℤ, pos, negsuc, ◌*ℤ◌, ◌≤ℤ◌, All}
+use Rattle.std.proofs.Common.{◌≡◌, ◌↔◌, ℕ, zero, suc, ◌+◌, ◌<◌, length, List, [], ◌∷◌, ◌++◌, get_or, refl, ◌∙◌, sym, subst, arith, inl, inr, ◌⊎◌, Ok, Result, fold, map}
+use Rattle.std.specs.Prelude.{ℤ, pos, negsuc, ◌*ℤ◌, ◌≤ℤ◌, All, Contains}
 use Rattle.std.specs.Int.{int_min}
-use Rattle.std.proofs.lemmas.Int.{ints, clamps, fold-int_min_bounds}
+use Rattle.std.proofs.lemmas.Int.{ints, clamps, fold-int_min_bounds, fold-int_min_reached}
 use Rattle.std.specs.List.{range_with_len}
 use Rattle.cbl_base.specs.declared.faults.RunFault.{RunFault}
 use Rattle.cbl_base.specs.Totals.{total}
@@ -50,11 +50,27 @@ pub all_nonneg : (members : List ℤ) (z : ℤ) → All (λ m. pos 0 ≤ℤ m) m
 unfolding all_of_violations
 all_nonneg members z h e = subst (λ z. pos 0 ≤ℤ z) (exact_is (total members) z e) (sum_nonneg members h)
 
+given : (y z : ℤ) (r : Result ℤ RunFault) → r ≡ Ok y → r ≡ Ok z → y ≡ z
+given y z r e f = cc
+
 -- the least is no more than each
 least_below : (xs : List ℤ) → All (λ m. least xs ≤ℤ m) xs
 least_below [] k d l = absurd (omega arith)
 least_below (x ∷ xs) zero d l = (fold-int_min_bounds x xs (fold int_min x xs) refl).0
 least_below (x ∷ xs) (suc k) d l = (fold-int_min_bounds x xs (fold int_min x xs) refl).1 k d (omega arith)
+
+-- and it is one of them
+least_among : (xs : List ℤ) → 0 < length xs → Contains xs (least xs)
+least_among [] h = absurd (omega arith)
+least_among (x ∷ xs) h = by_case (fold-int_min_reached x xs (fold int_min x xs) refl)
+  where
+    by_case : (fold int_min x xs ≡ x) ⊎ Contains xs (fold int_min x xs) → Contains (x ∷ xs) (fold int_min x xs)
+    by_case (inl first) = (0, (omega arith, sym first))
+    by_case (inr later) = (suc later.0, (omega (arith, later.1.0), later.1.1))
+
+pub any_attained : (members : List ℤ) (z : ℤ) → 0 < length members → any_of_violations members ≡ Ok z → Contains members z
+unfolding any_of_violations
+any_attained members z h e = subst (λ z. Contains members z) (given (least members) z (any_of_violations members) refl e) (least_among members h)
 
 running_nonneg : (a : ℤ) (xs : List ℤ) → pos 0 ≤ℤ a → All (λ m. pos 0 ≤ℤ m) xs → pos 0 ≤ℤ fold int_min a xs
 running_nonneg a [] h hs = h
@@ -65,9 +81,6 @@ running_nonneg a (x ∷ xs) h hs =
 least_nonneg : (xs : List ℤ) → All (λ m. pos 0 ≤ℤ m) xs → pos 0 ≤ℤ least xs
 least_nonneg [] h = omega (arith, ints)
 least_nonneg (x ∷ xs) h = running_nonneg x xs (h 0 x (omega arith)) (tail (λ m. pos 0 ≤ℤ m) x xs h)
-
-given : (y z : ℤ) (r : Result ℤ RunFault) → r ≡ Ok y → r ≡ Ok z → y ≡ z
-given y z r e f = cc
 
 pub any_least : (members : List ℤ) (z : ℤ) → any_of_violations members ≡ Ok z → All (λ m. z ≤ℤ m) members
 unfolding any_of_violations
@@ -97,4 +110,4 @@ unfolding weighted_total_value
 total_nonneg members inputs z h e =
     let products = each_below members (weighted_member members inputs) in
     subst (λ z. pos 0 ≤ℤ z) (value_is (products ++ total products ∷ []) (total products) z e)
-        (map_nonneg (weighted_member members inputs) (λ k. product_nonneg _ _ (at_nonneg inputs h k) (at_nonneg inputs h (members + k))) (range_with_len 0 members))
+    (map_nonneg (weighted_member members inputs) (λ k. product_nonneg _ _ (at_nonneg inputs h k) (at_nonneg inputs h (members + k))) (range_with_len 0 members))

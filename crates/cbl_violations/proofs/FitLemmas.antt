@@ -40,8 +40,9 @@ range_fits g a zero e k low high = absurd (omega arith)
 range_fits g a (suc n) e k low high =
     let cases : (a ≡ k) ⊎ (a + 1 ≤ k) = grind arith in
     elim cases [
-        inl same ↦ ap (λ k. fits_64 (g k)) (sym same) ∙ and_left (fits_64 (g a)) _ e
-      | inr above ↦ range_fits g (a + 1) n (and_right (fits_64 (g a)) _ e) k above (omega arith) ]
+      | inl same ↦ ap (λ k. fits_64 (g k)) (sym same) ∙ and_left (fits_64 (g a)) _ e
+      | inr above ↦ range_fits g (a + 1) n (and_right (fits_64 (g a)) _ e) k above (omega arith)
+    ]
 
 pub below_fits : (g : ℕ → ℤ) (n : ℕ) → list_all fits_64 (each_below n g) ≡ true → (k : ℕ) → k < n → fits_64 (g k) ≡ true
 below_fits g n e k h = range_fits g 0 n e k (omega arith) (omega arith)

@@ -14,7 +14,7 @@ use Rattle.cbl_violations.proofs.Runs.{and_then, run, fitting, start_run_plain, 
 -- the parts fit, the load does, and so does how far it is above
 three_fit : (parts : Bool) (load above : ℤ)
     → cond (parts && (fits_64 load && (fits_64 above && true))) (Ok (excess above)) (Err Overflow)
-      ≡ and_then (cond (parts && (fits_64 load && true)) (Ok load) (Err Overflow)) (λ _. fitting excess above)
+    ≡ and_then (cond (parts && (fits_64 load && true)) (Ok load) (Err Overflow)) (λ _. fitting excess above)
 three_fit false load above = refl
 three_fit true load above = by_fit (fits_64 load) (fits_64 above)
   where
@@ -26,8 +26,8 @@ three_fit true load above = by_fit (fits_64 load) (fits_64 above)
 
 pub knapsack_run : (weights : List ℤ) (capacity : ℤ) (xs : List ℤ)
     → knapsack_violations weights capacity xs
-      ≡ and_then (run (λ k. fitting (λ z. z) (part_of_load weights xs k)) (pos 0) 0 (length xs - 0))
-          (λ _. fitting excess (total (each_below (length xs) (part_of_load weights xs)) -ℤ capacity))
+    ≡ and_then (run (λ k. fitting (λ z. z) (part_of_load weights xs k)) (pos 0) 0 (length xs - 0))
+    (λ _. fitting excess (total (each_below (length xs) (part_of_load weights xs)) -ℤ capacity))
 unfolding knapsack_violations
 knapsack_run weights capacity xs =
     let parts = each_below (length xs) (part_of_load weights xs) in
@@ -72,4 +72,4 @@ parts_fit weights capacity xs h k within =
     let parts = each_below (length xs) (part_of_load weights xs) in
     let load = total parts in
     below_fits (part_of_load weights xs) (length xs)
-        (list_all_left fits_64 parts (load ∷ (load -ℤ capacity) ∷ []) (all_fit (parts ++ load ∷ (load -ℤ capacity) ∷ []) (excess (load -ℤ capacity)) h)) k within
+    (list_all_left fits_64 parts (load ∷ (load -ℤ capacity) ∷ []) (all_fit (parts ++ load ∷ (load -ℤ capacity) ∷ []) (excess (load -ℤ capacity)) h)) k within

@@ -43,9 +43,10 @@ module _ (weights : List ℤ) (capacity : ℤ) (xs : List ℤ) where
   pub knapsack_holds : (z : ℤ) → length xs ≡ length weights → knapsack_violations weights capacity xs ≡ Ok z → (z ≡ pos 0) ↔ (pair_total ◌*ℤ◌ weights xs ≤ℤ capacity)
   knapsack_holds z lengths e =
       let same = pair_total_is ◌*ℤ◌ weights xs lengths in
-      let above = knapsack_is z e in
-      ((λ none. let within = excess_zero (total (each_below (length xs) (part_of_load weights xs)) -ℤ capacity) (above ∙ none) in omega (arith, ints, within, same)),
-       (λ within. sym above ∙ zero_excess (total (each_below (length xs) (part_of_load weights xs)) -ℤ capacity) (omega (arith, ints, within, same))))
+      let above = knapsack_is z e in (
+        (λ none. let within = excess_zero (total (each_below (length xs) (part_of_load weights xs)) -ℤ capacity) (above ∙ none) in omega (arith, ints, within, same)),
+        (λ within. sym above ∙ zero_excess (total (each_below (length xs) (part_of_load weights xs)) -ℤ capacity) (omega (arith, ints, within, same))),
+      )
 
   pub knapsack_nonneg : (z : ℤ) → knapsack_violations weights capacity xs ≡ Ok z → pos 0 ≤ℤ z
   knapsack_nonneg z e = subst (λ z. pos 0 ≤ℤ z) (knapsack_is z e) (excess_nonneg (total (each_below (length xs) (part_of_load weights xs)) -ℤ capacity))
@@ -82,9 +83,10 @@ module _ (sizes : List ℤ) (low : ℤ) (capacities xs : List ℤ) where
 
   pub bins_hold : (z : ℤ) → length xs ≡ length sizes → multi_knapsack_violations sizes low capacities xs ≡ Ok z
       → (z ≡ pos 0) ↔ EachBounded low capacities (λ bin capacity. pair_total (λ size x. cond (int_eq x bin) size (pos 0)) sizes xs ≤ℤ capacity)
-  bins_hold z lengths e =
-      ((λ none bin capacity bound. subst (λ z. z ≤ℤ capacity) (same_load lengths bin) (within_capacities (e ∙ ap Ok none) bin capacity bound)),
-       (λ h. no_violations z e (λ bin capacity bound. subst (λ z. z ≤ℤ capacity) (sym (same_load lengths bin)) (h bin capacity bound))))
+  bins_hold z lengths e = (
+    (λ none bin capacity bound. subst (λ z. z ≤ℤ capacity) (same_load lengths bin) (within_capacities (e ∙ ap Ok none) bin capacity bound)),
+    (λ h. no_violations z e (λ bin capacity bound. subst (λ z. z ≤ℤ capacity) (sym (same_load lengths bin)) (h bin capacity bound))),
+  )
 
   pub bins_nonneg : (z : ℤ) → multi_knapsack_violations sizes low capacities xs ≡ Ok z → pos 0 ≤ℤ z
   bins_nonneg z e = subst (λ z. pos 0 ≤ℤ z) (bins_are z e) (below_nonneg excess excess_nonneg (overload_at sizes low capacities xs) (length capacities))

@@ -43,11 +43,11 @@ bins_run sizes low capacities xs =
     let overloads = each_below n (overload_at sizes low capacities xs) in
     let z = total_by excess overloads in
     let same : (pos 0 +ℤ total_by (λ k. excess (overload_at sizes low capacities xs k)) range) ≡ z
-        = omega (arith, ints, total_by-map excess (overload_at sizes low capacities xs) range) in
+    = omega (arith, ints, total_by-map excess (overload_at sizes low capacities xs) range) in
     let fit = both (λ k. fits_64 (load_at sizes low xs k)) (λ k. fits_64 (overload_at sizes low capacities xs k)) range
-        ∙ ap (λ b. b && list_all (λ k. fits_64 (overload_at sizes low capacities xs k)) range) (sym (list_all-map fits_64 (load_at sizes low xs) range))
-        ∙ ap (λ b. list_all fits_64 loads && b) (sym (list_all-map fits_64 (overload_at sizes low capacities xs) range))
-        ∙ sym (list_all-append fits_64 loads overloads) in
+    ∙ ap (λ b. b && list_all (λ k. fits_64 (overload_at sizes low capacities xs k)) range) (sym (list_all-map fits_64 (load_at sizes low xs) range))
+    ∙ ap (λ b. list_all fits_64 loads && b) (sym (list_all-map fits_64 (overload_at sizes low capacities xs) range))
+    ∙ sym (list_all-append fits_64 loads overloads) in
     ap (run (bin_part sizes low capacities xs) (pos 0) 0) all
     ∙ run_guarded (bin_fits sizes low capacities xs) (λ k. excess (overload_at sizes low capacities xs k)) (pos 0) 0 n
     ∙ ap (λ y. cond (list_all (bin_fits sizes low capacities xs) range) (exact y) (Err Overflow)) same
@@ -83,16 +83,18 @@ loads_fit sizes low capacities xs h k within =
     let loads = each_below n (load_at sizes low xs) in
     let overloads = each_below n (overload_at sizes low capacities xs) in
     let z = total_by excess overloads in
-    let both = list_all_left fits_64 (loads ++ overloads) (z ∷ []) (all_fit (loads ++ overloads ++ z ∷ []) z h) in
-    (below_fits (load_at sizes low xs) n (list_all_left fits_64 loads overloads both) k within,
-     below_fits (overload_at sizes low capacities xs) n (list_all_right fits_64 loads overloads both) k within)
+    let both = list_all_left fits_64 (loads ++ overloads) (z ∷ []) (all_fit (loads ++ overloads ++ z ∷ []) z h) in (
+      below_fits (load_at sizes low xs) n (list_all_left fits_64 loads overloads both) k within,
+      below_fits (overload_at sizes low capacities xs) n (list_all_right fits_64 loads overloads both) k within,
+    )
 
 pub bin_loads_fit : (sizes : List ℤ) (low : ℤ) (capacities xs : List ℤ) → IsOk (multi_knapsack_violations sizes low capacities xs)
     → (bin capacity : ℤ) → bound_of low capacities bin ≡ Some capacity
     → (fits_64 (load_of bin sizes xs) ≡ true) × (fits_64 (load_of bin sizes xs -ℤ capacity) ≡ true)
 bin_loads_fit sizes low capacities xs h bin capacity e =
     let found = has_bound low capacities bin capacity e in
-    let fit = loads_fit sizes low capacities xs h found.k found.within in
-    (ap (λ b. fits_64 (load_of b sizes xs)) found.value ∙ fit.0,
-     ap (λ b. fits_64 (load_of b sizes xs -ℤ capacity)) found.value
-     ∙ ap (λ c. fits_64 (load_at sizes low xs found.k -ℤ c)) (sym found.bound) ∙ fit.1)
+    let fit = loads_fit sizes low capacities xs h found.k found.within in (
+      ap (λ b. fits_64 (load_of b sizes xs)) found.value ∙ fit.0,
+      ap (λ b. fits_64 (load_of b sizes xs -ℤ capacity)) found.value
+          ∙ ap (λ c. fits_64 (load_at sizes low xs found.k -ℤ c)) (sym found.bound) ∙ fit.1,
+    )

@@ -60,17 +60,19 @@ guarded guard h k = cond (guard k) (Ok (h k)) (Err Overflow)
 
 pub run_guarded : (guard : ℕ → Bool) (h : ℕ → ℤ) (s : ℤ) (a n : ℕ)
     → run (guarded guard h) s a n
-      ≡ cond (list_all guard (range_with_len a n)) (exact (s +ℤ total_by h (range_with_len a n))) (Err Overflow)
+    ≡ cond (list_all guard (range_with_len a n)) (exact (s +ℤ total_by h (range_with_len a n))) (Err Overflow)
 run_guarded guard h s a zero = let same : s ≡ (s +ℤ pos 0) = omega (arith, ints) in ap exact same
 run_guarded guard h s a (suc n) = by_guard (run_guarded guard h (s +ℤ h a) (a + 1) n) (guard a)
   where
     rest : Bool
     rest = list_all guard (range_with_len (a + 1) n)
+
     sum : ℤ
     sum = total_by h (range_with_len (a + 1) n)
+
     by_guard : run (guarded guard h) (s +ℤ h a) (a + 1) n ≡ cond (list_all guard (range_with_len (a + 1) n)) (exact (s +ℤ h a +ℤ total_by h (range_with_len (a + 1) n))) (Err Overflow) → (b : Bool)
         → and_then (cond b (Ok (h a)) (Err Overflow)) (λ v. run (guarded guard h) (s +ℤ v) (a + 1) n)
-          ≡ cond (b && list_all guard (range_with_len (a + 1) n)) (exact (s +ℤ (h a +ℤ total_by h (range_with_len (a + 1) n)))) (Err Overflow)
+        ≡ cond (b && list_all guard (range_with_len (a + 1) n)) (exact (s +ℤ (h a +ℤ total_by h (range_with_len (a + 1) n)))) (Err Overflow)
     by_guard later true =
         let same : (s +ℤ h a +ℤ total_by h (range_with_len (a + 1) n)) ≡ (s +ℤ (h a +ℤ total_by h (range_with_len (a + 1) n))) = omega (arith, ints) in
         later ∙ ap (λ z. cond (list_all guard (range_with_len (a + 1) n)) (exact z) (Err Overflow)) same
@@ -104,7 +106,7 @@ fit_with_total true z = by_fit (fits_64 z)
 
 pub total_run : (f : ℤ → ℤ) (g : ℕ → ℤ) (n : ℕ)
     → run (λ k. fitting f (g k)) (pos 0) 0 n
-      ≡ where_all_fit (each_below n g ++ total_by f (each_below n g) ∷ []) (total_by f (each_below n g))
+    ≡ where_all_fit (each_below n g ++ total_by f (each_below n g) ∷ []) (total_by f (each_below n g))
 total_run f g n =
     let range = range_with_len 0 n in
     let z = total_by f (each_below n g) in
@@ -118,7 +120,7 @@ total_run f g n =
 -- the loop at its start
 pub start_run : (f : ℤ → ℤ) (g : ℕ → ℤ) (n : ℕ)
     → run (λ k. fitting f (g k)) (pos 0) 0 (n - 0)
-      ≡ where_all_fit (each_below n g ++ total_by f (each_below n g) ∷ []) (total_by f (each_below n g))
+    ≡ where_all_fit (each_below n g ++ total_by f (each_below n g) ∷ []) (total_by f (each_below n g))
 start_run f g n = let all : n - 0 ≡ n = omega arith in ap (run (λ k. fitting f (g k)) (pos 0) 0) all ∙ total_run f g n
 
 -- a step of the loop whose parts must each fit
@@ -137,7 +139,7 @@ total_by_itself (z ∷ zs) = ap (λ y. z +ℤ y) (total_by_itself zs)
 
 pub start_run_plain : (g : ℕ → ℤ) (n : ℕ)
     → run (λ k. fitting (λ z. z) (g k)) (pos 0) 0 (n - 0)
-      ≡ where_all_fit (each_below n g ++ total (each_below n g) ∷ []) (total (each_below n g))
+    ≡ where_all_fit (each_below n g ++ total (each_below n g) ∷ []) (total (each_below n g))
 start_run_plain g n =
     start_run (λ z. z) g n
     ∙ ap (λ z. where_all_fit (each_below n g ++ z ∷ []) z) (total_by_itself (each_below n g))
@@ -162,7 +164,7 @@ where_fitting f z = by_fit (fits_64 z)
 
 pub start_run_at : (f : ℤ → ℤ) (g : ℕ → ℤ) (n m : ℕ) → m ≡ n
     → run (λ k. fitting f (g k)) (pos 0) 0 (m - 0)
-      ≡ where_all_fit (each_below n g ++ total_by f (each_below n g) ∷ []) (total_by f (each_below n g))
+    ≡ where_all_fit (each_below n g ++ total_by f (each_below n g) ∷ []) (total_by f (each_below n g))
 start_run_at f g n m e = let all : m - 0 ≡ n = omega arith in ap (run (λ k. fitting f (g k)) (pos 0) 0) all ∙ total_run f g n
 
 -- two numbers that must fit, where the second is made of the first

@@ -31,7 +31,7 @@ module _ (values : List ℤ) (most window : ℤ) (xs : List ℤ) where
       → ((start : ℕ) → start + size_of window ≤ length xs → pos (count_in values (slice_range xs start (start + size_of window))) ≤ℤ most) → z ≡ pos 0
   no_violations z e h = sym (windows_are z e)
       ∙ below_all_zero excess excess_nonneg (surplus_in_window values most (size_of window) xs) (windows_in (size_of window) xs) (λ start within.
-          let part = h start (omega (arith, within)) in zero_excess (surplus_in_window values most (size_of window) xs start) (omega (arith, ints, part)))
+      let part = h start (omega (arith, within)) in zero_excess (surplus_in_window values most (size_of window) xs start) (omega (arith, ints, part)))
 
   pub windows_hold : (z : ℤ) → sequence_violations values most window xs ≡ Ok z
       → (z ≡ pos 0) ↔ ((start : ℕ) → start + size_of window ≤ length xs → pos (count_in values (slice_range xs start (start + size_of window))) ≤ℤ most)

@@ -51,7 +51,7 @@ excess_nonneg z = omega (arith, ints, clamps)
 -- where there is a value, how many more stand in a window fits, and so does the sum over some windows
 parts_and_sum : (values : List ℤ) (most window : ℤ) (xs : List ℤ) → IsOk (sequence_violations values most window xs)
     → let surpluses = each_below (windows_in (size_of window) xs) (surplus_in_window values most (size_of window) xs) in
-      list_all fits_64 (surpluses ++ total_by excess surpluses ∷ []) ≡ true
+    list_all fits_64 (surpluses ++ total_by excess surpluses ∷ []) ≡ true
 unfolding sequence_violations
 parts_and_sum values most window xs valued =
     let surpluses = each_below (windows_in (size_of window) xs) (surplus_in_window values most (size_of window) xs) in
@@ -62,7 +62,7 @@ pub surplus_fits : (values : List ℤ) (most window : ℤ) (xs : List ℤ) → I
 surplus_fits values most window xs valued start h =
     let surpluses = each_below (windows_in (size_of window) xs) (surplus_in_window values most (size_of window) xs) in
     below_fits (surplus_in_window values most (size_of window) xs) (windows_in (size_of window) xs)
-        (list_all_left fits_64 surpluses (total_by excess surpluses ∷ []) (parts_and_sum values most window xs valued)) start h
+    (list_all_left fits_64 surpluses (total_by excess surpluses ∷ []) (parts_and_sum values most window xs valued)) start h
 
 pub sum_where_fits : (values : List ℤ) (most window : ℤ) (xs : List ℤ) → IsOk (sequence_violations values most window xs)
     → (p : ℕ → Bool) → fits_64 (sum_where p (λ start. excess (surplus_in_window values most (size_of window) xs start)) (range_with_len 0 (windows_in (size_of window) xs))) ≡ true
@@ -72,5 +72,5 @@ sum_where_fits values most window xs valued p =
     let range = range_with_len 0 (windows_in (size_of window) xs) in
     let within = sum_where_within p h (λ start. excess_nonneg (surplus_in_window values most (size_of window) xs start)) range in
     fits_between (sum_where p h range) (total_by h range) within.0 within.1
-        (sym (ap fits_64 (total_by-map excess (surplus_in_window values most (size_of window) xs) range))
-         ∙ and_left _ true (list_all_right fits_64 surpluses (total_by excess surpluses ∷ []) (parts_and_sum values most window xs valued)))
+    (sym (ap fits_64 (total_by-map excess (surplus_in_window values most (size_of window) xs) range))
+    ∙ and_left _ true (list_all_right fits_64 surpluses (total_by excess surpluses ∷ []) (parts_and_sum values most window xs valued)))

@@ -21,7 +21,8 @@ pub add_excess : (s d m r : ℤ) (n : ℕ) → FitsSigned w64 d → m ≡ int_ma
 add_excess s d m r n fits max cast low high small = record {
   is = omega (arith, ints, clamps);
   low = omega (arith, ints, clamps);
-  high = omega (arith, ints, clamps) }
+  high = omega (arith, ints, clamps);
+}
 
 pub add_distance : (s d r m : ℤ) (n : ℕ) → FitsSigned w64 d → r ≡ to_z w64 (of_z w64 d) → m ≡ pos (unsigned_abs (to_z w128 (of_z w128 r)))
     → pos 0 ≤ℤ s → s ≤ℤ pos (2 ^ 63 * n) → n < 2 ^ 63
@@ -33,7 +34,8 @@ add_distance s d r m n fits cast abs low high small =
     record {
       is = omega (arith, ints, part);
       low = omega (arith, ints, part);
-      high = omega (arith, ints, part) }
+      high = omega (arith, ints, part);
+    }
 
 -- a part of either sign
 pub record AddedEither (s part sum : ℤ) (n : ℕ) : Type 0 where
@@ -47,4 +49,5 @@ pub add_part : (s d r : ℤ) (n : ℕ) → FitsSigned w64 d → r ≡ to_z w64 (
 add_part s d r n fits cast low high small = record {
   is = omega (arith, ints);
   low = omega (arith, ints);
-  high = omega (arith, ints) }
+  high = omega (arith, ints);
+}

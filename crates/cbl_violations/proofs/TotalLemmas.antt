@@ -18,8 +18,9 @@ range_zero f h a (suc n) e k low high =
     let first = h a in
     let cases : (a ≡ k) ⊎ (a + 1 ≤ k) = grind arith in
     elim cases [
-        inl same ↦ ap f (sym same) ∙ omega (arith, ints, rest, first, e)
-      | inr above ↦ range_zero f h (a + 1) n (omega (arith, ints, rest, first, e)) k above (omega arith) ]
+      | inl same ↦ ap f (sym same) ∙ omega (arith, ints, rest, first, e)
+      | inr above ↦ range_zero f h (a + 1) n (omega (arith, ints, rest, first, e)) k above (omega arith)
+    ]
 
 pub range_all_zero : (f : ℕ → ℤ) (a n : ℕ) → ((k : ℕ) → a ≤ k → k < a + n → f k ≡ pos 0) → total_by f (range_with_len a n) ≡ pos 0
 range_all_zero f a zero h = refl

@@ -1,7 +1,7 @@
 //! What holds of the constraints, whatever their inputs are: a constraint has 0 violations exactly where
 //! what its name says holds, and never fewer; with 0 violations each of its places has 0; and its values
 //! are numbers.
-ghost use Rattle.std.specs.Prelude.{◌≡◌, ◌≢◌, ◌↔◌, ◌+◌, ◌*ℤ◌, ◌<◌, ◌≤◌, ◌<ℤ◌, ◌≤ℤ◌, ℕ, ℤ, pos, List, length, All, AllPairs, Ok, if◌then◌else◌, slice_index_or, slice_range};
+ghost use Rattle.std.specs.Prelude.{◌≡◌, ◌≢◌, ◌↔◌, ◌+◌, ◌*ℤ◌, ◌<◌, ◌≤◌, ◌<ℤ◌, ◌≤ℤ◌, ℕ, ℤ, pos, List, length, All, AllPairs, Contains, Ok, if◌then◌else◌, slice_index_or, slice_range};
 ghost use Rattle.std.specs.Ordering.{int_eq};
 ghost use Rattle.cbl_base.specs.Counts.{count_of};
 ghost use Rattle.cbl_base.specs.NodeLaw.{GivesOneKind};
@@ -134,8 +134,9 @@ pub fn all_of_law()
     ensures one_kind { GivesOneKind all_of }
 {}
 
-/// The violations of `or` are at most those of each member, and not below 0 where no member is.
+/// The violations of `or` are those of a member, where there is one, and at most those of each member.
 pub fn any_of_law()
+    ensures attained { (members : List ℤ) (z : ℤ) → 0 < length members → any_of_violations members ≡ Ok z → Contains members z }
     ensures least { (members : List ℤ) (z : ℤ) → any_of_violations members ≡ Ok z → All (λ m. z ≤ℤ m) members }
     ensures never_negative { (members : List ℤ) (z : ℤ) → All (λ m. pos 0 ≤ℤ m) members → any_of_violations members ≡ Ok z → pos 0 ≤ℤ z }
     ensures one_kind { GivesOneKind any_of }

@@ -29,7 +29,8 @@ pub use combined::{
 pub use knapsack::{knapsack_violation_at, knapsack_violations};
 pub use laws::{
     all_different_law, all_of_law, any_of_law, at_least_law, at_most_law, eq_law, exactly_law,
-    knapsack_law, le_law, lt_law, multi_knapsack_law, ne_law, not_held_law, sequence_law, total_law,
+    knapsack_law, le_law, lt_law, multi_knapsack_law, ne_law, not_held_law, sequence_law,
+    total_law,
 };
 pub use multi_knapsack::{multi_knapsack_violation_at, multi_knapsack_violations};
 pub use relations::{

@@ -13,7 +13,11 @@ fn size_in(inputs: &[i64], sizes: &[i64], bin: i128, place: usize) -> i64
     requires within { place < length inputs.now }
     ensures { result ≡ size_in bin sizes.now inputs.now place }
 {
-    if i128::from(inputs[place]) == bin { sizes[place] } else { 0 }
+    if i128::from(inputs[place]) == bin {
+        sizes[place]
+    } else {
+        0
+    }
 }
 
 /// The load of the bin: the sizes of the places with its number.

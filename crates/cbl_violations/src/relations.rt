@@ -11,7 +11,11 @@ pub fn eq_violations(inputs: &[i64]) -> Result<i64, RunFault>
     ensures { result ≡ of_two eq_violations inputs.now }
 {
     let difference = sub(inputs[0], inputs[1])?;
-    if difference < 0 { sub(0, difference) } else { Ok(difference) }
+    if difference < 0 {
+        sub(0, difference)
+    } else {
+        Ok(difference)
+    }
 }
 
 /// 1 where the two inputs are equal, and else 0.

@@ -78,7 +78,9 @@ fn excess_at(
     ensures { result ≡ (if holds_place (size_of window) place start then excess (surplus_in_window values.now most (size_of window) inputs.now start) else pos 0) }
 {
     if start <= place && place < start + size_of(window) {
-        surplus_in_window(inputs, start, values, most, window).unwrap_or(0).max(0)
+        surplus_in_window(inputs, start, values, most, window)
+            .unwrap_or(0)
+            .max(0)
     } else {
         0
     }

@@ -4,7 +4,9 @@ use cbl_base::RunFault;
 use std::test::*;
 
 const MIN: i64 = i64::MIN;
+
 const MAX: i64 = i64::MAX;
+
 const OVERFLOW: Result<i64, RunFault> = Err(RunFault::Overflow);
 
 /// Two numbers, and what `==`, `!=`, `<=` and `<` have of them.
@@ -63,7 +65,11 @@ fn all_different(rt: HostRuntime) {
     for (inputs, want, places) in rows {
         assert_eq!(rt; all_different_violations(inputs), Ok(want), "{inputs:?}");
         for (place, want) in (0..inputs.len()).zip(places) {
-            assert_eq!(rt; all_different_violation_at(inputs, place), *want, "{inputs:?} at {place}");
+            assert_eq!(rt;
+                all_different_violation_at(inputs, place),
+                *want,
+                "{inputs:?} at {place}"
+            );
         }
     }
 }
@@ -163,7 +169,11 @@ fn knapsack(rt: HostRuntime) {
         if violations.is_ok() {
             for (place, want) in (0..inputs.len()).zip(places) {
                 let violation = knapsack_violation_at(inputs, place, weights, capacity);
-                assert_eq!(rt; violation, *want, "{weights:?} {capacity} {inputs:?} at {place}");
+                assert_eq!(rt;
+                    violation,
+                    *want,
+                    "{weights:?} {capacity} {inputs:?} at {place}"
+                );
             }
         }
     }
@@ -187,11 +197,19 @@ fn multi_knapsack(rt: HostRuntime) {
     for (sizes, low, capacities, inputs, want, places) in rows {
         assert_eq!(rt; inputs.len(), sizes.len());
         let violations = multi_knapsack_violations(inputs, sizes, low, capacities);
-        assert_eq!(rt; violations, want, "{sizes:?} {low} {capacities:?} {inputs:?}");
+        assert_eq!(rt;
+            violations,
+            want,
+            "{sizes:?} {low} {capacities:?} {inputs:?}"
+        );
         if violations.is_ok() {
             for (place, want) in (0..inputs.len()).zip(places) {
                 let violation = multi_knapsack_violation_at(inputs, place, sizes, low, capacities);
-                assert_eq!(rt; violation, *want, "{sizes:?} {low} {capacities:?} {inputs:?} at {place}");
+                assert_eq!(rt;
+                    violation,
+                    *want,
+                    "{sizes:?} {low} {capacities:?} {inputs:?} at {place}"
+                );
             }
         }
     }
@@ -217,7 +235,11 @@ fn sequence(rt: HostRuntime) {
         if violations.is_ok() {
             for (place, want) in (0..inputs.len()).zip(places) {
                 let violation = sequence_violation_at(inputs, place, values, most, window);
-                assert_eq!(rt; violation, *want, "{values:?} {most} {window} {inputs:?} at {place}");
+                assert_eq!(rt;
+                    violation,
+                    *want,
+                    "{values:?} {most} {window} {inputs:?} at {place}"
+                );
             }
         }
     }

@@ -8,4 +8,5 @@ abbrev pub invariant-loop-place : goal.invariant-loop-place
 invariant-loop-place l = record {
   rest : (l.sum +ℤ total_by (repeats_of l.inputs) (values_in (drop l.place l.inputs))) ≡ total_by (repeats_of l.inputs) (values_in l.inputs);
   low : pos 0 ≤ℤ l.sum;
-  high : l.sum ≤ℤ pos (2 ^ 63 * l.place) }
+  high : l.sum ≤ℤ pos (2 ^ 63 * l.place);
+}

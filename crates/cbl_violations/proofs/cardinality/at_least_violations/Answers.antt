@@ -12,7 +12,8 @@ unfolding at_least_violations
 loop-k-init c = record {
   rest = start_run excess (shortage (to_z w64 (of_z w64 c.args.low)) c.args.bounds.now c.args.inputs.now) (length c.args.bounds.now);
   low = omega (arith, ints);
-  high = omega (arith, ints) }
+  high = omega (arith, ints);
+}
 
 pub returns-in_err-shortage : goal.returns-in_err-shortage
 returns-in_err-shortage c =
@@ -25,12 +26,13 @@ returns-in_err-shortage c =
 pub loop-k-preserved : goal.loop-k-preserved
 loop-k-preserved c =
     let added = add_excess (to_z w128 c.loop-k.sum-bits) c.in_ok-shortage.field-0 c.max.result c.from.result c.loop-k.k (search rules)
-            c.max.ensures.value c.from.ensures c.loop-k.invariant.low c.loop-k.invariant.high (omega arith) in
+    c.max.ensures.value c.from.ensures c.loop-k.invariant.low c.loop-k.invariant.high (omega arith) in
     record {
       rest = run_more_fitting excess (shortage (to_z w64 (of_z w64 c.args.low)) c.args.bounds.now c.args.inputs.now) _ _ _ _ c.in_ok-shortage.field-0 c.loop-k-test.true
           (sym c.shortage.ensures ∙ c.in_ok-shortage.was) added.is ∙ c.loop-k.invariant.rest;
       low = added.low;
-      high = added.high }
+      high = added.high;
+    }
 
 pub returns : goal.returns
 unfolding at_least_violations

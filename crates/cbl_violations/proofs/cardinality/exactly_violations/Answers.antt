@@ -13,7 +13,8 @@ unfolding exactly_violations
 loop-k-init c = record {
   rest = start_run distance (surplus (to_z w64 (of_z w64 c.args.low)) c.args.bounds.now c.args.inputs.now) (length c.args.bounds.now);
   low = omega (arith, ints);
-  high = omega (arith, ints) }
+  high = omega (arith, ints);
+}
 
 pub returns-in_err-surplus : goal.returns-in_err-surplus
 returns-in_err-surplus c =
@@ -26,12 +27,13 @@ returns-in_err-surplus c =
 pub loop-k-preserved : goal.loop-k-preserved
 loop-k-preserved c =
     let added = add_distance (to_z w128 c.loop-k.sum-bits) c.in_ok-surplus.field-0 c.from.result c.abs.result c.loop-k.k (search rules)
-            c.from.ensures c.abs.ensures.value c.loop-k.invariant.low c.loop-k.invariant.high (omega arith) in
+    c.from.ensures c.abs.ensures.value c.loop-k.invariant.low c.loop-k.invariant.high (omega arith) in
     record {
       rest = run_more_fitting distance (surplus (to_z w64 (of_z w64 c.args.low)) c.args.bounds.now c.args.inputs.now) _ _ _ _ c.in_ok-surplus.field-0 c.loop-k-test.true
           (sym c.surplus.ensures ∙ c.in_ok-surplus.was) added.is ∙ c.loop-k.invariant.rest;
       low = added.low;
-      high = added.high }
+      high = added.high;
+    }
 
 pub returns : goal.returns
 unfolding exactly_violations

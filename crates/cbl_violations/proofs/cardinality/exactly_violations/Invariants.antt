@@ -9,4 +9,5 @@ abbrev pub invariant-loop-k : goal.invariant-loop-k
 invariant-loop-k l = record {
   rest : run (λ k. fitting distance (surplus l.fn.low l.bounds l.inputs k)) l.sum l.k (length l.bounds - l.k) ≡ exactly_violations l.fn.low l.bounds l.inputs;
   low : pos 0 ≤ℤ l.sum;
-  high : l.sum ≤ℤ pos (2 ^ 63 * l.k) }
+  high : l.sum ≤ℤ pos (2 ^ 63 * l.k);
+}

@@ -12,5 +12,5 @@ returns c =
     let count = c.places_with-count.ensures ∙ ap (λ v. count_of v c.args.inputs.now) value in
     let fits : FitsSigned w64 (get_or c.args.bounds.now c.args.k (pos 0)) = search rules in
     let is : to_z w128 (of_z w128 (to_z w128 (of_z w128 c.from-2.result) -ℤ to_z w128 c.places_with-count.result)) ≡ shortage c.args.low c.args.bounds.now c.args.inputs.now c.args.k
-        = omega (arith, ints, fits, count) in
+    = omega (arith, ints, fits, count) in
     c.narrowed.ensures ∙ ap exact is

@@ -12,9 +12,9 @@ pub loop-member-preserved : goal.loop-member-preserved
 loop-member-preserved c =
     let member = get_or c.args.members.now c.loop-member.member-index (pos 0) in
     let more : total (drop c.loop-member.member-index c.args.members.now) ≡ (get_or c.args.members.now c.loop-member.member-index (pos 0) +ℤ total (drop (c.loop-member.member-index + 1) c.args.members.now))
-        = ap total (drop_more c.args.members.now c.loop-member.member-index (pos 0) c.loop-member-test.true) in
+    = ap total (drop_more c.args.members.now c.loop-member.member-index (pos 0) c.loop-member-test.true) in
     let added = add_part (to_z w128 c.loop-member.sum-bits) member c.from-sum.result c.loop-member.member-index (search rules)
-            c.from-sum.ensures c.loop-member.invariant.low c.loop-member.invariant.high (omega arith) in
+    c.from-sum.ensures c.loop-member.invariant.low c.loop-member.invariant.high (omega arith) in
     record { rest = omega (arith, ints, more, added.is); low = added.low; high = added.high }
 
 pub returns : goal.returns

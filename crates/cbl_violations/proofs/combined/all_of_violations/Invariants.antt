@@ -6,4 +6,5 @@ abbrev pub invariant-loop-member : goal.invariant-loop-member
 invariant-loop-member l = record {
   rest : (l.sum +ℤ total (drop l.member-index l.members)) ≡ total l.members;
   low : neg_ℤ (pos (2 ^ 63 * l.member-index)) ≤ℤ l.sum;
-  high : l.sum ≤ℤ pos (2 ^ 63 * l.member-index) }
+  high : l.sum ≤ℤ pos (2 ^ 63 * l.member-index);
+}

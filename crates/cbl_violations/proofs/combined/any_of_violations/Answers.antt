@@ -21,4 +21,4 @@ returns c =
     let first = to_z-of_z w64 c.in-Some.first.now (search rules) in
     let all = take_all c.loop-member.member-index c.in-Some.others.now c.loop-member-test.false in
     ap Ok (c.loop-member.invariant ∙ ap (λ xs. fold int_min (to_z w64 (of_z w64 c.in-Some.first.now)) xs) all ∙ ap (λ x. fold int_min x c.in-Some.others.now) first
-        ∙ sym (ap least c.in-Some.ensures.cases.0))
+    ∙ sym (ap least c.in-Some.ensures.cases.0))

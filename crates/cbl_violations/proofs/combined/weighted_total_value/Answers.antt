@@ -11,7 +11,8 @@ unfolding weighted_total_value
 loop-k-init c = record {
   rest = start_run_plain (weighted_member c.args.members c.args.inputs.now) c.args.members;
   low = omega (arith, ints);
-  high = omega (arith, ints) }
+  high = omega (arith, ints);
+}
 
 pub returns-in_err-weighted_member : goal.returns-in_err-weighted_member
 returns-in_err-weighted_member c =
@@ -23,12 +24,13 @@ returns-in_err-weighted_member c =
 pub loop-k-preserved : goal.loop-k-preserved
 loop-k-preserved c =
     let added = add_part (to_z w128 c.loop-k.sum-bits) c.in_ok-weighted_member.field-0 c.from.result c.loop-k.k (search rules)
-            c.from.ensures c.loop-k.invariant.low c.loop-k.invariant.high (omega arith) in
+    c.from.ensures c.loop-k.invariant.low c.loop-k.invariant.high (omega arith) in
     record {
       rest = run_more_fitting (λ z. z) (weighted_member c.args.members c.args.inputs.now) _ _ _ _ c.in_ok-weighted_member.field-0 c.loop-k-test.true
           (sym c.weighted_member.ensures ∙ c.in_ok-weighted_member.was) added.is ∙ c.loop-k.invariant.rest;
       low = added.low;
-      high = added.high }
+      high = added.high;
+    }
 
 pub returns : goal.returns
 returns c = c.narrowed.ensures ∙ run_done _ _ _ _ c.loop-k-test.false ∙ c.loop-k.invariant.rest

@@ -7,4 +7,5 @@ abbrev pub invariant-loop-k : goal.invariant-loop-k
 invariant-loop-k l = record {
   rest : run (λ k. fitting (λ z. z) (weighted_member l.members l.inputs k)) l.sum l.k (l.members - l.k) ≡ weighted_total_value l.members l.inputs;
   low : neg_ℤ (pos (2 ^ 63 * l.k)) ≤ℤ l.sum;
-  high : l.sum ≤ℤ pos (2 ^ 63 * l.k) }
+  high : l.sum ≤ℤ pos (2 ^ 63 * l.k);
+}

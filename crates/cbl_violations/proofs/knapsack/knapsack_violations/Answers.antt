@@ -14,23 +14,24 @@ pub returns-in_err-part_of_load : goal.returns-in_err-part_of_load
 returns-in_err-part_of_load c =
     let answer : c.from_residual.result ≡ Err c.in_err-part_of_load.field-0.0 = search rules in
     answer ∙ knapsack_fails c.args.weights.now c.args.capacity c.args.inputs.now _
-        (sym (run_fails_fitting (λ z. z) (part_of_load c.args.weights.now c.args.inputs.now) _ _ _ _ c.loop-k-test.true (sym c.part_of_load.ensures ∙ c.in_err-part_of_load.was)
-         ∙ c.loop-k.invariant.rest))
+    (sym (run_fails_fitting (λ z. z) (part_of_load c.args.weights.now c.args.inputs.now) _ _ _ _ c.loop-k-test.true (sym c.part_of_load.ensures ∙ c.in_err-part_of_load.was)
+    ∙ c.loop-k.invariant.rest))
 
 pub loop-k-preserved : goal.loop-k-preserved
 loop-k-preserved c =
     let added = add_part (to_z w128 c.loop-k.sum-bits) c.in_ok-part_of_load.field-0 c.from.result c.loop-k.k (search rules)
-            c.from.ensures c.loop-k.invariant.low c.loop-k.invariant.high (omega arith) in
+    c.from.ensures c.loop-k.invariant.low c.loop-k.invariant.high (omega arith) in
     record {
       rest = run_more_fitting (λ z. z) (part_of_load c.args.weights.now c.args.inputs.now) _ _ _ _ c.in_ok-part_of_load.field-0 c.loop-k-test.true
           (sym c.part_of_load.ensures ∙ c.in_ok-part_of_load.was) added.is ∙ c.loop-k.invariant.rest;
       low = added.low;
-      high = added.high }
+      high = added.high;
+    }
 
 -- the loop gave what its narrowed sum is
 summed : (weights xs : List ℤ) {r : Answer} (s : ℤ) (k : ℕ) → length xs ≤ k → r ≡ exact s
     → run (λ k. fitting (λ z. z) (part_of_load weights xs k)) s k (length xs - k)
-      ≡ run (λ k. fitting (λ z. z) (part_of_load weights xs k)) (pos 0) 0 (length xs - 0)
+    ≡ run (λ k. fitting (λ z. z) (part_of_load weights xs k)) (pos 0) 0 (length xs - 0)
     → run (λ k. fitting (λ z. z) (part_of_load weights xs k)) (pos 0) 0 (length xs - 0) ≡ r
 summed weights xs s k h e f = sym (e ∙ run_done _ _ _ _ h ∙ f)
 

@@ -8,4 +8,5 @@ invariant-loop-k l = record {
   rest : run (λ k. fitting (λ z. z) (part_of_load l.weights l.inputs k)) l.sum l.k (length l.inputs - l.k)
       ≡ run (λ k. fitting (λ z. z) (part_of_load l.weights l.inputs k)) (pos 0) 0 (length l.inputs - 0);
   low : neg_ℤ (pos (2 ^ 63 * l.k)) ≤ℤ l.sum;
-  high : l.sum ≤ℤ pos (2 ^ 63 * l.k) }
+  high : l.sum ≤ℤ pos (2 ^ 63 * l.k);
+}

@@ -10,13 +10,14 @@ pub loop-k-init : goal.loop-k-init
 loop-k-init c = record {
   rest = omega (arith, ints, total_start (size_in (to_z w128 (of_z w128 c.args.bin)) c.args.sizes.now c.args.inputs.now) (length c.args.inputs.now));
   low = omega (arith, ints);
-  high = omega (arith, ints) }
+  high = omega (arith, ints);
+}
 
 pub loop-k-preserved : goal.loop-k-preserved
 loop-k-preserved c =
     let bin = to_z w128 (of_z w128 c.args.bin) in
     let added = add_part (to_z w128 c.loop-k.load-bits) c.size_in.result c.from-load.result c.loop-k.k (search rules)
-            c.from-load.ensures c.loop-k.invariant.low c.loop-k.invariant.high (omega arith) in
+    c.from-load.ensures c.loop-k.invariant.low c.loop-k.invariant.high (omega arith) in
     let more = total_more (size_in (to_z w128 (of_z w128 c.args.bin)) c.args.sizes.now c.args.inputs.now) c.loop-k.k (length c.args.inputs.now) c.loop-k-test.true in
     record { rest = omega (arith, ints, more, added.is, c.size_in.ensures); low = added.low; high = added.high }
 

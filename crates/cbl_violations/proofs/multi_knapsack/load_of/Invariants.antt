@@ -8,4 +8,5 @@ abbrev pub invariant-loop-k : goal.invariant-loop-k
 invariant-loop-k l = record {
   rest : (l.load +ℤ total_by (size_in l.fn.bin l.sizes l.inputs) (range_with_len l.k (length l.inputs - l.k))) ≡ load_of l.fn.bin l.sizes l.inputs;
   low : neg_ℤ (pos (2 ^ 63 * l.k)) ≤ℤ l.load;
-  high : l.load ≤ℤ pos (2 ^ 63 * l.k) }
+  high : l.load ≤ℤ pos (2 ^ 63 * l.k);
+}

@@ -8,4 +8,5 @@ abbrev pub invariant-loop-k : goal.invariant-loop-k
 invariant-loop-k l = record {
   rest : run (bin_part l.sizes l.fn.low l.capacities l.inputs) l.sum l.k (length l.capacities - l.k) ≡ multi_knapsack_violations l.sizes l.fn.low l.capacities l.inputs;
   low : pos 0 ≤ℤ l.sum;
-  high : l.sum ≤ℤ pos (2 ^ 63 * l.k) }
+  high : l.sum ≤ℤ pos (2 ^ 63 * l.k);
+}

@@ -13,7 +13,7 @@ returns-in_err-load c =
     let load = c.load_of.ensures ∙ ap (λ b. load_of b c.args.sizes.now c.args.inputs.now) bin in
     let same = to_z-of_z w128 c.load_of.result (search rules) in
     answer ∙ two_fail (load_at c.args.sizes.now c.args.low c.args.inputs.now c.args.k) (get_or c.args.capacities.now c.args.k (pos 0)) _
-        (ap exact (sym (same ∙ load)) ∙ sym c.narrowed.ensures ∙ c.in_err-load.was)
+    (ap exact (sym (same ∙ load)) ∙ sym c.narrowed.ensures ∙ c.in_err-load.was)
 
 pub returns : goal.returns
 returns c =

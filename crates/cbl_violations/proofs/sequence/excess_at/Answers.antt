@@ -18,10 +18,10 @@ returns-then-place-start c =
     let inside : c.args.place < c.args.start + size_of c.args.window = omega (arith, size, c.if-place-start.true) in
     let held = holds (size_of c.args.window) c.args.place c.args.start c.if-start-place.true inside in
     let surplus = c.surplus_in_window.ensures
-        ∙ ap (λ m. exact (surplus_in_window c.args.values.now m (size_of (to_z w64 (of_z w64 c.args.window))) c.args.inputs.now c.args.start)) most
-        ∙ ap (λ w. exact (surplus_in_window c.args.values.now c.args.most (size_of w) c.args.inputs.now c.args.start)) window in
+    ∙ ap (λ m. exact (surplus_in_window c.args.values.now m (size_of (to_z w64 (of_z w64 c.args.window))) c.args.inputs.now c.args.start)) most
+    ∙ ap (λ w. exact (surplus_in_window c.args.values.now c.args.most (size_of w) c.args.inputs.now c.args.start)) window in
     let given = unwrapped (surplus_in_window values c.args.most (size_of c.args.window) inputs c.args.start) c.surplus_in_window.result c.unwrap_or.result
-        (surplus_fits values c.args.most c.args.window inputs c.requires.valued c.args.start c.requires.start) surplus c.unwrap_or.ensures in
+    (surplus_fits values c.args.most c.args.window inputs c.requires.valued c.args.start c.requires.start) surplus c.unwrap_or.ensures in
     to_z-of_z w64 c.max.result (search rules) ∙ c.max.ensures.value
     ∙ ap (λ z. int_max z (pos 0)) (to_z-of_z w64 c.unwrap_or.result (search rules) ∙ given)
     ∙ sym (ap (λ b. cond b (excess (surplus_in_window c.args.values.now c.args.most (size_of c.args.window) c.args.inputs.now c.args.start)) (pos 0)) held)

@@ -16,26 +16,28 @@ unfolding sequence_violations
 loop-start-init c = record {
   rest = start_run_at excess (surplus_in_window c.args.values.now (to_z w64 (of_z w64 c.args.most)) (size_of (to_z w64 (of_z w64 c.args.window))) c.args.inputs.now) _ c.windows_in-windows.result c.windows_in-windows.ensures;
   low = omega (arith, ints);
-  high = omega (arith, ints) }
+  high = omega (arith, ints);
+}
 
 pub returns-in_err-surplus_in_window : goal.returns-in_err-surplus_in_window
 returns-in_err-surplus_in_window c =
     let answer : c.from_residual.result ≡ Err c.in_err-surplus_in_window.field-0.0 = search rules in
     answer
     ∙ run_fails_fitting excess (surplus_in_window c.args.values.now (to_z w64 (of_z w64 c.args.most)) (size_of (to_z w64 (of_z w64 c.args.window))) c.args.inputs.now) _ _ _ _ c.loop-start-test.true
-        (sym c.surplus_in_window.ensures ∙ c.in_err-surplus_in_window.was)
+    (sym c.surplus_in_window.ensures ∙ c.in_err-surplus_in_window.was)
     ∙ c.loop-start.invariant.rest
     ∙ as_passed c.args.values.now c.args.inputs.now (to_z-of_z w64 c.args.most c.ranges.most) (to_z-of_z w64 c.args.window c.ranges.window)
 
 pub loop-start-preserved : goal.loop-start-preserved
 loop-start-preserved c =
     let added = add_excess (to_z w128 c.loop-start.sum-bits) c.in_ok-surplus_in_window.field-0 c.max.result c.from.result c.loop-start.start (search rules)
-            c.max.ensures.value c.from.ensures c.loop-start.invariant.low c.loop-start.invariant.high (omega arith) in
+    c.max.ensures.value c.from.ensures c.loop-start.invariant.low c.loop-start.invariant.high (omega arith) in
     record {
       rest = run_more_fitting excess (surplus_in_window c.args.values.now (to_z w64 (of_z w64 c.args.most)) (size_of (to_z w64 (of_z w64 c.args.window))) c.args.inputs.now) _ _ _ _ c.in_ok-surplus_in_window.field-0 c.loop-start-test.true
           (sym c.surplus_in_window.ensures ∙ c.in_ok-surplus_in_window.was) added.is ∙ c.loop-start.invariant.rest;
       low = added.low;
-      high = added.high }
+      high = added.high;
+    }
 
 pub returns : goal.returns
 unfolding sequence_violations

@@ -9,4 +9,5 @@ invariant-loop-start l = record {
   rest : run (λ k. fitting excess (surplus_in_window l.values l.fn.most (size_of l.fn.window) l.inputs k)) l.sum l.start (l.windows - l.start)
       ≡ sequence_violations l.values l.fn.most l.fn.window l.inputs;
   low : pos 0 ≤ℤ l.sum;
-  high : l.sum ≤ℤ pos (2 ^ 63 * l.start) }
+  high : l.sum ≤ℤ pos (2 ^ 63 * l.start);
+}
