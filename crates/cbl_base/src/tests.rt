@@ -6,8 +6,8 @@ ghost use Rattle.cbl_base.specs.Changes.{AreChanges, after_changes};
 ghost use Rattle.cbl_base.specs.NodeLaw.{IsAnswer};
 
 use crate::{
-    Change, Fuel, Input, IntSet, NoMemory, NodeFault, NodeRule, NodeValue, Numbers, RunFault,
-    Spent, Steps, add, div, mul, rem, sub,
+    Change, Fuel, Input, IntSet, Names, NoMemory, NodeFault, NodeRule, NodeValue, Numbers,
+    RunFault, Spent, Steps, Text, add, div, mul, rem, sub,
 };
 use std::alloc::Global;
 use std::marker::Brand;
@@ -209,6 +209,19 @@ fn numbers_are_kept(rt: HostRuntime) -> Result<(), Fail> {
     assert_eq!(rt; numbers.get(0), Some(3));
     assert_eq!(rt; numbers.get(3), None);
     assert!(rt; !numbers.is_empty());
+    Ok(())
+}
+
+#[test]
+fn texts_and_names_are_kept(rt: HostRuntime) -> Result<(), Fail> {
+    let mut names = Names::new(rt.alloc());
+    assert!(rt; names.is_empty());
+    names.push(Text::from_slice(rt.alloc(), b"queen")?)?;
+    names.push(Text::from_slice(rt.alloc(), b"")?)?;
+    assert_eq!(rt; names.len(), 2);
+    assert_eq!(rt; names.as_slice()[0].as_slice(), b"queen".as_slice());
+    assert!(rt; names.get(1).is_some_and(|text| text.is_empty()));
+    assert!(rt; names.get(2).is_none());
     Ok(())
 }
 
