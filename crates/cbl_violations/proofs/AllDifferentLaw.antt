@@ -1,21 +1,20 @@
 -- What it means that all values differ.
-use Rattle.std.proofs.Common.{◌≡◌, ◌≢◌, ◌↔◌, ℕ, zero, suc, ◌+◌, ◌<◌, ◌≤◌, Bool, true, false, cond, List, [], ◌∷◌, length, get_or, refl, ap, ◌∙◌, sym, arith, ◌||◌, int_eq, Ok, nat_le}
+use Rattle.std.proofs.Common.{◌≡◌, ◌≢◌, ◌↔◌, ℕ, zero, suc, ◌<◌, ◌≤◌, Bool, true, false, cond, List, [], ◌∷◌, length, get_or, refl, ap, ◌∙◌, sym, arith, ◌||◌, int_eq, Ok, nat_le}
 use Rattle.std.specs.Prelude.{ℤ, pos, ◌+ℤ◌, ◌≤ℤ◌, AllPairs}
 use Rattle.std.proofs.lemmas.Int.{ints}
-use Rattle.std.proofs.lemmas.List.Sums.{sum_by-cons}
 use Rattle.std.proofs.lemmas.Bool.Decides.{Decides-int_eq, nat_tests}
 use Rattle.cbl_base.specs.Sets.{is_member}
 use Rattle.cbl_base.specs.Counts.{count_of, values_in}
 use Rattle.cbl_base.specs.Totals.{total_by}
+use Rattle.cbl_base.proofs.CountLemmas.{count_of-cons}
+use Rattle.cbl_base.proofs.SetLemmas.{int_eq-true, int_eq-false}
 use Rattle.cbl_violations.specs.Violations.AllDifferent.{all_different_violations, all_different_violation_at, repeats_of}
 use Rattle.cbl_violations.proofs.NumberLaws.{exact_is}
-use Rattle.cbl_violations.proofs.TotalLemmas.{total_by_nonneg}
+use Rattle.cbl_violations.proofs.IndexTotals.{total_by_nonneg}
 
+-- 1 where the test holds
 abbrev one_if : Bool → ℕ
 one_if b = cond b 1 0
-
-pub count_cons : (v x : ℤ) (xs : List ℤ) → count_of v (x ∷ xs) ≡ one_if (int_eq x v) + count_of v xs
-count_cons v x xs = sum_by-cons (λ y. cond (int_eq y v) 1 0) x xs
 
 or_right : (a b : Bool) → b ≡ true → (a || b) ≡ true
 or_right true b e = refl
@@ -24,25 +23,14 @@ or_right false b e = e
 not_two : (n : ℕ) → n ≤ 1 → nat_le 2 n ≡ false
 not_two n h = grind (arith, nat_tests)
 
--- numbers that differ aren't the same to the test
-not_same : (x v : ℤ) → x ≢ v → int_eq x v ≡ false
-not_same x v h = by_test (int_eq x v) refl
-  where
-    by_test : (b : Bool) → int_eq x v ≡ b → int_eq x v ≡ false
-    by_test true e = absurd (h ((Decides-int_eq x v).0 e))
-    by_test false e = e
-
-same_number : (x v : ℤ) → int_eq x v ≡ true → x ≡ v
-same_number x v = (Decides-int_eq x v).0
-
 -- a value that stands at a place
 pub count_one : (v : ℤ) (xs : List ℤ) (k : ℕ) (d : ℤ) → k < length xs → get_or xs k d ≡ v → 1 ≤ count_of v xs
 count_one v [] k d h e = absurd (omega arith)
 count_one v (x ∷ xs) zero d h e =
     let same = (Decides-int_eq x v).1 e in
     let first = ap one_if same in
-    omega (arith, count_cons v x xs, first)
-count_one v (x ∷ xs) (suc k) d h e = omega (arith, count_cons v x xs, count_one v xs k d (omega arith) e)
+    omega (arith, count_of-cons v x xs, first)
+count_one v (x ∷ xs) (suc k) d h e = omega (arith, count_of-cons v x xs, count_one v xs k d (omega arith) e)
 
 -- a value that stands at two places
 pub count_two : (v : ℤ) (xs : List ℤ) (i j : ℕ) (d : ℤ) → i < j → j < length xs → get_or xs i d ≡ v → get_or xs j d ≡ v → 2 ≤ count_of v xs
@@ -50,17 +38,17 @@ count_two v [] i j d l h e f = absurd (omega arith)
 count_two v (x ∷ xs) i zero d l h e f = absurd (omega arith)
 count_two v (x ∷ xs) zero (suc j) d l h e f =
     let first = ap one_if ((Decides-int_eq x v).1 e) in
-    omega (arith, count_cons v x xs, first, count_one v xs j d (omega arith) f)
-count_two v (x ∷ xs) (suc i) (suc j) d l h e f = omega (arith, count_cons v x xs, count_two v xs i j d (omega arith) (omega arith) e f)
+    omega (arith, count_of-cons v x xs, first, count_one v xs j d (omega arith) f)
+count_two v (x ∷ xs) (suc i) (suc j) d l h e f = omega (arith, count_of-cons v x xs, count_two v xs i j d (omega arith) (omega arith) e f)
 
 -- a value that stands nowhere
 pub count_none : (v : ℤ) (xs : List ℤ) → ((k : ℕ) (d : ℤ) → k < length xs → v ≢ get_or xs k d) → count_of v xs ≡ 0
 count_none v [] h = refl
 count_none v (x ∷ xs) h =
     let rest = count_none v xs (λ k d l. h (suc k) d (omega arith)) in
-    let other = not_same x v (λ e. h 0 x (omega arith) (sym e)) in
+    let other = int_eq-false x v (λ e. h 0 x (omega arith) (sym e)) in
     let first = ap one_if other in
-    omega (arith, count_cons v x xs, first, rest)
+    omega (arith, count_of-cons v x xs, first, rest)
 
 -- where all differ, each value stands at one place at most
 pub count_small : (xs : List ℤ) → AllPairs ◌≢◌ xs → (v : ℤ) → count_of v xs ≤ 1
@@ -69,12 +57,12 @@ count_small (x ∷ xs) h v = by_test (count_small xs (λ i j d l m. h (suc i) (s
   where
     by_test : count_of v xs ≤ 1 → (b : Bool) → int_eq x v ≡ b → count_of v (x ∷ xs) ≤ 1
     by_test rest true e =
-        let none = count_none v xs (λ k d l f. h 0 (suc k) d (omega arith) (omega arith) (same_number x v e ∙ f)) in
+        let none = count_none v xs (λ k d l f. h 0 (suc k) d (omega arith) (omega arith) (int_eq-true x v e ∙ f)) in
         let first = ap one_if e in
-        omega (arith, count_cons v x xs, first, none)
+        omega (arith, count_of-cons v x xs, first, none)
     by_test rest false e =
         let first = ap one_if e in
-        omega (arith, count_cons v x xs, first, rest)
+        omega (arith, count_of-cons v x xs, first, rest)
 
 -- a value of the list is among its values
 pub member_at : (xs : List ℤ) (k : ℕ) (d : ℤ) → k < length xs → is_member (get_or xs k d) xs ≡ true
@@ -98,9 +86,9 @@ module _ (f : ℤ → ℤ) (nonneg : (v : ℤ) → pos 0 ≤ℤ f v) where
       by_tests later true g b h true i = later (sym (split true g) ∙ e) i
       by_tests later false g b h true i =
           later (first_zero _ _ (nonneg x) (total_by_nonneg f nonneg (values_in xs)) (sym (split false g) ∙ e)).1 i
-      by_tests later true g true h false i = cc (ap (λ y. is_member y xs) (same_number x v h))
+      by_tests later true g true h false i = cc (ap (λ y. is_member y xs) (int_eq-true x v h))
       by_tests later false g true h false i =
-          ap f (sym (same_number x v h)) ∙ (first_zero _ _ (nonneg x) (total_by_nonneg f nonneg (values_in xs)) (sym (split false g) ∙ e)).0
+          ap f (sym (int_eq-true x v h)) ∙ (first_zero _ _ (nonneg x) (total_by_nonneg f nonneg (values_in xs)) (sym (split false g) ∙ e)).0
       by_tests later a g false h false i = cc (ap (λ b. b || is_member v xs) h)
 
   pub all_zero : ((v : ℤ) → f v ≡ pos 0) → (xs : List ℤ) → total_by f xs ≡ pos 0

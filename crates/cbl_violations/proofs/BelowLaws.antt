@@ -6,7 +6,7 @@ use Rattle.std.proofs.lemmas.Int.{ints, clamps}
 use Rattle.cbl_base.specs.Totals.{total_by}
 use Rattle.cbl_violations.specs.Fitting.{where_all_fit, each_below, excess, distance}
 use Rattle.cbl_violations.proofs.NumberLaws.{value_is}
-use Rattle.cbl_violations.proofs.TotalLemmas.{total_by_nonneg, range_zero, range_all_zero}
+use Rattle.cbl_violations.proofs.IndexTotals.{total_by_nonneg, range_zero, range_all_zero}
 use Rattle.cbl_violations.proofs.Runs.{total_by-map}
 
 pub excess_nonneg : (z : ℤ) → pos 0 ≤ℤ excess z

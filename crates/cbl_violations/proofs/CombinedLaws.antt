@@ -6,6 +6,7 @@ use Rattle.std.proofs.lemmas.Int.{ints, clamps, fold-int_min_bounds, fold-int_mi
 use Rattle.std.specs.List.{range_with_len}
 use Rattle.cbl_base.specs.declared.faults.RunFault.{RunFault}
 use Rattle.cbl_base.specs.Totals.{total}
+use Rattle.cbl_base.proofs.TotalLemmas.{total-nonnegative, zeros_from_total, total-zeros}
 use Rattle.cbl_violations.specs.Fitting.{each_below}
 use Rattle.cbl_violations.specs.Violations.AllOf.{all_of_violations}
 use Rattle.cbl_violations.specs.Violations.AnyOf.{any_of_violations, least}
@@ -15,40 +16,15 @@ use Rattle.cbl_violations.proofs.NumberLaws.{exact_is, value_is}
 tail : (P : ℤ → Type 0) (x : ℤ) (xs : List ℤ) → All P (x ∷ xs) → All P xs
 tail P x xs h k d l = h (suc k) d (omega arith)
 
-sum_nonneg : (xs : List ℤ) → All (λ m. pos 0 ≤ℤ m) xs → pos 0 ≤ℤ total xs
-sum_nonneg [] h = omega (arith, ints)
-sum_nonneg (x ∷ xs) h =
-    let first = h 0 x (omega arith) in
-    let rest = sum_nonneg xs (tail (λ m. pos 0 ≤ℤ m) x xs h) in
-    omega (arith, ints, first, rest)
-
-sum_zero : (xs : List ℤ) → All (λ m. pos 0 ≤ℤ m) xs → total xs ≡ pos 0 → All (λ m. m ≡ pos 0) xs
-sum_zero [] h e k d l = absurd (omega arith)
-sum_zero (x ∷ xs) h e zero d l =
-    let first = h 0 x (omega arith) in
-    let rest = sum_nonneg xs (tail (λ m. pos 0 ≤ℤ m) x xs h) in
-    omega (arith, ints, first, rest, e)
-sum_zero (x ∷ xs) h e (suc k) d l =
-    let first = h 0 x (omega arith) in
-    let rest = sum_nonneg xs (tail (λ m. pos 0 ≤ℤ m) x xs h) in
-    sum_zero xs (tail (λ m. pos 0 ≤ℤ m) x xs h) (omega (arith, ints, first, rest, e)) k d (omega arith)
-
-zero_sum : (xs : List ℤ) → All (λ m. m ≡ pos 0) xs → total xs ≡ pos 0
-zero_sum [] h = refl
-zero_sum (x ∷ xs) h =
-    let first = h 0 x (omega arith) in
-    let rest = zero_sum xs (tail (λ m. m ≡ pos 0) x xs h) in
-    omega (arith, ints, first, rest)
-
 pub all_hold : (members : List ℤ) (z : ℤ) → All (λ m. pos 0 ≤ℤ m) members → all_of_violations members ≡ Ok z → (z ≡ pos 0) ↔ All (λ m. m ≡ pos 0) members
 unfolding all_of_violations
 all_hold members z h e =
     let is = exact_is (total members) z e in
-    ((λ none. sum_zero members h (is ∙ none)), (λ zeros. sym is ∙ zero_sum members zeros))
+    ((λ none. zeros_from_total members h (is ∙ none)), (λ zeros. sym is ∙ total-zeros members zeros))
 
 pub all_nonneg : (members : List ℤ) (z : ℤ) → All (λ m. pos 0 ≤ℤ m) members → all_of_violations members ≡ Ok z → pos 0 ≤ℤ z
 unfolding all_of_violations
-all_nonneg members z h e = subst (λ z. pos 0 ≤ℤ z) (exact_is (total members) z e) (sum_nonneg members h)
+all_nonneg members z h e = subst (λ z. pos 0 ≤ℤ z) (exact_is (total members) z e) (total-nonnegative members h)
 
 given : (y z : ℤ) (r : Result ℤ RunFault) → r ≡ Ok y → r ≡ Ok z → y ≡ z
 given y z r e f = cc
@@ -65,8 +41,8 @@ least_among [] h = absurd (omega arith)
 least_among (x ∷ xs) h = by_case (fold-int_min_reached x xs (fold int_min x xs) refl)
   where
     by_case : (fold int_min x xs ≡ x) ⊎ Contains xs (fold int_min x xs) → Contains (x ∷ xs) (fold int_min x xs)
-    by_case (inl first) = (0, (omega arith, sym first))
-    by_case (inr later) = (suc later.0, (omega (arith, later.1.0), later.1.1))
+    by_case (inl first) = (0, omega arith, sym first)
+    by_case (inr later) = let low = later.1 in (suc later.0, omega (arith, low), later.2)
 
 pub any_attained : (members : List ℤ) (z : ℤ) → 0 < length members → any_of_violations members ≡ Ok z → Contains members z
 unfolding any_of_violations

@@ -4,6 +4,7 @@ pub mod BoundLemmas
 pub mod CardinalityLaws
 pub mod CombinedLaws
 pub mod FitLemmas
+pub mod IndexTotals
 pub mod KnapsackRun
 pub mod LoadLaws
 pub mod MultiKnapsackRun
@@ -12,5 +13,4 @@ pub mod Runs
 pub mod SequenceLaws
 pub mod SequenceRun
 pub mod SumSteps
-pub mod TotalLemmas
 pub mod ValuesLemmas

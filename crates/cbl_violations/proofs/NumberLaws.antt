@@ -1,23 +1,10 @@
--- Rules of numbers alone have values of one kind, and exact numbers are the numbers.
-use Rattle.std.proofs.Common.{◌≡◌, Bool, true, false, cond, List, refl, ap, ◌∙◌, sym, Result, Ok, Err}
+-- Where a number is a value, it is that number.
+use Rattle.std.proofs.Common.{◌≡◌, Bool, true, false, cond, List, refl, Ok, Err}
 use Rattle.std.specs.Prelude.{ℤ}
 use Rattle.cbl_base.specs.Arithmetic.{exact, fits_64}
 use Rattle.cbl_violations.specs.Fitting.{where_all_fit}
 use Rattle.std.specs.List.{list_all}
-use Rattle.cbl_base.specs.NodeLaw.{GivesOneKind}
-use Rattle.cbl_base.specs.Inputs.{kind_of, number_kind}
-use Rattle.cbl_base.specs.NumberRule.{NumberRule, rule_of_numbers, as_value}
-use Rattle.cbl_base.specs.declared.input.Input.{Input}
-use Rattle.cbl_base.specs.declared.input.Input.TheVariants.{Int}
 use Rattle.cbl_base.specs.declared.faults.RunFault.{RunFault}
-
-is_number : (r : Result ℤ RunFault) (x : Input) → as_value r ≡ Ok x → kind_of x ≡ number_kind
-is_number (Ok z) x e = let same : Int z ≡ x = cc e in ap kind_of (sym same)
-is_number (Err fault) x e = cc e
-
-pub gives_one_kind : (rule : NumberRule) → GivesOneKind (rule_of_numbers rule)
-gives_one_kind rule xs ys x y t k e f =
-    is_number _ x e ∙ sym (is_number _ y f)
 
 -- a number that is exact is that number
 pub cond_ok : (b : Bool) (y z : ℤ) (fault : RunFault) → cond b (Ok y) (Err fault) ≡ Ok z → (b ≡ true) × (y ≡ z)
