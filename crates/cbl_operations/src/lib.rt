@@ -1,0 +1,10 @@
+//! The operations of terms: what each means, and its value by a plain function.
+#![tactic(auto)]
+
+mod arithmetic;
+mod truth;
+
+pub use arithmetic::{
+    abs_value, add_value, div_value, mul_value, neg_value, rem_value, sub_value, sum_value,
+};
+pub use truth::{and_value, eq_value, le_value, lt_value, ne_value, not_value, or_value};
