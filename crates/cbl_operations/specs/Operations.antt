@@ -2,9 +2,14 @@
 pub mod Abs
 pub mod Add
 pub mod And
+pub mod Count
 pub mod Div
+pub mod Element
+pub mod Element2
 pub mod Eq
+pub mod Greatest
 pub mod Le
+pub mod Least
 pub mod Lt
 pub mod Mul
 pub mod Ne

@@ -2,9 +2,15 @@
 #![tactic(auto)]
 
 mod arithmetic;
+mod counting;
+mod elements;
+mod order;
 mod truth;
 
 pub use arithmetic::{
     abs_value, add_value, div_value, mul_value, neg_value, rem_value, sub_value, sum_value,
 };
+pub use counting::count_value;
+pub use elements::{element_value, element2_value};
+pub use order::{greatest_value, least_value};
 pub use truth::{and_value, eq_value, le_value, lt_value, ne_value, not_value, or_value};
