@@ -1,7 +1,7 @@
 //! The cells of arrays.
 ghost use Rattle.std.specs.Prelude.{◌≡◌, ◌<◌, ◌*◌, IsTrue, IfSome, length};
 ghost use Rattle.std.specs.Option.{ForSome};
-ghost use Rattle.cbl_operations.specs.Cells.{place_of, place_in_rows};
+ghost use Rattle.cbl_operations.specs.Cells.{place_of, place_in_rows, cell_at};
 ghost use Rattle.cbl_operations.specs.Operations.Element.{element};
 ghost use Rattle.cbl_operations.specs.Operations.Element2.{element2};
 
@@ -13,11 +13,7 @@ pub fn element_value(low: i64, len: u32, inputs: &[i64]) -> Result<i64, RunFault
     requires { IsTrue ((element low len).takes (length inputs.now)) }
     ensures { result ≡ (element low len).value inputs.now }
 {
-    let cells = &inputs[1..];
-    match place_of(inputs[0], low, len) {
-        Some(place) => Ok(cells[place]),
-        None => Err(RunFault::OutOfRange),
-    }
+    cell_at(&inputs[1..], place_of(inputs[0], low, len))
 }
 
 /// The value of `Element2`, of a row, a column, and then the cells, row by row: `len1` rows from `low1`
@@ -32,10 +28,17 @@ pub fn element2_value(
     requires { IsTrue ((element2 low1 len1 low2 len2).takes (length inputs.now)) }
     ensures { result ≡ (element2 low1 len1 low2 len2).value inputs.now }
 {
-    let cells = &inputs[2..];
     let row = place_of(inputs[0], low1, len1);
     let col = place_of(inputs[1], low2, len2);
-    match place_in_rows(row, col, len1, len2) {
+    cell_at(&inputs[2..], place_in_rows(row, col, len1, len2))
+}
+
+/// The cell at a place. `OutOfRange` exactly where there is no place.
+fn cell_at(cells: &[i64], place: Option<usize>) -> Result<i64, RunFault>
+    requires { ForSome place (λ k. k < length cells.now) }
+    ensures { result ≡ cell_at cells.now place }
+{
+    match place {
         Some(place) => Ok(cells[place]),
         None => Err(RunFault::OutOfRange),
     }
