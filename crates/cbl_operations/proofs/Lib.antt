@@ -1,2 +1,3 @@
+pub mod GivenSets
 pub mod LeastLemmas
 pub mod TotalLemmas

@@ -5,6 +5,7 @@ mod arithmetic;
 mod counting;
 mod elements;
 mod order;
+mod sets;
 mod truth;
 
 pub use arithmetic::{
@@ -13,4 +14,8 @@ pub use arithmetic::{
 pub use counting::count_value;
 pub use elements::{element_value, element2_value};
 pub use order::{greatest_value, least_value};
+pub use sets::{
+    arg_max_value, arg_min_value, card_value, inter_value, member_value, minus_value, set_of_value,
+    union_value,
+};
 pub use truth::{and_value, eq_value, le_value, lt_value, ne_value, not_value, or_value};

@@ -24,14 +24,14 @@ pub fn greatest_value(inputs: &[i64]) -> Result<i64, RunFault>
 }
 
 /// The least of the numbers, 0 for none.
-fn least_of(numbers: &[i64]) -> i64
+pub(crate) fn least_of(numbers: &[i64]) -> i64
     ensures { result ≡ least_of numbers.now }
 {
     lowered(first_of(numbers), numbers)
 }
 
 /// The greatest of the numbers, 0 for none.
-fn greatest_of(numbers: &[i64]) -> i64
+pub(crate) fn greatest_of(numbers: &[i64]) -> i64
     ensures { result ≡ greatest_of numbers.now }
 {
     raised(first_of(numbers), numbers)

@@ -67,7 +67,7 @@ pub fn not_value(inputs: &[i64]) -> Result<i64, RunFault>
 }
 
 /// Whether a number counts as true.
-fn is_true(number: i64) -> bool
+pub(crate) fn is_true(number: i64) -> bool
     ensures { result ≡ is_true number }
 {
     number != 0
