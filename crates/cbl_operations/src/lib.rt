@@ -4,6 +4,7 @@
 mod arithmetic;
 mod counting;
 mod elements;
+mod op;
 mod order;
 mod sets;
 mod truth;
@@ -13,6 +14,7 @@ pub use arithmetic::{
 };
 pub use counting::count_value;
 pub use elements::{element_value, element2_value};
+pub use op::Op;
 pub use order::{greatest_value, least_value};
 pub use sets::{
     arg_max_value, arg_min_value, card_value, inter_value, member_value, minus_value, set_of_value,
