@@ -4,6 +4,7 @@
 mod arithmetic;
 mod counting;
 mod elements;
+mod laws;
 mod op;
 mod order;
 mod sets;
@@ -14,6 +15,10 @@ pub use arithmetic::{
 };
 pub use counting::count_value;
 pub use elements::{element_value, element2_value};
+pub use laws::{
+    cells_by_index, cells_by_row_and_column, count_of_cells, keys_of_numbers, least_and_greatest,
+    members_of_sets, quotient_and_remainder, relations_hold, truth_of_parts,
+};
 pub use op::Op;
 pub use order::{greatest_value, least_value};
 pub use sets::{
