@@ -1,8 +1,7 @@
 -- Sets as lists that rise: their members, and that a set is known by its members.
-use Rattle.std.proofs.Common.{◌≡◌, ℕ, ℤ, ◌<ℤ◌, Bool, true, false, cond, not, ◌&&◌, ◌||◌, ◌⊎◌, inl, inr, List, [], ◌∷◌, ◌++◌, refl, ap, sym, ◌∙◌, subst, arith}
+use Rattle.std.proofs.Common.{◌≡◌, ℤ, ◌<ℤ◌, Bool, true, false, not, ◌&&◌, ◌||◌, ◌⊎◌, inl, inr, List, [], ◌∷◌, ◌++◌, refl, ap, sym, ◌∙◌, subst, arith}
 use Rattle.std.specs.Prelude.{filter, int_lt}
 use Rattle.std.specs.Ordering.{int_eq}
-use Rattle.std.specs.List.{list_any}
 use Rattle.std.proofs.lemmas.Int.{ints, by_lt_z}
 use Rattle.std.proofs.lemmas.Bool.{both_ways, cases_Bool, cond_both, false_from_ne_true}
 use Rattle.std.proofs.lemmas.Bool.Decides.{Decides-int_eq}
@@ -45,7 +44,7 @@ is_member-filter p v [] = grind arith
 is_member-filter p v (x ∷ xs) =
     let later = is_member-filter p v xs in
     elim (cases_Bool (int_eq x v)) [
-      inl e ↦ let same = int_eq-true x v e in grind (arith, same, later, e)
+      | inl e ↦ let same = int_eq-true x v e in grind (arith, same, later, e)
       | inr e ↦ grind (arith, later, e)
     ]
 
@@ -56,7 +55,7 @@ is_member-with v w s =
     let low = is_member-filter (λ x. int_lt x w) v s in
     let high = is_member-filter (λ x. int_lt w x) v s in
     elim (below_equal_above v w) [
-      inl lt ↦ let t1 = int_lt-true v w lt in grind (arith, parts, low, high, t1)
+      | inl lt ↦ let t1 = int_lt-true v w lt in grind (arith, parts, low, high, t1)
       | inr (inl e) ↦ let t2 = (Decides-int_eq w v).1 (sym e) in grind (arith, parts, low, high, t2)
       | inr (inr gt) ↦ let t3 = int_lt-true w v gt in grind (arith, parts, low, high, t3)
     ]
@@ -68,7 +67,7 @@ is_member-without v w s =
     let low = is_member-filter (λ x. int_lt x w) v s in
     let high = is_member-filter (λ x. int_lt w x) v s in
     elim (below_equal_above v w) [
-      inl lt ↦ let t1 = int_lt-true v w lt in grind (arith, parts, low, high, t1)
+      | inl lt ↦ let t1 = int_lt-true v w lt in grind (arith, parts, low, high, t1)
       | inr (inl e) ↦ let t2 = (Decides-int_eq w v).1 (sym e) in grind (arith, parts, low, high, t2)
       | inr (inr gt) ↦ let t3 = int_lt-true w v gt in grind (arith, parts, low, high, t3)
     ]
@@ -76,15 +75,15 @@ is_member-without v w s =
 pub is_member-with_members : (v : ℤ) (vs s : List ℤ) → is_member v (with_members vs s) ≡ (is_member v vs || is_member v s)
 is_member-with_members v [] s = refl
 is_member-with_members v (w ∷ vs) s =
-    let first = is_member-with v w (with_members vs s) in
-    let later = is_member-with_members v vs s in
+    let first = is_member-with v w s in
+    let later = is_member-with_members v vs (with_member w s) in
     grind (arith, first, later)
 
 pub is_member-without_members : (v : ℤ) (vs s : List ℤ) → is_member v (without_members vs s) ≡ (not (is_member v vs) && is_member v s)
 is_member-without_members v [] s = refl
 is_member-without_members v (w ∷ vs) s =
-    let first = is_member-without v w (without_members vs s) in
-    let later = is_member-without_members v vs s in
+    let first = is_member-without v w s in
+    let later = is_member-without_members v vs (without_member w s) in
     grind (arith, first, later)
 
 -- the set of a list has the list's members
@@ -134,11 +133,11 @@ rising-without v s rising =
 
 pub rising-with_members : (vs s : List ℤ) → IsRising s → IsRising (with_members vs s)
 rising-with_members [] s rising = rising
-rising-with_members (v ∷ vs) s rising = rising-with v (with_members vs s) (rising-with_members vs s rising)
+rising-with_members (v ∷ vs) s rising = rising-with_members vs (with_member v s) (rising-with v s rising)
 
 pub rising-without_members : (vs s : List ℤ) → IsRising s → IsRising (without_members vs s)
 rising-without_members [] s rising = rising
-rising-without_members (v ∷ vs) s rising = rising-without v (without_members vs s) (rising-without_members vs s rising)
+rising-without_members (v ∷ vs) s rising = rising-without_members vs (without_member v s) (rising-without v s rising)
 
 pub rising-set_of : (xs : List ℤ) → IsRising (set_of xs)
 rising-set_of xs = rising-with_members xs [] tt
@@ -161,7 +160,7 @@ below_first v x xs up lt = absent-below_all v (x ∷ xs) (lt, below_all-trans v 
 same_heads : (x : ℤ) (xs : List ℤ) (y : ℤ) (ys : List ℤ) → IsRising (x ∷ xs) → IsRising (y ∷ ys) → ((v : ℤ) → is_member v (x ∷ xs) ≡ is_member v (y ∷ ys)) → x ≡ y
 same_heads x xs y ys up up' same =
     elim (below_equal_above x y) [
-      inl lt ↦ absurd (both_ways _ (same x ∙ below_first x y ys up' lt) (is_member-head x xs))
+      | inl lt ↦ absurd (both_ways _ (same x ∙ below_first x y ys up' lt) (is_member-head x xs))
       | inr (inl e) ↦ e
       | inr (inr gt) ↦ absurd (both_ways _ (sym (same y) ∙ below_first y x xs up gt) (is_member-head y ys))
     ]
@@ -169,13 +168,13 @@ same_heads x xs y ys up up' same =
 same_tails : (x : ℤ) (xs : List ℤ) (y : ℤ) (ys : List ℤ) → x ≡ y → IsRising (x ∷ xs) → IsRising (y ∷ ys) → ((v : ℤ) → is_member v (x ∷ xs) ≡ is_member v (y ∷ ys)) → (v : ℤ) → is_member v xs ≡ is_member v ys
 same_tails x xs y ys heads up up' same v =
     elim (cases_Bool (int_eq x v)) [
-      inl e ↦
-        let at = int_eq-true x v e in
-        subst (λ z. is_member z xs ≡ is_member z ys) at (absent-below_all x xs up.0 ∙ sym (subst (λ z. is_member z ys ≡ false) (sym heads) (absent-below_all y ys up'.0)))
+      | inl e ↦
+          let at = int_eq-true x v e in
+          subst (λ z. is_member z xs ≡ is_member z ys) at (absent-below_all x xs up.0 ∙ sym (subst (λ z. is_member z ys ≡ false) (sym heads) (absent-below_all y ys up'.0)))
       | inr e ↦
-        let e' : int_eq y v ≡ false = subst (λ z. int_eq z v ≡ false) heads e in
-        let all = same v in
-        grind (arith, all, e, e')
+          let e' : int_eq y v ≡ false = subst (λ z. int_eq z v ≡ false) heads e in
+          let all = same v in
+          grind (arith, all, e, e')
     ]
 
 pub same_set : (xs ys : List ℤ) → IsRising xs → IsRising ys → ((v : ℤ) → is_member v xs ≡ is_member v ys) → xs ≡ ys
@@ -194,7 +193,7 @@ with_member-there v s rising there = same_set (with_member v s) s (rising-with v
     or_there : (w : ℤ) → (int_eq v w || is_member w s) ≡ is_member w s
     or_there w =
         elim (cases_Bool (int_eq v w)) [
-          inl e ↦ let at : is_member w s ≡ true = subst (λ z. is_member z s ≡ true) (int_eq-true v w e) there in grind (arith, at)
+          | inl e ↦ let at : is_member w s ≡ true = subst (λ z. is_member z s ≡ true) (int_eq-true v w e) there in grind (arith, at)
           | inr e ↦ grind (arith, e)
         ]
 
@@ -204,7 +203,7 @@ without_member-absent v s rising absent = same_set (without_member v s) s (risin
     and_there : (w : ℤ) → (not (int_eq v w) && is_member w s) ≡ is_member w s
     and_there w =
         elim (cases_Bool (int_eq v w)) [
-          inl e ↦ let at : is_member w s ≡ false = subst (λ z. is_member z s ≡ false) (int_eq-true v w e) absent in grind (arith, at)
+          | inl e ↦ let at : is_member w s ≡ false = subst (λ z. is_member z s ≡ false) (int_eq-true v w e) absent in grind (arith, at)
           | inr e ↦ grind (arith, e)
         ]
 

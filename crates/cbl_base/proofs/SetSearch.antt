@@ -2,7 +2,7 @@
 use Rattle.std.proofs.Common.{◌≡◌, ℕ, zero, suc, ◌+◌, ◌<◌, ◌≤◌, ℤ, ◌<ℤ◌, Bool, true, false, ◌||◌, inl, inr, List, [], ◌∷◌, ◌++◌, length, get_or, take, drop, refl, ap, sym, ◌∙◌, subst, arith}
 use Rattle.std.specs.Prelude.{filter, int_lt, Result, Ok, Err, is_ok, IfOk, IfErr}
 use Rattle.std.specs.Ordering.{int_eq, int_cmp, is_lt}
-use Rattle.std.specs.List.{list_any, insert, remove, dedup, dedup_from, AllByRecursion}
+use Rattle.std.specs.List.{insert, remove, dedup, dedup_from, AllByRecursion}
 use Rattle.std.specs.List.Sorted.{IsPermutation, IsSorted, IsBinarySearchResult, IsSearchInRange, IsStrictlySortedBy}
 use Rattle.std.specs.declared.cmp.Ordering.TheVariants.{Less, Equal, Greater}
 use Rattle.std.proofs.lemmas.Int.{ints}
@@ -72,19 +72,22 @@ searched-found v xs i up lt at =
   where
     lower : (k : ℕ) (d : ℤ) → k < i → get_or xs k d <ℤ v
     lower k d klt = omega (arith, ints, rising-at xs k i d up klt lt, at d)
+
     higher : (k : ℕ) (d : ℤ) → i < k → k < length xs → v <ℤ get_or xs k d
     higher k d klt in' = omega (arith, ints, rising-at xs i k d up klt in', at d)
+
     not_lower : (k : ℕ) (d : ℤ) → i ≤ k → k < length xs → get_or xs k d <ℤ v → ⊥
     not_lower k d le in' h =
         elim (cases_order i k) [
-          inl e ↦ let same : get_or xs k d ≡ v = subst (λ j. get_or xs j d ≡ v) e (at d) in omega (arith, ints, same, h)
+          | inl e ↦ let same : get_or xs k d ≡ v = subst (λ j. get_or xs j d ≡ v) e (at d) in omega (arith, ints, same, h)
           | inr (inl klt) ↦ omega (arith, ints, higher k d klt in', h)
           | inr (inr gt) ↦ omega arith
         ]
+
     not_higher : (k : ℕ) (d : ℤ) → k ≤ i → k < length xs → v <ℤ get_or xs k d → ⊥
     not_higher k d le in' h =
         elim (cases_order i k) [
-          inl e ↦ let same : get_or xs k d ≡ v = subst (λ j. get_or xs j d ≡ v) e (at d) in omega (arith, ints, same, h)
+          | inl e ↦ let same : get_or xs k d ≡ v = subst (λ j. get_or xs j d ≡ v) e (at d) in omega (arith, ints, same, h)
           | inr (inl klt) ↦ omega arith
           | inr (inr gt) ↦ omega (arith, ints, lower k d gt, h)
         ]
@@ -98,7 +101,7 @@ searched-absent v xs i within lower higher =
     differs : (k : ℕ) (d : ℤ) → k < length xs → get_or xs k d ≡ v → ⊥
     differs k d in' e =
         elim (cases_lt k i) [
-          inl klt ↦ omega (arith, ints, lower k d klt, e)
+          | inl klt ↦ omega (arith, ints, lower k d klt, e)
           | inr le ↦ omega (arith, ints, higher k d le in', e)
         ]
 
@@ -145,15 +148,15 @@ is_member-dedup_from : (v k : ℤ) (xs : List ℤ) → is_member v (dedup_from i
 is_member-dedup_from v k [] = refl
 is_member-dedup_from v k (x ∷ xs) =
     elim (cases_Bool (int_eq x k)) [
-      inl e ↦
-        let kept = is_member-dedup_from v k xs in
-        let same : int_eq x v ≡ int_eq k v = ap (λ z. int_eq z v) (int_eq-true x k e) in
-        let first = cond-true (int_eq x k) (dedup_from int_eq k xs) (k ∷ dedup_from int_eq x xs) e in
-        ap (is_member v) first ∙ grind (arith, kept, same)
+      | inl e ↦
+          let kept = is_member-dedup_from v k xs in
+          let same : int_eq x v ≡ int_eq k v = ap (λ z. int_eq z v) (int_eq-true x k e) in
+          let first = cond-true (int_eq x k) (dedup_from int_eq k xs) (k ∷ dedup_from int_eq x xs) e in
+          ap (is_member v) first ∙ grind (arith, kept, same)
       | inr e ↦
-        let kept = is_member-dedup_from v x xs in
-        let first = cond-false (int_eq x k) (dedup_from int_eq k xs) (k ∷ dedup_from int_eq x xs) e in
-        ap (is_member v) first ∙ grind (arith, kept)
+          let kept = is_member-dedup_from v x xs in
+          let first = cond-false (int_eq x k) (dedup_from int_eq k xs) (k ∷ dedup_from int_eq x xs) e in
+          ap (is_member v) first ∙ grind (arith, kept)
     ]
 
 is_member-dedup : (v : ℤ) (xs : List ℤ) → is_member v (dedup int_eq xs) ≡ is_member v xs

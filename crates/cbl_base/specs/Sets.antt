@@ -1,6 +1,6 @@
 -- A set of numbers is the list of its members, which rises: each is below all later ones. What is
 -- added or taken away is said by the members that are below and above it. A rule of this project.
-use Rattle.std.specs.Prelude.{ℤ, Bool, List, [], ◌∷◌, ◌++◌, filter, int_lt, ◌<ℤ◌}
+use Rattle.std.specs.Prelude.{ℤ, Bool, List, [], ◌∷◌, ◌++◌, filter, fold, int_lt, ◌<ℤ◌}
 use Rattle.std.specs.Ordering.{int_eq}
 use Rattle.std.specs.List.{list_any}
 
@@ -34,12 +34,10 @@ without_member v s = below v s ++ above v s
 
 -- the set with each of these, and without each of them
 abbrev pub with_members : List ℤ → List ℤ → List ℤ
-with_members [] s = s
-with_members (v ∷ vs) s = with_member v (with_members vs s)
+with_members vs s = fold (λ t v. with_member v t) s vs
 
 abbrev pub without_members : List ℤ → List ℤ → List ℤ
-without_members [] s = s
-without_members (v ∷ vs) s = without_member v (without_members vs s)
+without_members vs s = fold (λ t v. without_member v t) s vs
 
 -- the set of these numbers, whatever their order and however often each stands there
 abbrev pub set_of : List ℤ → List ℤ

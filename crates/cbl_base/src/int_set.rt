@@ -1,5 +1,5 @@
 //! A set of numbers.
-ghost use Rattle.std.specs.Prelude.{◌≡◌, ◌==◌, ℕ, ℤ, List, [], ◌<◌, ◌≤◌, length, not, IfOk, IfErr, is_ok, insert, remove, if◌then◌else◌, slice_get};
+ghost use Rattle.std.specs.Prelude.{◌≡◌, ◌==◌, ℕ, ℤ, List, [], ◌<◌, ◌≤◌, ◌^◌, length, not, IfOk, IfErr, is_ok, insert, remove, if◌then◌else◌, slice_get};
 ghost use Rattle.cbl_base.specs.Sets.{IsRising, is_member, with_member, without_member, set_of};
 
 use crate::faults::NoMemory;
@@ -46,7 +46,8 @@ impl IntSet {
 
     /// How many members it has.
     pub fn len(&self) -> usize
-        ensures { result ≡ length self.now }
+        ensures len { result ≡ length self.now }
+        ensures small { result < 2 ^ 63 }
     {
         self.members.len()
     }

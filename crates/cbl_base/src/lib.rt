@@ -1,11 +1,12 @@
 //! What every crate of the project names: places in a text, the faults of a run, texts and lists of
-//! numbers, sets, exact arithmetic on 64-bit signed numbers, and the law of a node.
+//! numbers, sets, exact arithmetic on 64-bit signed numbers, fuel, counted steps, the limits, and the
+//! law of a node.
 //!
 //! It knows nothing of programs, solvers or files, and of no operation by name. The layers above use
-//! that `add`, `sub` and `mul` give the exact result or refuse exactly where it doesn't fit, that a
-//! `Text` is seen as its list of bytes, `Numbers` as its list of numbers and an `IntSet` as the
-//! rising list of its members, and that whatever is a `NodeRule` answers by its rule of the inputs
-//! that it holds.
+//! that `add`, `sub`, `mul`, `div` and `rem` give the exact result or refuse exactly where there is
+//! none in 64 bits, that `Fuel::charge` refuses exactly where less is left, that a `Text` is seen as
+//! its list of bytes, `Numbers` as its list of numbers and an `IntSet` as the rising list of its
+//! members, and that whatever is a `NodeRule` answers by its rule of the inputs that it holds.
 #![tactic(auto)]
 
 mod arithmetic;
@@ -19,6 +20,8 @@ mod names;
 mod node_rule;
 mod numbers;
 mod place;
+#[cfg(test)]
+mod tests;
 mod text;
 
 pub use arithmetic::{add, div, mul, rem, sub};

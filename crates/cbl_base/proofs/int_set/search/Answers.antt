@@ -1,4 +1,4 @@
-use Rattle.std.proofs.Common.{◌≡◌, subst, w64}
+use Rattle.std.proofs.Common.{subst, w64}
 use Rattle.std.specs.Ordering.{int_cmp}
 use Rattle.std.specs.List.Sorted.{IsBinarySearchResult}
 use Rattle.std.proofs.lemmas.Int.{to_z-of_z}
