@@ -1,0 +1,16 @@
+pub mod AllDifferentLaw
+pub mod BelowLaws
+pub mod BoundLemmas
+pub mod CardinalityLaws
+pub mod CombinedLaws
+pub mod FitLemmas
+pub mod KnapsackRun
+pub mod LoadLaws
+pub mod MultiKnapsackRun
+pub mod NumberLaws
+pub mod Runs
+pub mod SequenceLaws
+pub mod SequenceRun
+pub mod SumSteps
+pub mod TotalLemmas
+pub mod ValuesLemmas

@@ -1,0 +1,4 @@
+pub mod Bounds
+pub mod Fitting
+pub mod Pairs
+pub mod Violations
