@@ -1,7 +1,6 @@
 -- A set that was made of a list is the value of an operation that means the set of that list.
-use Rattle.std.proofs.Common.{◌≡◌, ℤ, List, [], ◌∷◌, Result, Ok, Err, refl, ap, sym, ◌∙◌}
+use Rattle.std.proofs.Common.{◌≡◌, ℤ, List, Result, Ok, Err, ap, sym, ◌∙◌}
 use Rattle.std.specs.Prelude.{IfOk}
-use Rattle.cbl_base.specs.Inputs.{numbers_of, as_inputs}
 use Rattle.cbl_base.specs.Sets.{set_of}
 use Rattle.cbl_base.specs.declared.input.Input.{Input}
 use Rattle.cbl_base.specs.declared.input.Input.TheVariants.{Set}
@@ -16,8 +15,3 @@ given_set (Ok s) made meant is same =
     let wrapped : List ℤ → Result Input RunFault = λ t. Ok (Set t) in
     ap wrapped (ap (λ t. set_of t) (sym same) ∙ sym is)
 given_set (Err e) made meant is same = tt
-
--- numbers that are seen as inputs are these numbers
-pub numbers_of-as_inputs : (xs : List ℤ) → numbers_of (as_inputs xs) ≡ xs
-numbers_of-as_inputs [] = refl
-numbers_of-as_inputs (x ∷ xs) = ap (λ t. x ∷ t) (numbers_of-as_inputs xs)

@@ -1,5 +1,5 @@
 -- Which keys a set of keys has.
-use Rattle.std.proofs.Common.{◌≡◌, ℕ, ℤ, ◌≤ℤ◌, ◌<◌, zero, suc, Bool, true, false, ◌||◌, List, [], ◌∷◌, length, Some, None, ◌⊎◌, inl, inr, refl, sym, ap, ◌∙◌, subst, arith}
+use Rattle.std.proofs.Common.{◌≡◌, ℕ, ℤ, ◌≤ℤ◌, zero, suc, Bool, true, ◌||◌, List, [], ◌∷◌, Some, inl, inr, refl, sym, ap, ◌∙◌, subst, arith}
 use Rattle.std.specs.Prelude.{◌↔◌, IsTrue, Contains, map, filter, zip, slice_get}
 use Rattle.std.specs.Ordering.{int_eq}
 use Rattle.std.proofs.lemmas.Bool.{false≢true, both_ways, cases_Bool, cond_both, or_left, or_right}
@@ -32,10 +32,10 @@ found_key p (k ∷ ks) [] key h = absurd (false≢true h)
 found_key p (k ∷ ks) (x ∷ xs) key h =
     let found = filter (λ (pair : ℤ × ℤ). p pair.1) (zip ks xs) in
     let later : is_member key (keys_where p ks xs) ≡ true → IsKeyWhere (λ x. p x ≡ true) (k ∷ ks) (x ∷ xs) key =
-        λ m. one_on (λ y. p y ≡ true) k ks x xs key (found_key p ks xs key m) in
+    λ m. one_on (λ y. p y ≡ true) k ks x xs key (found_key p ks xs key m) in
     cond_both (p x) ((k, x) ∷ found) found (λ t. is_member key (map first t) ≡ true → IsKeyWhere (λ x. p x ≡ true) (k ∷ ks) (x ∷ xs) key)
     (λ passes m. elim (cases_Bool (int_eq k key)) [
-      inl same ↦ (0, x, ap (λ z. Some z) ((Decides-int_eq k key).0 same), refl, passes)
+      | inl same ↦ (0, x, ap (λ z. Some z) ((Decides-int_eq k key).0 same), refl, passes)
       | inr other ↦ later (subst (λ (b : Bool). (b || is_member key (map first found)) ≡ true) other m)
     ])
     (λ fails m. later m)
@@ -64,8 +64,8 @@ pub keys_law : (P : ℤ → Type 0) (p : ℤ → Bool) (keys xs s : List ℤ) (k
 keys_law P p keys xs s key decides e =
     let all = ap (λ t. is_member key t) (sym e) ∙ is_member-set_of key (keys_where p keys xs) in (
       λ m.
-        let found = found_key p keys xs key (sym all ∙ m) in
-        (found.0, found.1, found.2, found.3, (decides found.1 (contains_got xs found.0 found.1 found.3)).0 found.4),
+          let found = found_key p keys xs key (sym all ∙ m) in
+          (found.0, found.1, found.2, found.3, (decides found.1 (contains_got xs found.0 found.1 found.3)).0 found.4),
       λ found. all ∙ key_found p keys xs key found.0 found.1 found.2 found.3 ((decides found.1 (contains_got xs found.0 found.1 found.3)).1 found.4),
     )
 

@@ -1,6 +1,6 @@
 -- The least of some numbers is one of them and none is below it; the greatest likewise.
-use Rattle.std.proofs.Common.{◌≡◌, ℕ, ℤ, ◌≤ℤ◌, ◌<◌, suc, List, [], ◌∷◌, length, ◌⊎◌, inl, inr, sym, fold, arith}
-use Rattle.std.specs.Prelude.{All, Contains}
+use Rattle.std.proofs.Common.{◌≡◌, ℤ, ◌≤ℤ◌, ◌<◌, suc, List, [], ◌∷◌, length, ◌⊎◌, inl, inr, sym, fold, arith}
+use Rattle.std.specs.Prelude.{Contains}
 use Rattle.std.specs.Int.{int_min, int_max}
 use Rattle.std.proofs.lemmas.Int.{fold-int_min_bounds, fold-int_min_reached, fold-int_max_bounds, fold-int_max_reached}
 use Rattle.std.proofs.lemmas.List.Elements.{All-cons}

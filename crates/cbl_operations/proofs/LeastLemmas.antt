@@ -1,5 +1,5 @@
 -- The least and the greatest of a list are what a walk over it keeps.
-use Rattle.std.proofs.Common.{◌≡◌, ℤ, pos, List, [], ◌∷◌, refl, ap, ◌∙◌, arith, fold}
+use Rattle.std.proofs.Common.{◌≡◌, ℤ, List, [], ◌∷◌, refl, ap, ◌∙◌, arith, fold}
 use Rattle.std.specs.Int.{int_min, int_max}
 use Rattle.std.proofs.lemmas.Int.{ints}
 use Rattle.cbl_operations.specs.Forms.{number_at}

@@ -1,5 +1,5 @@
 -- The quotient toward zero and the remainder.
-use Rattle.std.proofs.Common.{◌≡◌, ℕ, ℤ, pos, negsuc, neg_ℤ, ◌+ℤ◌, ◌*ℤ◌, ◌≤ℤ◌, ◌<◌, ◌%◌, zero, suc, Result, Ok, Err, refl, sym, subst, arith}
+use Rattle.std.proofs.Common.{◌≡◌, ℤ, pos, negsuc, ◌+ℤ◌, ◌*ℤ◌, ◌≤ℤ◌, ◌<◌, zero, suc, Result, Ok, Err, refl, sym, subst, arith}
 use Rattle.std.specs.Prelude.{unsigned_abs, int_div, int_rem}
 use Rattle.std.specs.Ordering.{int_eq}
 use Rattle.std.proofs.lemmas.Bool.{cond_both}
@@ -48,4 +48,4 @@ whole_division a b q r eq er =
     let r_is = remainder_is a b r er in
     subst (λ x. (a ≡ (x *ℤ b) +ℤ r) × (unsigned_abs r < unsigned_abs b) × (pos 0 ≤ℤ a → pos 0 ≤ℤ r) × (a ≤ℤ pos 0 → r ≤ℤ pos 0)) q_is
     (subst (λ y. (a ≡ (int_div a b *ℤ b) +ℤ y) × (unsigned_abs y < unsigned_abs b) × (pos 0 ≤ℤ a → pos 0 ≤ℤ y) × (a ≤ℤ pos 0 → y ≤ℤ pos 0)) r_is
-      (sym (quot-rem a b), rem_below a b (size_above_0 b (divisor_is a b r er)), sign_up a b, sign_down a b))
+    (sym (quot-rem a b), rem_below a b (size_above_0 b (divisor_is a b r er)), sign_up a b, sign_down a b))

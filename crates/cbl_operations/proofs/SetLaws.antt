@@ -1,5 +1,5 @@
 -- The members of the sets that operations give.
-use Rattle.std.proofs.Common.{◌≡◌, ℤ, Bool, true, false, ◌||◌, ◌&&◌, not, List, ◌++◌, refl, ◌∙◌, subst}
+use Rattle.std.proofs.Common.{◌≡◌, ℤ, Bool, true, false, ◌||◌, ◌&&◌, List, ◌++◌, refl, ◌∙◌, subst}
 use Rattle.std.specs.Prelude.{filter}
 use Rattle.cbl_base.specs.Sets.{IsRising, is_member, set_of}
 use Rattle.cbl_base.proofs.SetLemmas.{is_member-set_of, is_member-append, is_member-filter, rising-set_of}

@@ -1,8 +1,8 @@
 -- The forms that the rules of operations on sets have: of two sets, and of keys that each have a number.
 -- An operation is no constraint: its violation is 0 at each place. A rule of this project.
-use Rattle.std.specs.Prelude.{ℕ, ℤ, pos, Bool, true, false, ◌&&◌, ◌==◌, List, [], ◌∷◌, Result, Ok, length, map, filter, zip, slice_index_or}
-use Rattle.cbl_base.specs.Inputs.{InputKind, number_kind, set_kind, all_numbers, numbers_of}
-use Rattle.cbl_base.specs.NodeLaw.{Rule}
+use Rattle.std.specs.Prelude.{ℕ, ℤ, pos, Bool, true, false, ◌&&◌, ◌==◌, List, [], ◌∷◌, Ok, length, map, filter, zip, slice_index_or}
+use Rattle.cbl_base.specs.Inputs.{InputKind, set_kind, all_numbers, numbers_of}
+use Rattle.cbl_base.specs.NodeLaw.{Rule, GivesOneKind, one_kind_from, kind_of-value}
 use Rattle.cbl_base.specs.declared.input.Input.{Input}
 use Rattle.cbl_base.specs.declared.input.Input.TheVariants.{Int, Set}
 
@@ -26,6 +26,10 @@ rule_of_two_sets f = record {
   violation_at = λ _ _. pos 0;
 }
 
+pub one_kind_of_two_sets : (f : List ℤ → List ℤ → List ℤ) → GivesOneKind (rule_of_two_sets f)
+one_kind_of_two_sets f =
+    let rule = rule_of_two_sets f in one_kind_from rule set_kind (λ inputs x e. kind_of-value (rule.value inputs) x e)
+
 -- the keys whose number passes, where each key has the number at its place
 abbrev pub keys_where : (ℤ → Bool) → List ℤ → List ℤ → List ℤ
 keys_where passes keys numbers = map (λ pair. pair.0) (filter (λ pair. passes pair.1) (zip keys numbers))
@@ -37,3 +41,7 @@ rule_of_keys keys f = record {
   value = λ inputs. Ok (Set (f (numbers_of inputs)));
   violation_at = λ _ _. pos 0;
 }
+
+pub one_kind_of_keys : (keys : List ℤ) (f : List ℤ → List ℤ) → GivesOneKind (rule_of_keys keys f)
+one_kind_of_keys keys f =
+    let rule = rule_of_keys keys f in one_kind_from rule set_kind (λ inputs x e. kind_of-value (rule.value inputs) x e)

@@ -64,5 +64,9 @@ fn place_of(index: i64, low: i64, len: u32) -> Option<usize>
     ensures within { IfSome result (λ k. k < len) }
 {
     let place = u32::try_from(index.checked_sub(low)?).ok()?;
-    if place < len { Some(place as usize) } else { None }
+    if place < len {
+        Some(place as usize)
+    } else {
+        None
+    }
 }

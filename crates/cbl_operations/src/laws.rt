@@ -1,7 +1,10 @@
 //! What the formulas of operations mean, in their subject's own words.
-ghost use Rattle.std.specs.Prelude.{◌≡◌, ◌≢◌, ◌↔◌, ℕ, ℤ, pos, ◌+ℤ◌, ◌*ℤ◌, ◌≤ℤ◌, ◌<ℤ◌, ◌+◌, ◌*◌, ◌<◌, ◌||◌, ◌&&◌, ◌++◌, not, List, [], ◌∷◌, length, unsigned_abs, IsTrue, All, Any, Contains, Ok, Err};
+ghost use Rattle.std.specs.Prelude.{◌≡◌, ◌≢◌, ◌↔◌, ℕ, ℤ, pos, ◌+ℤ◌, ◌*ℤ◌, ◌≤ℤ◌, ◌<ℤ◌, ◌+◌, ◌*◌, ◌<◌, ◌||◌, ◌&&◌, ◌++◌, not, List, [], ◌∷◌, length, unsigned_abs, IsTrue, All, Any, Contains, Ok, Err, false};
 ghost use Rattle.cbl_base.specs.Counts.{count_of};
-ghost use Rattle.cbl_base.specs.Inputs.{as_inputs};
+ghost use Rattle.cbl_base.specs.Inputs.{as_inputs, kind_of};
+ghost use Rattle.cbl_base.specs.NodeLaw.{GivesOneKind};
+ghost use Rattle.cbl_base.specs.NumberRule.{NumberRule};
+ghost use Rattle.cbl_base.specs.declared.input.Input.{Input};
 ghost use Rattle.cbl_base.specs.Sets.{IsRising, is_member};
 ghost use Rattle.cbl_base.specs.declared.input.Input.TheVariants.{Int, Set};
 ghost use Rattle.cbl_base.specs.declared.faults.RunFault.TheVariants.{OutOfRange};
@@ -27,6 +30,8 @@ ghost use Rattle.cbl_operations.specs.Operations.Or.{or};
 ghost use Rattle.cbl_operations.specs.Operations.Rem.{rem};
 ghost use Rattle.cbl_operations.specs.Operations.SetOf.{set_of_true};
 ghost use Rattle.cbl_operations.specs.Operations.Union.{union};
+ghost use Rattle.cbl_operations.specs.RuleOf.{rule_of, value_kind, is_constraint};
+ghost use Rattle.cbl_operations.specs.declared.op.Op.{Op};
 
 /// The least of some numbers is one of them, and none is below it; the greatest is one of them, and none
 /// is above it.
@@ -99,4 +104,17 @@ pub fn keys_of_numbers()
         IsTrue (is_member key s) ↔ IsKeyWhere (IsGreatestOf xs) keys xs key }
     ensures true_ones { (keys xs s : List ℤ) (key : ℤ) → (set_of_true keys).value (as_inputs xs) ≡ Ok (Set s) →
         IsTrue (is_member key s) ↔ IsKeyWhere (λ x. x ≢ pos 0) keys xs key }
+{}
+
+/// All values of an operation are of its kind, so over inputs of the same kinds they are of one.
+pub fn values_of_one_kind()
+    ensures kind { (users : ℕ → NumberRule) (op : Op) (inputs : List Input) (x : Input) →
+        (rule_of users op).value inputs ≡ Ok x → kind_of x ≡ value_kind op }
+    ensures one_kind { (users : ℕ → NumberRule) (op : Op) → GivesOneKind (rule_of users op) }
+{}
+
+/// What is no constraint has the violation 0 at each place.
+pub fn operations_have_no_violation()
+    ensures { (users : ℕ → NumberRule) (op : Op) (inputs : List Input) (place : ℕ) →
+        is_constraint op ≡ false → (rule_of users op).violation_at inputs place ≡ pos 0 }
 {}

@@ -87,19 +87,16 @@ pub fn member_value(number: i64, set: &IntSet) -> i64
 }
 
 /// The keys whose number is this one.
-fn keys_of(
-    alloc: Global,
-    keys: &[i64],
-    numbers: &[i64],
-    number: i64,
-) -> Result<Vec<i64>, NoMemory>
+fn keys_of(alloc: Global, keys: &[i64], numbers: &[i64], number: i64) -> Result<Vec<i64>, NoMemory>
     ensures { IfOk result (λ v. v.items ≡ keys_where (λ x. int_eq x number) keys.now numbers.now) }
 {
     let pairs = keys.iter().zip(numbers);
-    Ok(pairs
-        .filter(|pair| *pair.1 == number)
-        .map(|pair| *pair.0)
-        .collect(alloc)?)
+    Ok(
+        pairs
+            .filter(|pair| *pair.1 == number)
+            .map(|pair| *pair.0)
+            .collect(alloc)?,
+    )
 }
 
 /// The keys whose number is true.
@@ -107,30 +104,36 @@ fn true_keys(alloc: Global, keys: &[i64], numbers: &[i64]) -> Result<Vec<i64>, N
     ensures { IfOk result (λ v. v.items ≡ keys_where is_true keys.now numbers.now) }
 {
     let pairs = keys.iter().zip(numbers);
-    Ok(pairs
-        .filter(|pair| is_true(*pair.1))
-        .map(|pair| *pair.0)
-        .collect(alloc)?)
+    Ok(
+        pairs
+            .filter(|pair| is_true(*pair.1))
+            .map(|pair| *pair.0)
+            .collect(alloc)?,
+    )
 }
 
 /// Those of the numbers that are members.
 fn members_in(alloc: Global, numbers: &[i64], set: &IntSet) -> Result<Vec<i64>, NoMemory>
     ensures { IfOk result (λ v. v.items ≡ filter (λ x. is_member x set.now) numbers.now) }
 {
-    Ok(numbers
-        .iter()
-        .copied()
-        .filter(|x| set.contains(*x))
-        .collect(alloc)?)
+    Ok(
+        numbers
+            .iter()
+            .copied()
+            .filter(|x| set.contains(*x))
+            .collect(alloc)?,
+    )
 }
 
 /// Those of the numbers that are no members.
 fn members_not_in(alloc: Global, numbers: &[i64], set: &IntSet) -> Result<Vec<i64>, NoMemory>
     ensures { IfOk result (λ v. v.items ≡ filter (λ x. not (is_member x set.now)) numbers.now) }
 {
-    Ok(numbers
-        .iter()
-        .copied()
-        .filter(|x| !set.contains(*x))
-        .collect(alloc)?)
+    Ok(
+        numbers
+            .iter()
+            .copied()
+            .filter(|x| !set.contains(*x))
+            .collect(alloc)?,
+    )
 }

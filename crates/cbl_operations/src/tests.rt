@@ -5,7 +5,9 @@ use std::alloc::Global;
 use std::test::*;
 
 const OVERFLOW: Result<i64, RunFault> = Err(RunFault::Overflow);
+
 const BY_ZERO: Result<i64, RunFault> = Err(RunFault::DivideByZero);
+
 const OUTSIDE: Result<i64, RunFault> = Err(RunFault::OutOfRange);
 
 fn set(alloc: Global, numbers: &[i64]) -> Result<IntSet, NoMemory> {
@@ -166,7 +168,11 @@ fn sets_of_keys(rt: HostRuntime) -> Result<(), Fail> {
     let keys = [1, 2, 3, 5];
     for (inputs, least, greatest) in [
         ([4, 2, 2, 9], [2, 3].as_slice(), [5].as_slice()),
-        ([7, 7, 7, 7], [1, 2, 3, 5].as_slice(), [1, 2, 3, 5].as_slice()),
+        (
+            [7, 7, 7, 7],
+            [1, 2, 3, 5].as_slice(),
+            [1, 2, 3, 5].as_slice(),
+        ),
         ([0, -1, 0, 0], [2].as_slice(), [1, 3, 5].as_slice()),
     ] {
         let found = arg_min_value(alloc, &keys, &inputs)?;
@@ -186,11 +192,17 @@ fn operations_on_sets(rt: HostRuntime) -> Result<(), Fail> {
     let a = set(alloc, &[3, 1, 5])?;
     let b = set(alloc, &[4, 3])?;
     let none = set(alloc, &[])?;
-    assert_eq!(rt; union_value(alloc, &a, &b)?.as_slice(), [1, 3, 4, 5].as_slice());
+    assert_eq!(rt;
+        union_value(alloc, &a, &b)?.as_slice(),
+        [1, 3, 4, 5].as_slice()
+    );
     assert_eq!(rt; inter_value(alloc, &a, &b)?.as_slice(), [3].as_slice());
     assert_eq!(rt; minus_value(alloc, &a, &b)?.as_slice(), [1, 5].as_slice());
     assert_eq!(rt; minus_value(alloc, &b, &a)?.as_slice(), [4].as_slice());
-    assert_eq!(rt; union_value(alloc, &none, &b)?.as_slice(), [3, 4].as_slice());
+    assert_eq!(rt;
+        union_value(alloc, &none, &b)?.as_slice(),
+        [3, 4].as_slice()
+    );
     assert!(rt; inter_value(alloc, &a, &none)?.is_empty());
     assert_eq!(rt; card_value(&a), 3);
     assert_eq!(rt; card_value(&none), 0);

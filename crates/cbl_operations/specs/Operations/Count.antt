@@ -7,5 +7,5 @@ use Rattle.cbl_operations.specs.Forms.{number_at, rule_of_some}
 
 abbrev pub count : NumberRule
 count = rule_of_some (λ xs.
-  let cells = length xs - 1 in
-  Ok (pos (count_of (number_at xs cells) (take cells xs))))
+    let cells = length xs - 1 in
+    Ok (pos (count_of (number_at xs cells) (take cells xs))))

@@ -10,8 +10,8 @@ abbrev pub element2 : ℤ → ℕ → ℤ → ℕ → NumberRule
 element2 low1 len1 low2 len2 = record {
   takes = λ n. n == len1 * len2 + 2;
   value = λ xs.
-    let row = place_of (number_at xs 0) low1 len1 in
-    let col = place_of (number_at xs 1) low2 len2 in
-    cell_at (drop 2 xs) (place_in_rows row col len2);
+      let row = place_of (number_at xs 0) low1 len1 in
+      let col = place_of (number_at xs 1) low2 len2 in
+      cell_at (drop 2 xs) (place_in_rows row col len2);
   violation_at = λ _ _. pos 0;
 }

@@ -7,5 +7,5 @@ invariant-loop-x l =
     record {
       so_far : l.sum.value ≡ total (take l.x-index l.numbers);
       low : neg_ℤ (pos (2 ^ 63 * l.x-index)) ≤ℤ l.sum.value;
-      high : l.sum.value ≤ℤ pos (2 ^ 63 * l.x-index)
+      high : l.sum.value ≤ℤ pos (2 ^ 63 * l.x-index);
     }

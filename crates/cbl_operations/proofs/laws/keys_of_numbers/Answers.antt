@@ -7,7 +7,7 @@ use Rattle.cbl_operations.specs.SetForms.{keys_where}
 use Rattle.cbl_operations.specs.Truth.{is_true}
 use Rattle.cbl_operations.specs.Operations.Least.{least_of}
 use Rattle.cbl_operations.specs.Operations.Greatest.{greatest_of}
-use Rattle.cbl_operations.proofs.GivenSets.{numbers_of-as_inputs}
+use Rattle.cbl_base.proofs.InputLemmas.{numbers_of-as_inputs}
 use Rattle.cbl_operations.proofs.KeyLaws.{keys_law, least_decides, greatest_decides}
 use Rattle.cbl_operations.proofs.TruthLaws.{true_is_not_0, not_0_is_true}
 use Rattle.cbl_operations.proofs.laws.keys_of_numbers.Goals as goal

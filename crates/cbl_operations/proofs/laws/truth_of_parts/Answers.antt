@@ -1,6 +1,5 @@
-use Rattle.std.proofs.Common.{◌≡◌, pos, Result, Ok, ap}
+use Rattle.std.proofs.Common.{◌≡◌, pos}
 use Rattle.std.specs.List.{list_all, list_any}
-use Rattle.cbl_base.specs.declared.faults.RunFault.{RunFault}
 use Rattle.cbl_operations.specs.Truth.{truth, is_true}
 use Rattle.cbl_operations.proofs.TruthLaws.{one_is_true, truth_of, all_true, some_true}
 use Rattle.cbl_operations.proofs.laws.truth_of_parts.Goals as goal
