@@ -1,0 +1,11 @@
+-- `argMax(i in R) e` is the set of the keys at which `e` is greatest, all of them where several are. A
+-- rule of this project.
+use Rattle.std.specs.Prelude.{ℤ, List}
+use Rattle.std.specs.Ordering.{int_eq}
+use Rattle.cbl_base.specs.Sets.{set_of}
+use Rattle.cbl_operations.specs.Operations.Greatest.{greatest_of}
+use Rattle.cbl_base.specs.NodeLaw.{Rule}
+use Rattle.cbl_operations.specs.SetForms.{keys_where, rule_of_keys}
+
+abbrev pub arg_max : List ℤ → Rule
+arg_max keys = rule_of_keys keys (λ xs. set_of (keys_where (λ x. int_eq x (greatest_of xs)) keys xs))
