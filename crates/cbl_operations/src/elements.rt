@@ -1,7 +1,7 @@
 //! The cells of arrays.
 ghost use Rattle.std.specs.Prelude.{◌≡◌, ◌<◌, ◌*◌, IsTrue, IfSome, length};
 ghost use Rattle.std.specs.Option.{ForSome};
-ghost use Rattle.cbl_operations.specs.Cells.{place_of, place_in_rows, cell_at};
+ghost use Rattle.cbl_operations.specs.Cells.{place_of_index, place_in_rows, cell_at};
 ghost use Rattle.cbl_operations.specs.Operations.Element.{element};
 ghost use Rattle.cbl_operations.specs.Operations.Element2.{element2};
 
@@ -13,7 +13,7 @@ pub fn element_value(low: i64, len: u32, inputs: &[i64]) -> Result<i64, RunFault
     requires { IsTrue ((element low len).takes (length inputs.now)) }
     ensures { result ≡ (element low len).value inputs.now }
 {
-    cell_at(&inputs[1..], place_of(inputs[0], low, len))
+    cell_at(&inputs[1..], place_of_index(inputs[0], low, len))
 }
 
 /// The value of `Element2`, of a row, a column, and then the cells, row by row: `len1` rows from `low1`
@@ -28,8 +28,8 @@ pub fn element2_value(
     requires { IsTrue ((element2 low1 len1 low2 len2).takes (length inputs.now)) }
     ensures { result ≡ (element2 low1 len1 low2 len2).value inputs.now }
 {
-    let row = place_of(inputs[0], low1, len1);
-    let col = place_of(inputs[1], low2, len2);
+    let row = place_of_index(inputs[0], low1, len1);
+    let col = place_of_index(inputs[1], low2, len2);
     cell_at(&inputs[2..], place_in_rows(row, col, len1, len2))
 }
 
@@ -59,8 +59,8 @@ fn place_in_rows(row: Option<usize>, col: Option<usize>, height: u32, width: u32
 }
 
 /// The place from 0 that an index from `low` means. `None` exactly where it isn't one of `len`.
-fn place_of(index: i64, low: i64, len: u32) -> Option<usize>
-    ensures place { result ≡ place_of index low len }
+fn place_of_index(index: i64, low: i64, len: u32) -> Option<usize>
+    ensures place { result ≡ place_of_index index low len }
     ensures within { IfSome result (λ k. k < len) }
 {
     let place = u32::try_from(index.checked_sub(low)?).ok()?;

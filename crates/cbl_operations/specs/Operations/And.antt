@@ -2,8 +2,8 @@
 -- A rule of this project.
 use Rattle.std.specs.Prelude.{Ok}
 use Rattle.std.specs.List.{list_all}
-use Rattle.cbl_operations.specs.Truth.{truth, is_true}
 use Rattle.cbl_base.specs.NumberRule.{NumberRule}
+use Rattle.cbl_operations.specs.Truth.{truth, is_true}
 use Rattle.cbl_operations.specs.Forms.{rule_of_list}
 
 abbrev pub and : NumberRule

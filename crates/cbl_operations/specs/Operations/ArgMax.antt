@@ -3,8 +3,8 @@
 use Rattle.std.specs.Prelude.{ℤ, List}
 use Rattle.std.specs.Ordering.{int_eq}
 use Rattle.cbl_base.specs.Sets.{set_of}
-use Rattle.cbl_operations.specs.Operations.Greatest.{greatest_of}
 use Rattle.cbl_base.specs.NodeLaw.{Rule}
+use Rattle.cbl_operations.specs.Operations.Greatest.{greatest_of}
 use Rattle.cbl_operations.specs.SetForms.{keys_where, rule_of_keys}
 
 abbrev pub arg_max : List ℤ → Rule

@@ -3,11 +3,11 @@
 use Rattle.std.specs.Prelude.{ℕ, ℤ, pos, ◌+◌, ◌==◌, drop}
 use Rattle.cbl_base.specs.NumberRule.{NumberRule}
 use Rattle.cbl_operations.specs.Forms.{number_at}
-use Rattle.cbl_operations.specs.Cells.{place_of, cell_at}
+use Rattle.cbl_operations.specs.Cells.{place_of_index, cell_at}
 
 abbrev pub element : ℤ → ℕ → NumberRule
 element low len = record {
   takes = λ n. n == len + 1;
-  value = λ xs. cell_at (drop 1 xs) (place_of (number_at xs 0) low len);
+  value = λ xs. cell_at (drop 1 xs) (place_of_index (number_at xs 0) low len);
   violation_at = λ _ _. pos 0;
 }

@@ -1,8 +1,8 @@
 -- `setof(i in R) c` is the set of the keys at which `c` is true. A rule of this project.
 use Rattle.std.specs.Prelude.{ℤ, List}
 use Rattle.cbl_base.specs.Sets.{set_of}
-use Rattle.cbl_operations.specs.Truth.{is_true}
 use Rattle.cbl_base.specs.NodeLaw.{Rule}
+use Rattle.cbl_operations.specs.Truth.{is_true}
 use Rattle.cbl_operations.specs.SetForms.{keys_where, rule_of_keys}
 
 abbrev pub set_of_true : List ℤ → Rule
