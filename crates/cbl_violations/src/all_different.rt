@@ -20,8 +20,8 @@ pub fn all_different_violations(inputs: &[i64]) -> Result<i64, RunFault>
     narrowed(sum)
 }
 
-#[tactic(auto, unfolding(crate::specs::Violations::AllDifferent::all_different_violation_at))]
 /// 1 where the value at the place, counted from 0, stands at another place too, and else 0.
+#[tactic(auto, unfolding(crate::specs::Violations::AllDifferent::all_different_violation_at))]
 pub fn all_different_violation_at(inputs: &[i64], place: usize) -> i64
     requires { place < length inputs.now }
     ensures { result ≡ all_different_violation_at inputs.now place }

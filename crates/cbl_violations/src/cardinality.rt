@@ -80,8 +80,8 @@ fn is_over(inputs: &[i64], place: usize, low: i64, bounds: &[i64]) -> Option<boo
     }
 }
 
-#[tactic(auto, unfolding(crate::specs::Violations::AtMost::at_most_violation_at))]
 /// 1 where the value at the place, counted from 0, has a bound and stands at more places, and else 0.
+#[tactic(auto, unfolding(crate::specs::Violations::AtMost::at_most_violation_at))]
 pub fn at_most_violation_at(inputs: &[i64], place: usize, low: i64, bounds: &[i64]) -> i64
     requires within { place < length inputs.now }
     requires valued { IsOk (at_most_violations low bounds.now inputs.now) }
@@ -91,9 +91,9 @@ pub fn at_most_violation_at(inputs: &[i64], place: usize, low: i64, bounds: &[i6
     if is_over { 1 } else { 0 }
 }
 
-#[tactic(auto, unfolding(crate::specs::Violations::AtLeast::at_least_violation_at))]
 /// 1 where there are violations, and the value at the place, counted from 0, has no bound or stands at
 /// more places; and else 0.
+#[tactic(auto, unfolding(crate::specs::Violations::AtLeast::at_least_violation_at))]
 pub fn at_least_violation_at(inputs: &[i64], place: usize, low: i64, bounds: &[i64]) -> i64
     requires within { place < length inputs.now }
     requires valued { IsOk (at_least_violations low bounds.now inputs.now) }
@@ -104,9 +104,9 @@ pub fn at_least_violation_at(inputs: &[i64], place: usize, low: i64, bounds: &[i
     if is_violated && is_spare { 1 } else { 0 }
 }
 
-#[tactic(auto, unfolding(crate::specs::Violations::Exactly::exactly_violation_at))]
 /// 1 where the value at the place, counted from 0, stands at more places than its bound, or has no bound
 /// while there are violations; and else 0.
+#[tactic(auto, unfolding(crate::specs::Violations::Exactly::exactly_violation_at))]
 pub fn exactly_violation_at(inputs: &[i64], place: usize, low: i64, bounds: &[i64]) -> i64
     requires within { place < length inputs.now }
     requires valued { IsOk (exactly_violations low bounds.now inputs.now) }
