@@ -6,7 +6,8 @@ use crate::counting::places_with;
 use crate::summing::narrowed;
 use cbl_base::RunFault;
 
-/// Of each value that stands there, at how many places more than one: the sum. It fits.
+/// Of each value that stands there, at how many places more than one: the sum. `Overflow` exactly where
+/// it doesn't fit.
 pub fn all_different_violations(inputs: &[i64]) -> Result<i64, RunFault>
     ensures { result ≡ all_different_violations inputs.now }
 {
