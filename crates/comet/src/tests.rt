@@ -1,4 +1,6 @@
 //! Whole runs over memory: the worked examples, and what a user meets at the edges.
+ghost use Rattle.std.specs.Prelude.{◌<◌};
+
 use crate::{Cause, FileRole, Report, comet_run, words_form};
 use cbl_base::{Place, RunFault};
 use cbl_io::{MemFiles, MemSink};
