@@ -65,6 +65,7 @@ fn all_different(rt: HostRuntime) {
     for (inputs, want, places) in rows {
         assert_eq!(rt; all_different_violations(inputs), Ok(want), "{inputs:?}");
         for (place, want) in (0..inputs.len()).zip(places) {
+            assert!(rt; place < inputs.len());
             assert_eq!(rt;
                 all_different_violation_at(inputs, place),
                 *want,
@@ -94,6 +95,7 @@ fn at_most(rt: HostRuntime) {
         assert_eq!(rt; violations, want, "{low} {bounds:?} {inputs:?}");
         if violations.is_ok() {
             for (place, want) in (0..inputs.len()).zip(places) {
+                assert!(rt; place < inputs.len());
                 let violation = at_most_violation_at(inputs, place, low, bounds);
                 assert_eq!(rt; violation, *want, "{low} {bounds:?} {inputs:?} at {place}");
             }
@@ -118,6 +120,7 @@ fn at_least(rt: HostRuntime) {
         assert_eq!(rt; violations, want, "{low} {bounds:?} {inputs:?}");
         if violations.is_ok() {
             for (place, want) in (0..inputs.len()).zip(places) {
+                assert!(rt; place < inputs.len());
                 let violation = at_least_violation_at(inputs, place, low, bounds);
                 assert_eq!(rt; violation, *want, "{low} {bounds:?} {inputs:?} at {place}");
             }
@@ -140,6 +143,7 @@ fn exactly(rt: HostRuntime) {
         assert_eq!(rt; violations, want, "{low} {bounds:?} {inputs:?}");
         if violations.is_ok() {
             for (place, want) in (0..inputs.len()).zip(places) {
+                assert!(rt; place < inputs.len());
                 let violation = exactly_violation_at(inputs, place, low, bounds);
                 assert_eq!(rt; violation, *want, "{low} {bounds:?} {inputs:?} at {place}");
             }
@@ -168,6 +172,7 @@ fn knapsack(rt: HostRuntime) {
         assert_eq!(rt; violations, want, "{weights:?} {capacity} {inputs:?}");
         if violations.is_ok() {
             for (place, want) in (0..inputs.len()).zip(places) {
+                assert!(rt; place < inputs.len());
                 let violation = knapsack_violation_at(inputs, place, weights, capacity);
                 assert_eq!(rt;
                     violation,
@@ -204,6 +209,7 @@ fn multi_knapsack(rt: HostRuntime) {
         );
         if violations.is_ok() {
             for (place, want) in (0..inputs.len()).zip(places) {
+                assert!(rt; place < inputs.len());
                 let violation = multi_knapsack_violation_at(inputs, place, sizes, low, capacities);
                 assert_eq!(rt;
                     violation,
@@ -234,6 +240,7 @@ fn sequence(rt: HostRuntime) {
         assert_eq!(rt; violations, want, "{values:?} {most} {window} {inputs:?}");
         if violations.is_ok() {
             for (place, want) in (0..inputs.len()).zip(places) {
+                assert!(rt; place < inputs.len());
                 let violation = sequence_violation_at(inputs, place, values, most, window);
                 assert_eq!(rt;
                     violation,
