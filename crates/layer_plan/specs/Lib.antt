@@ -1,0 +1,4 @@
+pub mod Cycles
+pub mod Dependencies
+pub mod Paths
+pub mod Search

@@ -1,0 +1,21 @@
+//! Why there are no layers.
+use cbl_base::NoMemory;
+
+/// Why there are no layers.
+#[derive(Drop, Debug)]
+pub enum PlanStop {
+    /// Items that depend on one another in a circle: each on the next, and the last on the first.
+    Cycle(Vec<u32>),
+    NoMemory,
+}
+
+impl From<NoMemory> for PlanStop {
+    ghost use Rattle.std.specs.Prelude.{◌≡◌};
+    ghost use Rattle.layer_plan.specs.declared.stop.PlanStop.TheVariants.{NoMemory as WithoutMemory};
+
+    ghost from_gives = { λ _ stop. stop ≡ WithoutMemory };
+
+    fn from(_error: NoMemory) -> PlanStop {
+        PlanStop::NoMemory
+    }
+}

@@ -1,0 +1,71 @@
+ghost use Rattle.std.specs.Prelude.{ℕ, ◌<◌, ◌^◌, length, slice_index};
+ghost use Rattle.std.specs.Bool.{OnTrue};
+ghost use Rattle.layer_plan.specs.Dependencies.{AreItems};
+
+use super::*;
+use crate::search::list_of;
+use std::alloc::Global;
+use std::test::*;
+
+// Whether each number is below the count.
+fn all_below(list: &[u32], count: usize) -> bool
+    ensures { OnTrue result ((k : ℕ) → k < length list.now → slice_index list.now k < count) }
+{
+    for number in list {
+        if *number as usize >= count {
+            return false;
+        }
+    }
+    true
+}
+
+// Whether each entry is an item.
+fn are_items(deps: &[Vec<u32>]) -> bool
+    requires { length deps.now < 2 ^ 32 }
+    ensures { OnTrue result (AreItems deps.now) }
+{
+    for item in 0..deps.len() as u32 {
+        if !all_below(list_of(deps, item), deps.len()) {
+            return false;
+        }
+    }
+    true
+}
+
+// What `plan` answers for these lists, as text.
+fn planned(alloc: Global, lists: &[&[u32]]) -> Result<String, Fail> {
+    let mut deps = Vec::new(alloc);
+    for list in lists {
+        deps.push(list.to_vec(alloc)?)?;
+    }
+    if deps.len() > 1000 || !are_items(&deps) {
+        return Ok(format!(in alloc; "no items")?);
+    }
+    match plan(alloc, &deps) {
+        Ok(layers) => Ok(format!(in alloc; "{layers:?}")?),
+        Err(stop) => Ok(format!(in alloc; "{stop:?}")?),
+    }
+}
+
+#[test]
+fn layers_and_cycles(rt: HostRuntime) -> Result<(), Fail> {
+    let alloc = rt.alloc();
+    assert_eq!(rt; planned(alloc, &[])?.as_str(), "Layers { layers: [] }");
+    // Item 2 stands on two items, one of which stands on the other.
+    assert_eq!(rt;
+        planned(alloc, &[&[1], &[], &[0, 1]])?.as_str(),
+        "Layers { layers: [1, 0, 2] }"
+    );
+    // Used before their declaration, and no cycle.
+    assert_eq!(rt;
+        planned(alloc, &[&[1], &[2], &[3], &[]])?.as_str(),
+        "Layers { layers: [3, 2, 1, 0] }"
+    );
+    assert_eq!(rt;
+        planned(alloc, &[&[1], &[0], &[]])?.as_str(),
+        "Cycle([0, 1])"
+    );
+    // An item on itself.
+    assert_eq!(rt; planned(alloc, &[&[], &[0, 1]])?.as_str(), "Cycle([1])");
+    Ok(())
+}
