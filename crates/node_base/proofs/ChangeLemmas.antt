@@ -1,5 +1,5 @@
 -- Changes of inputs that are all numbers, as changes of numbers.
-use Rattle.std.proofs.Common.{◌≡◌, ◌++◌, ℕ, zero, suc, ℤ, ◌+◌, ◌<◌, true, false, List, [], ◌∷◌, length, get_or, set, take, refl, ap, sym, ◌∙◌, subst, arith}
+use Rattle.std.proofs.Common.{pos, ◌≡◌, ◌++◌, ℕ, zero, suc, ℤ, ◌+◌, ◌<◌, true, false, List, [], ◌∷◌, length, get_or, set, take, refl, ap, sym, ◌∙◌, subst, arith}
 use Rattle.std.specs.Prelude.{Option, Some, None, IsSome, unwrap_or, slice_get, Result, Ok, Err, IsOk}
 use Rattle.std.proofs.lemmas.Option.{slice_get_within, get_or_from_slice_get}
 use Rattle.std.proofs.lemmas.Bool.{both_ways}
@@ -20,7 +20,7 @@ use Rattle.cbl_base.specs.NumberRule.{NumberRule, as_value, rule_of_numbers}
 use Rattle.cbl_base.proofs.InputLemmas.{numbers_of-as_inputs, change_now, change_next}
 use Rattle.cbl_base.proofs.PlaceLemmas.{others_stay}
 use Rattle.node_base.specs.declared.number_change.NumberChange.{NumberChange}
-use Rattle.node_base.specs.NumberChanges.{after_number_change, after_number_changes, IsNumberChange, NoNumberAt, AreNumberChanges, number_change_of, number_changes_of, IsNumberAnswer, as_answer}
+use Rattle.node_base.specs.NumberChanges.{after_number_change, after_number_changes, IsNumberChange, NoNumberAt, AreNumberChanges, number_change_of, number_changes_of, IsNumberAnswer, answer_of, as_answer}
 
 -- ---- inputs that are all numbers
 pub no_set_there : (inputs : List Input) (i : ℕ) (s : List ℤ) (d : Input) → all_numbers (kinds_of inputs) ≡ true → i < length inputs → get_or inputs i d ≡ Set s → ⊥
@@ -142,6 +142,14 @@ pub ok_number : (v : Result ℤ RunFault) → IsOk (as_value v) → IsOk v
 ok_number (Ok x) h = h
 ok_number (Err fault) h = h
 
+pub is_answer_of : (v : Result ℤ RunFault) → IsNumberAnswer v (answer_of v)
+is_answer_of (Ok x) = refl
+is_answer_of (Err fault) = refl
+
+-- a value of the numbers after the changes, as an answer
+pub value_answers : (v r : Result ℤ RunFault) (a : Result ℤ NodeFault) → r ≡ v → a ≡ answer_of r → IsNumberAnswer v a
+value_answers v r a is answer = subst (λ b. IsNumberAnswer v b) (sym (answer ∙ ap answer_of is)) (is_answer_of v)
+
 pub answer_of_number : (v : Result ℤ RunFault) (r : Result ℤ NodeFault) → IsNumberAnswer v r → IsAnswer (as_value v) (as_answer r)
 answer_of_number v (Ok x) h = ap as_value h
 answer_of_number v (Err (Run fault)) h = ap as_value h
@@ -186,6 +194,10 @@ change_from_first : (xs : List ℤ) (cs : List NumberChange) (i : ℕ) (d : Numb
 change_from_first xs [] i d h lt = absurd (omega arith)
 change_from_first xs (c ∷ cs) zero d h lt = h.0
 change_from_first xs (c ∷ cs) (suc i) d h lt = change_from_first xs cs i d h.2 (omega arith)
+
+-- what a list of changes reads as past its end
+abbrev pub no_change : NumberChange
+no_change = record { place = 0; old = pos 0; new = pos 0 }
 
 -- in a loop over the changes, at the change i
 module _ (xs : List ℤ) (cs : List NumberChange) (i : ℕ) (d : NumberChange) (are : AreNumberChanges xs cs) (lt : i < length cs) where

@@ -1,2 +1,3 @@
 pub mod ChangeLemmas
 pub mod TallyLemmas
+pub mod ValueSums

@@ -46,6 +46,11 @@ IsNumberAnswer value (Ok v) = value ≡ Ok v
 IsNumberAnswer value (Err (Run fault)) = value ≡ Err fault
 IsNumberAnswer value (Err NoMemory) = Unit {0}
 
+-- the answer that is a value, or its fault
+abbrev pub answer_of : Result ℤ RunFault → Result ℤ NodeFault
+answer_of (Ok v) = Ok v
+answer_of (Err fault) = Err (Run fault)
+
 -- an answer of numbers as that of a node
 abbrev pub as_answer : Result ℤ NodeFault → Result Input NodeFault
 as_answer (Ok v) = Ok (Int v)

@@ -16,7 +16,7 @@ mod overlay;
 mod tally;
 
 pub use number_change::NumberChange;
-pub use number_node::NumberNode;
+pub use number_node::{NumberNode, probe_answer};
 pub use over_numbers::OverNumbers;
 pub use overlay::Overlay;
 pub use tally::{Elsewhere, Tally};

@@ -1,7 +1,7 @@
 //! The law of a node whose inputs and value are numbers.
 ghost use Rattle.std.specs.Prelude.{◌≡◌, ℤ, ◌<◌, List, length, IsTrue, IsOk, OnOk};
 ghost use Rattle.cbl_base.specs.NumberRule.{NumberRule};
-ghost use Rattle.node_base.specs.NumberChanges.{IsNumberChange, AreNumberChanges, after_number_change, after_number_changes, IsNumberAnswer};
+ghost use Rattle.node_base.specs.NumberChanges.{IsNumberChange, AreNumberChanges, after_number_change, after_number_changes, IsNumberAnswer, answer_of};
 
 use crate::number_change::NumberChange;
 use cbl_base::{NoMemory, NodeFault, RunFault};
@@ -51,4 +51,14 @@ pub trait NumberNode: Send + Sync + Drop {
         requires within { place < length (held_numbers self.now) }
         requires valued { IsOk ((number_rule self.now).value (held_numbers self.now)) }
         ensures { result ≡ (number_rule self.now).violation_at (held_numbers self.now) place };
+}
+
+/// A value, or its fault, as the answer of a probe.
+pub fn probe_answer(value: Result<i64, RunFault>) -> Result<i64, NodeFault>
+    ensures { result ≡ answer_of value }
+{
+    match value {
+        Ok(number) => Ok(number),
+        Err(fault) => Err(NodeFault::Run(fault)),
+    }
 }

@@ -1,0 +1,2 @@
+pub mod NumberRules
+pub mod Repeats
