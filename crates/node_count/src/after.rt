@@ -5,7 +5,7 @@ ghost use Rattle.node_count.specs.After.{number_after};
 use node_base::NumberChange;
 
 /// The number at a place after changes, where it was this one before them.
-pub(crate) fn number_after(number: i64, place: usize, changes: &[NumberChange]) -> i64
+pub fn number_after(number: i64, place: usize, changes: &[NumberChange]) -> i64
     ensures { result ≡ number_after place number changes.now }
 {
     let mut number = number;
