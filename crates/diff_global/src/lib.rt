@@ -8,5 +8,7 @@
 #![tactic(auto)]
 
 mod all_different;
+mod cardinality;
 
 pub use all_different::AllDifferent;
+pub use cardinality::{Cardinality, Demand};

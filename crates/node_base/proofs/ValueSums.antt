@@ -1,5 +1,5 @@
 -- Sums and totals of what values, or indices, give, where that changes of one of them.
-use Rattle.std.proofs.Common.{◌≡◌, ◌≢◌, ℕ, zero, suc, ◌+◌, ◌<◌, ◌≤◌, ℤ, ◌+ℤ◌, ◌-ℤ◌, true, false, ◌⊎◌, inl, inr, List, [], ◌∷◌, refl, ap, ◌∙◌, arith}
+use Rattle.std.proofs.Common.{pos, ◌≡◌, ◌≢◌, ℕ, zero, suc, ◌+◌, ◌<◌, ◌≤◌, ℤ, ◌+ℤ◌, ◌-ℤ◌, true, false, ◌⊎◌, inl, inr, List, [], ◌∷◌, refl, ap, ◌∙◌, arith}
 use Rattle.std.specs.Prelude.{sum_by}
 use Rattle.std.specs.List.{range_with_len}
 use Rattle.std.specs.Ordering.{int_eq}
@@ -9,6 +9,7 @@ use Rattle.std.proofs.lemmas.List.Sums.{sum_by-cons}
 use Rattle.cbl_base.specs.Counts.{count_of}
 use Rattle.cbl_base.specs.Totals.{total_by}
 use Rattle.cbl_base.proofs.CountLemmas.{one_at, count_of-cons}
+use Rattle.cbl_base.proofs.TotalLemmas.{total_by-pos}
 use Rattle.cbl_base.proofs.SetLemmas.{int_eq-itself, int_eq-true}
 
 pub one_at-same : (v x : ℤ) → int_eq x v ≡ true → one_at v x ≡ 1
@@ -78,3 +79,14 @@ total_at_index h h' j a (suc n) low high off =
           let later = total_at_index h h' j (a + 1) n above (omega arith) off in
           omega (arith, ints, first, later)
     ]
+
+-- the same of sums
+pub sum_range_same : (h h' : ℕ → ℕ) (a n : ℕ) → ((k : ℕ) → a ≤ k → k < a + n → h' k ≡ h k) → sum_by h' (range_with_len a n) ≡ sum_by h (range_with_len a n)
+sum_range_same h h' a n same =
+    let all = total_same (λ k. pos (h k)) (λ k. pos (h' k)) a n (λ k low high. ap pos (same k low high)) in
+    omega (arith, ints, all, total_by-pos h (range_with_len a n), total_by-pos h' (range_with_len a n))
+
+pub sum_at_index : (h h' : ℕ → ℕ) (j a n : ℕ) → a ≤ j → j < a + n → ((k : ℕ) → k ≢ j → h' k ≡ h k) → sum_by h' (range_with_len a n) + h j ≡ sum_by h (range_with_len a n) + h' j
+sum_at_index h h' j a n low high off =
+    let all = total_at_index (λ k. pos (h k)) (λ k. pos (h' k)) j a n low high (λ k ne. ap pos (off k ne)) in
+    omega (arith, ints, all, total_by-pos h (range_with_len a n), total_by-pos h' (range_with_len a n))
