@@ -3,3 +3,10 @@ pub mod CycleLists
 pub mod Lists
 pub mod KeptSteps
 pub mod TrailSteps
+pub mod Ways
+pub mod Best
+pub mod UserLists
+pub mod SpreadSteps
+pub mod ComponentSteps
+pub mod ComponentClose
+pub mod ComponentEnd

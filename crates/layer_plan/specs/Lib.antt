@@ -2,3 +2,8 @@ pub mod Cycles
 pub mod Dependencies
 pub mod Paths
 pub mod Search
+pub mod NamedCycle
+pub mod Nearness
+pub mod Uses
+pub mod Rounds
+pub mod Components

@@ -3,12 +3,12 @@
 use Rattle.std.specs.Prelude.{Vec, ℕ, ◌+◌, ◌<◌, ◌≤◌, ◌≡◌, ◌⊎◌, List, length, slice_index, slice_index_or, sum, sum_by}
 use Rattle.std.specs.declared.alloc.Global.{Global}
 use Rattle.layer_plan.specs.Dependencies.{list_of, DependsOn}
-use Rattle.layer_plan.specs.Cycles.{IsCycle}
+use Rattle.layer_plan.specs.Nearness.{HasCycle}
 use Rattle.layer_plan.specs.declared.search.Stage.{Stage}
 use Rattle.layer_plan.specs.declared.search.Stage.TheVariants.{Untouched, Open, Placed}
 use Rattle.layer_plan.specs.declared.search.Search.{Search}
-use Rattle.layer_plan.specs.declared.stop.PlanStop.{PlanStop}
-use Rattle.layer_plan.specs.declared.stop.PlanStop.TheVariants.{Cycle, NoMemory}
+use Rattle.layer_plan.specs.declared.search.SearchStop.{SearchStop}
+use Rattle.layer_plan.specs.declared.search.SearchStop.TheVariants.{Cycle, NoMemory}
 
 abbrev pub stage_of : Search → ℕ → Stage
 stage_of s v = slice_index_or s.stages.items v Untouched
@@ -78,7 +78,7 @@ KeepsTouched a b = (v : ℕ) → (stage_of a v ≡ Untouched → ⊥) → stage_
 abbrev pub IsLast : List ℕ → ℕ → Type 0
 IsLast stack item = (i : ℕ) × (i + 1 ≡ length stack) × (slice_index stack i ≡ item)
 
--- a cycle that is told is one
-abbrev pub IsTrueStop : List (Vec ℕ Global) → PlanStop → Type 0
-IsTrueStop deps (Cycle list) = IsCycle deps list.items
+-- where the search tells of a cycle there is one
+abbrev pub IsTrueStop : List (Vec ℕ Global) → SearchStop → Type 0
+IsTrueStop deps Cycle = HasCycle deps
 IsTrueStop deps NoMemory = Unit {0}

@@ -5,7 +5,6 @@ ghost use Rattle.layer_plan.specs.Paths.{IsLongest};
 ghost use Rattle.layer_plan.specs.Cycles.{IsCycle};
 ghost use Rattle.layer_plan.specs.Search.{stage_of, rest_of, work, IsSound, LeadsOn, IsTrueStop, IsLast, KeepsTouched};
 
-use crate::stop::PlanStop;
 use cbl_base::NoMemory;
 use std::alloc::Global;
 
@@ -18,6 +17,24 @@ enum Stage {
     Open,
     /// Its layer is known.
     Placed,
+}
+
+/// Why the search ends early.
+pub(crate) enum SearchStop {
+    /// Items depend on one another in a circle.
+    Cycle,
+    NoMemory,
+}
+
+impl From<NoMemory> for SearchStop {
+    ghost use Rattle.std.specs.Prelude.{◌≡◌};
+    ghost use Rattle.layer_plan.specs.declared.search.SearchStop.TheVariants.{NoMemory as WithoutMemory};
+
+    ghost from_gives = { λ _ stop. stop ≡ WithoutMemory };
+
+    fn from(_error: NoMemory) -> SearchStop {
+        SearchStop::NoMemory
+    }
 }
 
 /// The state of the search.
@@ -41,7 +58,7 @@ pub(crate) fn list_of(deps: &[Vec<u32>], item: u32) -> &[u32]
 }
 
 /// The entry of an item's list at a place from 0.
-fn entry(deps: &[Vec<u32>], item: u32, place: usize) -> u32
+pub(crate) fn entry(deps: &[Vec<u32>], item: u32, place: usize) -> u32
     requires items { AreItems deps.now }
     requires item { item < length deps.now }
     requires place { place < length (list_of deps.now item) }
@@ -110,27 +127,8 @@ impl Search {
         self.layers[item as usize] = self.layers[item as usize].max(least);
     }
 
-    /// The cycle that an entry of the last item's list closes, where the entry is open.
-    fn cycle(&self, alloc: Global, deps: &[Vec<u32>], item: u32, first: u32) -> PlanStop
-        requires sound { IsSound deps.now self.now }
-        requires last { IsLast self.now.stack.items item }
-        requires closes { DependsOn deps.now item first }
-        requires first { first < length deps.now }
-        requires opened { stage_of self.now first ≡ Stage.Open }
-        ensures { IsTrueStop deps.now result }
-    {
-        let mut place = self.stack.len() - 1;
-        while self.stack[place] != first {
-            place -= 1;
-        }
-        match Vec::from_slice(alloc, &self.stack[place..]) {
-            Ok(list) => PlanStop::Cycle(list),
-            Err(_) => PlanStop::NoMemory,
-        }
-    }
-
     /// Looks at one entry of the list of the last of the stack, or takes that off the stack.
-    fn step(&mut self, alloc: Global, deps: &[Vec<u32>], item: u32) -> Result<(), PlanStop>
+    fn step(&mut self, deps: &[Vec<u32>], item: u32) -> Result<(), SearchStop>
         requires few { length deps.now < 2 ^ 32 }
         requires items { AreItems deps.now }
         requires sound { IsSound deps.now self.old }
@@ -152,7 +150,7 @@ impl Search {
                 self.open(deps, next)?;
                 Ok(())
             }
-            Stage::Open => Err(self.cycle(alloc, deps, item, next)),
+            Stage::Open => Err(SearchStop::Cycle),
             Stage::Placed => {
                 self.pass(deps, item, left - 1, next);
                 Ok(())
@@ -161,7 +159,7 @@ impl Search {
     }
 
     /// Places the item and all that it leads to, unless that was done.
-    fn visit(&mut self, alloc: Global, deps: &[Vec<u32>], root: u32) -> Result<(), PlanStop>
+    fn visit(&mut self, deps: &[Vec<u32>], root: u32) -> Result<(), SearchStop>
         requires few { length deps.now < 2 ^ 32 }
         requires items { AreItems deps.now }
         requires sound { IsSound deps.now self.old }
@@ -175,7 +173,7 @@ impl Search {
     {
         self.begin(deps, root)?;
         while let Some(item) = self.stack.last().copied() {
-            self.step(alloc, deps, item)?;
+            self.step(deps, item)?;
         }
         Ok(())
     }
@@ -211,7 +209,7 @@ impl Search {
 }
 
 /// How long the lists are.
-fn lengths(alloc: Global, deps: &[Vec<u32>]) -> Result<Vec<usize>, NoMemory>
+pub(crate) fn lengths(alloc: Global, deps: &[Vec<u32>]) -> Result<Vec<usize>, NoMemory>
     ensures count { IfOk result (λ v. length v.items ≡ length deps.now) }
     ensures each { IfOk result (λ v. (item : ℕ) → item < length deps.now → slice_index v.items item ≡ length (list_of deps.now item)) }
 {
@@ -222,8 +220,8 @@ fn lengths(alloc: Global, deps: &[Vec<u32>]) -> Result<Vec<usize>, NoMemory>
     Ok(lengths)
 }
 
-/// The layer of each item, or a cycle.
-pub(crate) fn layers_of(alloc: Global, deps: &[Vec<u32>]) -> Result<Vec<u32>, PlanStop>
+/// The layer of each item, unless items depend on one another in a circle.
+pub(crate) fn layers_of(alloc: Global, deps: &[Vec<u32>]) -> Result<Vec<u32>, SearchStop>
     requires few { length deps.now < 2 ^ 32 }
     requires items { AreItems deps.now }
     ensures count { IfOk result (λ layers. length layers.items ≡ length deps.now) }
@@ -233,7 +231,7 @@ pub(crate) fn layers_of(alloc: Global, deps: &[Vec<u32>]) -> Result<Vec<u32>, Pl
 {
     let mut search = Search::new(alloc, deps)?;
     for root in 0..deps.len() as u32 {
-        search.visit(alloc, deps, root)?;
+        search.visit(deps, root)?;
     }
     Ok(search.layers)
 }

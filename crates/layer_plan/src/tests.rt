@@ -67,5 +67,36 @@ fn layers_and_cycles(rt: HostRuntime) -> Result<(), Fail> {
     );
     // An item on itself.
     assert_eq!(rt; planned(alloc, &[&[], &[0, 1]])?.as_str(), "Cycle([1])");
+    // As `y <- z+1; z <- y` and x beside them.
+    assert_eq!(rt;
+        planned(alloc, &[&[], &[2], &[1]])?.as_str(),
+        "Cycle([1, 2])"
+    );
+    Ok(())
+}
+
+#[test]
+fn which_cycle(rt: HostRuntime) -> Result<(), Fail> {
+    let alloc = rt.alloc();
+    // The longer of two cycles goes through the least item.
+    assert_eq!(rt;
+        planned(alloc, &[&[2], &[3], &[4], &[1], &[0]])?.as_str(),
+        "Cycle([0, 2, 4])"
+    );
+    // The least item lies on no cycle, and only leads to one.
+    assert_eq!(rt;
+        planned(alloc, &[&[3], &[3], &[0], &[1]])?.as_str(),
+        "Cycle([1, 3])"
+    );
+    // Of equally short ones the first in the order of lists.
+    assert_eq!(rt;
+        planned(alloc, &[&[3, 2], &[], &[4], &[4], &[0]])?.as_str(),
+        "Cycle([0, 2, 4])"
+    );
+    // A shorter one through the same item.
+    assert_eq!(rt;
+        planned(alloc, &[&[1, 3], &[2], &[0], &[0]])?.as_str(),
+        "Cycle([0, 3])"
+    );
     Ok(())
 }

@@ -1,0 +1,8 @@
+-- Two numbers as a list.
+use Rattle.std.proofs.Common.{◌≡◌, ℤ, List, [], ◌∷◌, length, get_or, refl, arith}
+
+pub two_numbers : (xs : List ℤ) (d e : ℤ) → length xs ≡ 2 → get_or xs 0 d ∷ get_or xs 1 e ∷ [] ≡ xs
+two_numbers [] d e long = absurd (omega (arith, long))
+two_numbers (x ∷ []) d e long = absurd (omega (arith, long))
+two_numbers (x ∷ y ∷ []) d e long = refl
+two_numbers (x ∷ y ∷ z ∷ xs) d e long = absurd (omega (arith, long))

@@ -1,0 +1,4 @@
+pub mod Combined
+pub mod OneMember
+pub mod Products
+pub mod Related

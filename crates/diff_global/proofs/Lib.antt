@@ -1,0 +1,3 @@
+pub mod CardinalityLaws
+pub mod RepeatLemmas
+pub mod TotalsShift

@@ -1,0 +1,10 @@
+use Rattle.std.proofs.Common.{◌≡◌, take}
+use Rattle.node_base.specs.NumberChanges.{after_number_changes}
+use Rattle.node_base.specs.Counting.{Shows}
+use Rattle.diff_global.specs.Repeats.{repeats}
+use Rattle.diff_global.proofs.all_different.AllDifferentNumberNode.probe.Given as goal
+
+abbrev pub invariant-loop-change : goal.invariant-loop-change
+invariant-loop-change l =
+    let xs = after_number_changes l.self.tally (take l.change-index l.changes) in
+    record { shown : Shows l.self.tally l.overlay xs; repeats : l.repeats ≡ repeats xs }

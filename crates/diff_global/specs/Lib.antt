@@ -1,0 +1,5 @@
+pub mod CardinalityRules
+pub mod CardinalityTotals
+pub mod Differences
+pub mod NumberRules
+pub mod Repeats

@@ -1,0 +1,68 @@
+//! Counts as changes would make them, over those of a tally that stays.
+ghost use Rattle.std.specs.Prelude.{◌≡◌, ◌+◌, ◌<◌, ◌^◌, [], IfOk, OnOk};
+ghost use Rattle.node_base.specs.Counting.{count_over, ShowsChange, IsWritten};
+
+use crate::number_change::NumberChange;
+use crate::tally::{Elsewhere, Tally};
+use cbl_base::NoMemory;
+use std::alloc::Global;
+use std::collections::BTreeMap;
+use std::marker::Model;
+
+/// The counts that differ from those of a tally, and seen as a list of numbers with their counts. Over
+/// a tally it shows the tally's list, until changes make it show another.
+#[derive(Drop)]
+pub struct Overlay {
+    counts: BTreeMap<i64, usize>,
+}
+
+impl Model for Overlay {
+    ghost use Rattle.std.specs.Prelude.{ℤ, ℕ, List};
+
+    ghost Value = { List (ℤ × ℕ) };
+
+    ghost view = { λ a. a.counts.entries };
+}
+
+impl Overlay {
+    /// No count that differs.
+    pub fn new(alloc: Global) -> Overlay
+        ensures { result ≡ [] }
+    {
+        Overlay {
+            counts: BTreeMap::new(alloc),
+        }
+    }
+
+    /// At how many places the number stands in the list that it shows over the tally.
+    pub fn times(&self, tally: &Tally, number: i64) -> usize
+        ensures { result ≡ count_over tally.now self.now number }
+    {
+        match self.counts.get(&number) {
+            Some(times) => *times,
+            None => tally.times(number),
+        }
+    }
+
+    /// Makes a change in the list that it shows over the tally. It answers how often the old and the
+    /// new number stand there at the other places.
+    pub fn set(&mut self, tally: &Tally, change: NumberChange) -> Result<Elsewhere, NoMemory>
+        requires stands { 0 < count_over tally.now self.old change.old }
+        requires room { count_over tally.now self.old change.new + 1 < 2 ^ 64 }
+        ensures { IfOk result (λ e. ShowsChange tally.now self.old self.new change e) }
+    {
+        let old = self.times(tally, change.old) - 1;
+        self.write(change.old, old)?;
+        let new = self.times(tally, change.new);
+        self.write(change.new, new + 1)?;
+        Ok(Elsewhere { old, new })
+    }
+
+    /// From now on the count of the number is this one.
+    fn write(&mut self, number: i64, times: usize) -> Result<(), NoMemory>
+        ensures { OnOk result (IsWritten self.old self.new number times) }
+    {
+        self.counts.insert(number, times)?;
+        Ok(())
+    }
+}

@@ -1,0 +1,3 @@
+pub mod AfterLemmas
+pub mod CountTurns
+pub mod ElementLemmas

@@ -1,0 +1,2 @@
+pub mod ConstantRule
+pub mod OpNodes

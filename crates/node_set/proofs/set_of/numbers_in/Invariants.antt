@@ -1,0 +1,6 @@
+use Rattle.std.proofs.Common.{◌≡◌, take}
+use Rattle.cbl_base.specs.Inputs.{numbers_of}
+use Rattle.node_set.proofs.set_of.numbers_in.Given as goal
+
+abbrev pub invariant-loop-input : goal.invariant-loop-input
+invariant-loop-input l = l.numbers.items ≡ numbers_of (take l.input-index l.inputs)

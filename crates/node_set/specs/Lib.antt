@@ -1,0 +1,4 @@
+pub mod Bags
+pub mod Combining
+pub mod Edits
+pub mod Placing

@@ -1,0 +1,3 @@
+pub mod Crowd
+pub mod Moves
+pub mod UserRule

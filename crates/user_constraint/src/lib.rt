@@ -1,0 +1,14 @@
+//! Constraints that users of the library write, and the node that wraps one.
+//!
+//! It knows nothing of any constraint by name, of solvers or of programs. The layers above use that
+//! whatever is a `UserConstraint` tells the violations of the numbers that it holds by its rule, which
+//! no call changes, that a box of one is one, and that `UserNode` is a `NumberNode` with that rule.
+#![tactic(auto)]
+
+mod node;
+#[cfg(test)]
+mod tests;
+mod user;
+
+pub use node::UserNode;
+pub use user::UserConstraint;
