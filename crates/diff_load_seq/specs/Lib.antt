@@ -1,0 +1,5 @@
+pub mod Bins
+pub mod Levels
+pub mod LevelsOver
+pub mod Parts
+pub mod Products
