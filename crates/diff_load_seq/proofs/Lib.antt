@@ -6,3 +6,5 @@ pub mod OverLemmas
 pub mod PartLemmas
 pub mod PlaceLists
 pub mod ProductLemmas
+pub mod WindowLemmas
+pub mod WindowSums

@@ -25,6 +25,10 @@ flat = record { height = pos 0; limit = pos 0 }
 abbrev pub level_at : List Level → ℕ → Level
 level_at levels k = slice_index_or levels k flat
 
+-- those of so many levels from a place on
+abbrev pub excesses_between : List Level → ℕ → ℕ → List Part
+excesses_between levels first n = map (λ k. excess_of (level_at levels k)) (range_with_len first n)
+
 -- the level with another height
 abbrev pub raised : ℤ → Level → Level
 raised by level = record { height = level.height +ℤ by; limit = level.limit }

@@ -3,3 +3,4 @@ pub mod Levels
 pub mod LevelsOver
 pub mod Parts
 pub mod Products
+pub mod Windows

@@ -1,7 +1,8 @@
 //! Levels, each with a limit: how far each is above its limit, as a sum that is kept as levels are raised.
-ghost use Rattle.std.specs.Prelude.{◌≡◌, ℕ, ◌<◌, ◌≤◌, ◌++◌, [], ◌∷◌, length, slice_set, OnOk};
-ghost use Rattle.diff_load_seq.specs.Parts.{joined, number_in};
-ghost use Rattle.diff_load_seq.specs.Levels.{excess_of, excesses, level_at, raised, raised_between, IsRaisable, IsKept};
+ghost use Rattle.std.specs.Prelude.{◌≡◌, ℕ, ◌<◌, ◌≤◌, ◌-◌, ◌++◌, [], ◌∷◌, length, slice_set, OnOk};
+ghost use Rattle.cbl_base.specs.Arithmetic.{exact};
+ghost use Rattle.diff_load_seq.specs.Parts.{joined, number_in, sum_of};
+ghost use Rattle.diff_load_seq.specs.Levels.{excess_of, excesses, excesses_between, level_at, raised, raised_between, IsRaisable, IsKept};
 
 use crate::running_sum::{RunningSum, narrowed};
 use cbl_base::{NoMemory, RunFault, sub};
@@ -108,5 +109,19 @@ impl Levels {
         ensures { result ≡ number_in (excess_of (level_at self.now.each.items place)) }
     {
         self.each[place].excess().unwrap_or(0)
+    }
+
+    /// How far the levels from the place `first` up to before the place `last` are above their limits, as
+    /// a sum of those that fit. `Overflow` exactly where the sum doesn't.
+    pub(crate) fn excess_between(&self, first: usize, last: usize) -> Result<i64, RunFault>
+        requires order { first ≤ last }
+        requires within { last ≤ length self.now.each.items }
+        ensures { result ≡ exact (sum_of (excesses_between self.now.each.items first (last - first))) }
+    {
+        let mut sum = RunningSum::empty();
+        for place in first..last {
+            sum = sum.replaced(Ok(0), self.each[place].excess());
+        }
+        sum.of_numbers()
     }
 }

@@ -12,6 +12,9 @@ mod levels;
 mod levels_over;
 mod multi_knapsack;
 mod running_sum;
+mod sequence;
+mod windows;
 
 pub use knapsack::Knapsack;
 pub use multi_knapsack::MultiKnapsack;
+pub use sequence::Sequence;

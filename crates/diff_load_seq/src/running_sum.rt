@@ -45,6 +45,13 @@ impl RunningSum {
         }
         narrowed(self.sum)
     }
+
+    /// The sum of those parts that are numbers. `Overflow` exactly where it doesn't fit.
+    pub(crate) fn of_numbers(self) -> Result<i64, RunFault>
+        ensures { result ≡ exact self.sum }
+    {
+        narrowed(self.sum)
+    }
 }
 
 /// The number of a part, 0 for a fault.
