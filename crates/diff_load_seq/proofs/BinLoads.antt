@@ -1,5 +1,5 @@
 -- The loads of bins: how they change with an item, that they are small, and what they say of the rule.
-use Rattle.std.proofs.Common.{◌≡◌, ◌≢◌, ℕ, zero, suc, ◌+◌, ◌*◌, ◌-◌, ◌<◌, ◌≤◌, ◌^◌, ℤ, pos, neg_ℤ, ◌+ℤ◌, ◌-ℤ◌, ◌≤ℤ◌, Bool, true, false, cond, List, [], ◌∷◌, ◌++◌, length, get_or, set, map, refl, ap, sym, ◌∙◌, subst, arith, w64, ◌⊎◌, inl, inr, ◌&&◌, Ok, Err}
+use Rattle.std.proofs.Common.{◌≡◌, ℕ, zero, suc, ◌+◌, ◌*◌, ◌<◌, ◌^◌, ℤ, pos, neg_ℤ, ◌+ℤ◌, ◌-ℤ◌, ◌≤ℤ◌, Bool, true, false, cond, List, [], ◌∷◌, length, get_or, set, map, refl, ap, sym, ◌∙◌, subst, arith, w64, ◌⊎◌, inl, inr, ◌&&◌, Ok, Err}
 use Rattle.std.specs.Prelude.{FitsSigned, IsOk}
 use Rattle.std.proofs.lemmas.Bool.{both_ways}
 use Rattle.cbl_base.specs.declared.faults.RunFault.TheVariants.{Overflow}
@@ -11,14 +11,14 @@ use Rattle.std.proofs.lemmas.List.{length-set, get_or-set_same, get_or-set_other
 use Rattle.std.proofs.lemmas.List.FromFn.{map-range_with_len_more}
 use Rattle.std.proofs.lemmas.Simd.{map-map}
 use Rattle.cbl_base.specs.Arithmetic.{fits_64}
-use Rattle.cbl_base.specs.Totals.{total, total_by}
+use Rattle.cbl_base.specs.Totals.{total}
 use Rattle.cbl_base.proofs.TotalLemmas.{total-set, total-append}
 use Rattle.cbl_violations.specs.Fitting.{each_below, excess}
-use Rattle.cbl_violations.specs.Violations.MultiKnapsack.{size_in, load_of, load_at, overload_at, multi_knapsack_violations, excess_of as violation_of}
-use Rattle.cbl_violations.proofs.MultiKnapsackRun.{bin_fits, bin_part, bins_run, bin_loads_fit}
+use Rattle.cbl_violations.specs.Violations.MultiKnapsack.{size_in, load_of, overload_at, multi_knapsack_violations, excess_of as violation_of}
+use Rattle.cbl_violations.proofs.MultiKnapsackRun.{bin_fits, bins_run, bin_loads_fit}
 use Rattle.node_base.specs.declared.number_change.NumberChange.{NumberChange}
 use Rattle.node_base.specs.NumberChanges.{IsNumberChange, after_number_change}
-use Rattle.diff_load_seq.specs.Parts.{Part, joined, number_in}
+use Rattle.diff_load_seq.specs.Parts.{joined, number_in}
 use Rattle.diff_load_seq.specs.Levels.{flat, level_at, raised, excess_over, excess_of, excesses, IsRaisable}
 use Rattle.diff_load_seq.specs.Bins.{AllFit, load_of_first, bin_of_first, bins_of_first, bins_of, bin_raised, item_moved, IsLow, AreLow}
 use Rattle.diff_load_seq.specs.declared.levels.Level.{Level}

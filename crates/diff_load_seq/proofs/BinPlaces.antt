@@ -1,6 +1,6 @@
 -- The place of a bin, and what it is to raise the bin there.
-use Rattle.std.proofs.Common.{◌≡◌, ◌≢◌, ℕ, zero, suc, ◌+◌, ◌<◌, ◌≤◌, ℤ, pos, negsuc, ◌+ℤ◌, ◌-ℤ◌, Bool, true, false, cond, List, [], ◌∷◌, length, get_or, set, refl, ap, sym, ◌∙◌, subst, arith, ◌⊎◌, inl, inr}
-use Rattle.std.specs.Prelude.{Option, Some, None, nat_lt}
+use Rattle.std.proofs.Common.{◌≡◌, ◌≢◌, ℕ, zero, suc, ◌<◌, ◌≤◌, ℤ, pos, negsuc, ◌+ℤ◌, ◌-ℤ◌, Bool, true, false, cond, List, [], ◌∷◌, length, get_or, set, refl, ap, sym, ◌∙◌, subst, arith, ◌⊎◌, inl, inr}
+use Rattle.std.specs.Prelude.{Some, None, nat_lt}
 use Rattle.std.specs.Ordering.{int_eq}
 use Rattle.std.specs.Option.{unwrap_or}
 use Rattle.std.proofs.lemmas.Int.{ints}
@@ -12,7 +12,7 @@ use Rattle.cbl_violations.proofs.BoundLemmas.{bound_at}
 use Rattle.diff_load_seq.specs.Levels.{flat, level_at, raised}
 use Rattle.diff_load_seq.specs.Bins.{index_below, place_of_bin, bin_raised}
 use Rattle.diff_load_seq.specs.declared.levels.Level.{Level}
-use Rattle.diff_load_seq.proofs.PlaceLists.{at_place, is_by_place}
+use Rattle.diff_load_seq.proofs.PlaceLists.{is_by_place}
 
 -- a bin that has a place
 pub record HasPlace (low : ℤ) (bins : ℕ) (bin : ℤ) (k : ℕ) : Type 0 where

@@ -1,5 +1,5 @@
 -- A sum of parts as a loop over them gives it.
-use Rattle.std.proofs.Common.{◌≡◌, ℕ, zero, suc, ◌+◌, ◌-◌, ◌==◌, Bool, true, false, cond, List, [], ◌∷◌, refl, ap, sym, ◌∙◌, arith, map, Ok, Err}
+use Rattle.std.proofs.Common.{◌≡◌, ℕ, zero, suc, ◌+◌, ◌-◌, ◌==◌, Bool, true, false, cond, List, ◌∷◌, ap, sym, ◌∙◌, arith, map, Ok, Err}
 use Rattle.std.specs.Prelude.{ℤ, pos, ◌+ℤ◌}
 use Rattle.std.specs.List.{range_with_len}
 use Rattle.std.proofs.lemmas.Int.{ints}
@@ -8,7 +8,7 @@ use Rattle.std.proofs.lemmas.List.Sums.{sum_by-cons}
 use Rattle.cbl_base.specs.Arithmetic.{exact}
 use Rattle.cbl_base.specs.declared.faults.RunFault.TheVariants.{Overflow}
 use Rattle.cbl_violations.proofs.Runs.{and_then, run, guarded}
-use Rattle.diff_load_seq.specs.Parts.{Part, number_in, fault_in, sum_of, faults_in, joined}
+use Rattle.diff_load_seq.specs.Parts.{Part, fault_in, sum_of, faults_in, joined}
 
 -- the sum of the parts, added to a number
 abbrev pub joined_to : ℤ → List Part → Part

@@ -1,15 +1,14 @@
 -- The excesses of levels, and how they change with a level.
-use Rattle.std.proofs.Common.{◌≡◌, ℕ, ◌+◌, ◌<◌, ◌^◌, ℤ, pos, negsuc, ◌+ℤ◌, ◌-ℤ◌, Bool, true, false, cond, ◌&&◌, List, [], ◌∷◌, ◌++◌, length, get_or, set, map, refl, ap, sym, ◌∙◌, subst, arith, w64, Ok, Err, length-append}
+use Rattle.std.proofs.Common.{◌≡◌, ℕ, ◌+◌, ◌<◌, ◌^◌, ℤ, pos, negsuc, ◌-ℤ◌, Bool, true, false, cond, ◌&&◌, List, [], ◌∷◌, ◌++◌, length, get_or, set, refl, ap, sym, ◌∙◌, subst, arith, w64, Ok, Err}
 use Rattle.std.specs.Prelude.{FitsSigned}
-use Rattle.std.specs.Int.{int_max}
 use Rattle.std.proofs.lemmas.Int.{ints, clamps}
 use Rattle.std.proofs.lemmas.Bool.Decides.{nat_tests}
 use Rattle.std.proofs.lemmas.List.{map-set, length-map, map-append, get_or-map}
 use Rattle.cbl_base.specs.Arithmetic.{fits_64}
 use Rattle.cbl_base.specs.declared.faults.RunFault.TheVariants.{Overflow}
 use Rattle.cbl_violations.specs.Fitting.{excess}
-use Rattle.diff_load_seq.specs.Parts.{Part, number_in, IsSumOf, HasRoom, IsReplaced}
-use Rattle.diff_load_seq.specs.Levels.{excess_of, excesses, flat, level_at}
+use Rattle.diff_load_seq.specs.Parts.{number_in, IsSumOf, HasRoom, IsReplaced}
+use Rattle.diff_load_seq.specs.Levels.{excess_of, excesses, flat}
 use Rattle.diff_load_seq.specs.declared.running_sum.RunningSum.{RunningSum}
 use Rattle.diff_load_seq.specs.declared.levels.Level.{Level}
 use Rattle.diff_load_seq.proofs.PartLemmas.{Fits, has_room, sum_replaced, sum_pushed}

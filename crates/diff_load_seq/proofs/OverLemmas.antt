@@ -1,18 +1,16 @@
 -- Lists of levels by their places, and what a level that is kept over them shows.
-use Rattle.std.proofs.Common.{◌≡◌, ◌≢◌, ℕ, ◌+◌, ◌<◌, ◌≤◌, ℤ, Bool, true, false, cond, List, length, get_or, set, map, refl, ap, sym, ◌∙◌, subst, arith, Less, Greater, ◌⊎◌, inl, inr}
-use Rattle.std.specs.Prelude.{Option, Some, None, unwrap_or, nat_le, nat_lt}
-use Rattle.std.specs.List.{range_with_len}
+use Rattle.std.proofs.Common.{◌≡◌, ◌≢◌, ℕ, ◌+◌, ◌<◌, ◌≤◌, ℤ, true, false, cond, List, length, get_or, set, refl, ap, sym, ◌∙◌, subst, arith, Less, Greater, ◌⊎◌, inl, inr}
+use Rattle.std.specs.Prelude.{Some, None, unwrap_or}
 use Rattle.std.specs.Ordering.{nat_cmp, is_eq}
 use Rattle.std.specs.Cmp.{nat_cmp_is}
 use Rattle.std.specs.BTreeMap.{get, is_at}
 use Rattle.std.proofs.lemmas.Bool.Decides.{nat_tests}
-use Rattle.std.proofs.lemmas.List.{ext_get_or, length-set, get_or-set_same, get_or-set_other}
-use Rattle.std.proofs.lemmas.List.FromFn.{get_or-map-range_with_len, length-map-range_with_len}
+use Rattle.std.proofs.lemmas.List.FromFn.{get_or-map-range_with_len}
 use Rattle.diff_load_seq.specs.Levels.{flat, level_at, raised, is_between, raised_between}
 use Rattle.diff_load_seq.specs.LevelsOver.{level_over, shown}
 use Rattle.diff_load_seq.specs.declared.levels.Level.{Level}
 use Rattle.diff_load_seq.specs.declared.levels_over.LevelsOver.{LevelsOver}
-use Rattle.diff_load_seq.proofs.PlaceLists.{by_place, at_place, length_by_place, is_by_place, set_by_place}
+use Rattle.diff_load_seq.proofs.PlaceLists.{at_place, length_by_place, is_by_place, set_by_place}
 
 -- ---- levels that are kept over others
 pub nothing_kept : (levels : List Level) (over : LevelsOver) → ((k : ℕ) → get nat_cmp over.raised k ≡ None) → shown levels over ≡ levels

@@ -1,13 +1,13 @@
 -- A running sum of parts has room for one more, and is that of the parts once one was added or replaced.
-use Rattle.std.proofs.Common.{◌≡◌, ℕ, zero, suc, ◌+◌, ◌*◌, ◌<◌, ◌≤◌, ◌^◌, ℤ, pos, neg_ℤ, ◌+ℤ◌, ◌-ℤ◌, ◌≤ℤ◌, List, [], ◌∷◌, ◌++◌, length, get_or, set, map, refl, ap, sym, ◌∙◌, subst, arith, w64, length-append, cond, Err, ◌==◌}
-use Rattle.std.specs.Prelude.{FitsSigned, All, Ok, sum_by}
+use Rattle.std.proofs.Common.{◌≡◌, ℕ, ◌+◌, ◌*◌, ◌<◌, ◌≤◌, ◌^◌, ℤ, pos, neg_ℤ, ◌+ℤ◌, ◌-ℤ◌, ◌≤ℤ◌, List, [], ◌∷◌, ◌++◌, length, get_or, set, map, ap, ◌∙◌, arith, w64, length-append, cond, Err, ◌==◌}
+use Rattle.std.specs.Prelude.{FitsSigned, All, Ok}
 use Rattle.std.proofs.lemmas.Int.{ints}
 use Rattle.std.proofs.lemmas.List.{map-set, length-map, length-set, get_or-map}
 use Rattle.std.proofs.lemmas.List.Elements.{All-nil, All-cons, All-head, All-tail, All-set, All-append}
 use Rattle.std.proofs.lemmas.List.Sums.{sum_by-set, sum_by-append, count_by-le-length}
 use Rattle.cbl_base.specs.Arithmetic.{exact}
 use Rattle.cbl_base.specs.declared.faults.RunFault.TheVariants.{Overflow}
-use Rattle.cbl_base.specs.Totals.{total, total_by}
+use Rattle.cbl_base.specs.Totals.{total}
 use Rattle.cbl_base.proofs.TotalLemmas.{total-set, total_by-append}
 use Rattle.diff_load_seq.specs.Parts.{Part, number_in, is_fault, fault_in, sum_of, faults_in, joined, joined_of, IsSumOf, HasRoom, IsReplaced}
 use Rattle.diff_load_seq.specs.declared.running_sum.RunningSum.{RunningSum}

@@ -1,15 +1,14 @@
 -- The products of a knapsack: their sum is its load, and a change of a number is one of its product.
-use Rattle.std.proofs.Common.{◌≡◌, ◌≢◌, ℕ, ◌+◌, ◌-◌, ◌<◌, ◌^◌, Bool, true, false, cond, List, [], ◌∷◌, ◌++◌, length, get_or, set, map, refl, ap, sym, ◌∙◌, subst, arith, Ok, Err, w64}
-use Rattle.std.specs.Prelude.{ℤ, pos, ◌*ℤ◌, ◌-ℤ◌, FitsSigned, Some, slice_get}
+use Rattle.std.proofs.Common.{◌≡◌, ℕ, ◌+◌, ◌-◌, ◌<◌, ◌^◌, Bool, true, false, cond, List, length, get_or, set, map, refl, ap, sym, ◌∙◌, subst, arith, Ok, Err, w64}
+use Rattle.std.specs.Prelude.{ℤ, pos, ◌*ℤ◌, ◌-ℤ◌, FitsSigned}
 use Rattle.std.specs.List.{range_with_len}
 use Rattle.std.proofs.lemmas.Int.{ints}
 use Rattle.std.proofs.lemmas.List.{length-set, get_or-set_same, get_or-set_other}
 use Rattle.std.proofs.lemmas.List.FromFn.{map-range_with_len_more}
 use Rattle.std.proofs.lemmas.Option.{slice_get_within, get_or_from_slice_get}
 use Rattle.cbl_base.specs.Arithmetic.{exact, fits_64}
-use Rattle.cbl_base.specs.Totals.{total}
 use Rattle.cbl_base.specs.declared.faults.RunFault.TheVariants.{Overflow}
-use Rattle.cbl_violations.specs.Fitting.{each_below, excess}
+use Rattle.cbl_violations.specs.Fitting.{excess}
 use Rattle.cbl_violations.specs.Violations.Knapsack.{part_of_load, knapsack_violations}
 use Rattle.cbl_violations.proofs.Runs.{run, fitting, where_fitting}
 use Rattle.cbl_violations.proofs.KnapsackRun.{knapsack_fails, knapsack_loaded}

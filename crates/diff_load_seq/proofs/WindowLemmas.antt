@@ -1,11 +1,10 @@
 -- The counts of windows: as the difference of two counts from the start, and how they change.
-use Rattle.std.proofs.Common.{◌≡◌, ◌≢◌, ℕ, zero, suc, ◌+◌, ◌-◌, ◌<◌, ◌≤◌, ◌^◌, ℤ, pos, neg_ℤ, ◌+ℤ◌, ◌-ℤ◌, ◌≤ℤ◌, Bool, true, false, cond, ◌&&◌, List, [], ◌∷◌, length, get_or, set, map, take, drop, refl, ap, sym, ◌∙◌, subst, arith, Ok, Err, min, length-drop, ◌⊎◌, inl, inr}
-use Rattle.std.specs.Prelude.{slice_range, sum_by, IsOk}
+use Rattle.std.proofs.Common.{◌≡◌, ℕ, zero, suc, ◌+◌, ◌-◌, ◌<◌, ◌≤◌, ◌^◌, ℤ, pos, ◌+ℤ◌, Bool, true, false, cond, ◌&&◌, List, [], ◌∷◌, length, get_or, set, take, drop, refl, ap, sym, ◌∙◌, subst, arith, Ok, Err, length-drop, ◌⊎◌, inl, inr}
+use Rattle.std.specs.Prelude.{slice_range}
 use Rattle.std.specs.List.{range_with_len}
 use Rattle.std.proofs.lemmas.Int.{ints}
-use Rattle.std.proofs.lemmas.Bool.{cases_Bool}
 use Rattle.std.proofs.lemmas.Bool.Decides.{nat_tests}
-use Rattle.std.proofs.lemmas.List.{length-set, length-take-le, get_or-take, drop-take, length-take}
+use Rattle.std.proofs.lemmas.List.{length-set, get_or-take, drop-take, length-take}
 use Rattle.std.proofs.lemmas.List.Sums.{sum_by-set, sum_by-take-drop, count_by-le-length}
 use Rattle.std.proofs.lemmas.Simd.{map-map}
 use Rattle.cbl_base.specs.Arithmetic.{fits_64}
@@ -17,7 +16,7 @@ use Rattle.cbl_violations.proofs.Runs.{fitting, start_run}
 use Rattle.node_base.specs.declared.number_change.NumberChange.{NumberChange}
 use Rattle.node_base.specs.NumberChanges.{IsNumberChange, after_number_change}
 use Rattle.std.proofs.lemmas.Option.{get_or_from_slice_get}
-use Rattle.diff_load_seq.specs.Parts.{Part, joined}
+use Rattle.diff_load_seq.specs.Parts.{joined}
 use Rattle.diff_load_seq.specs.Levels.{flat, level_at, raised, is_between, raised_between, excess_of, excesses}
 use Rattle.diff_load_seq.specs.Bins.{IsLow, AreLow}
 use Rattle.diff_load_seq.specs.Windows.{window_of, windows_of, one_in, gain_of, first_holding, last_holding, number_moved}

@@ -1,9 +1,8 @@
 -- The sum over the windows that hold a place, as a sum over places in a row.
-use Rattle.std.proofs.Common.{◌≡◌, ℕ, zero, suc, ◌+◌, ◌-◌, ◌<◌, ◌≤◌, ◌^◌, ℤ, pos, ◌+ℤ◌, Bool, true, false, cond, List, [], ◌∷◌, ◌++◌, length, map, filter, refl, ap, sym, ◌∙◌, subst, arith, Ok, Err, min}
+use Rattle.std.proofs.Common.{◌≡◌, ℕ, zero, suc, ◌+◌, ◌-◌, ◌<◌, ◌≤◌, ◌^◌, ℤ, pos, ◌+ℤ◌, Bool, true, false, cond, List, ◌∷◌, ◌++◌, length, filter, refl, ap, sym, ◌∙◌, arith, Ok, Err}
 use Rattle.std.specs.Prelude.{IsOk}
 use Rattle.std.specs.List.{range_with_len}
 use Rattle.std.proofs.lemmas.Int.{ints}
-use Rattle.std.proofs.lemmas.Bool.{both_ways}
 use Rattle.std.proofs.lemmas.Bool.Decides.{nat_tests}
 use Rattle.std.proofs.lemmas.List.Elements.{filter-append}
 use Rattle.std.proofs.lemmas.Simd.{map-map}
@@ -17,8 +16,8 @@ use Rattle.cbl_violations.proofs.Runs.{fitting}
 use Rattle.cbl_violations.proofs.SequenceRun.{sum_where, surplus_fits}
 use Rattle.diff_load_seq.specs.Parts.{number_in, sum_of}
 use Rattle.diff_load_seq.specs.Levels.{level_at, is_between, excess_of, excesses_between}
-use Rattle.diff_load_seq.specs.Windows.{window_of, windows_of, first_holding, last_holding}
-use Rattle.diff_load_seq.proofs.WindowLemmas.{window_at, window_excess, windows_length, place_held}
+use Rattle.diff_load_seq.specs.Windows.{windows_of, first_holding, last_holding}
+use Rattle.diff_load_seq.proofs.WindowLemmas.{window_at, window_excess}
 
 -- ---- sums over places in a row
 total_same : (f g : ℕ → ℤ) (a m : ℕ) → ((k : ℕ) → a ≤ k → k < a + m → f k ≡ g k) → total_by f (range_with_len a m) ≡ total_by g (range_with_len a m)

@@ -1,9 +1,7 @@
 -- A level has a height and a limit, and its excess is how far the height is above the limit. The height
 -- must fit 64 bits, and so must the difference. A rule of this project.
-use Rattle.std.specs.Prelude.{ℕ, ℤ, pos, neg_ℤ, ◌+ℤ◌, ◌-ℤ◌, ◌≤ℤ◌, ◌^◌, ◌+◌, Bool, ◌&&◌, List, [], ◌∷◌, length, map, nat_le, nat_lt, unwrap_or, if◌then◌else◌, slice_index_or}
+use Rattle.std.specs.Prelude.{ℕ, ℤ, pos, neg_ℤ, ◌+ℤ◌, ◌-ℤ◌, ◌≤ℤ◌, ◌^◌, ◌+◌, Bool, ◌&&◌, List, [], ◌∷◌, length, map, nat_le, nat_lt, if◌then◌else◌, slice_index_or}
 use Rattle.std.specs.List.{range_with_len}
-use Rattle.std.specs.Ordering.{nat_cmp}
-use Rattle.std.specs.BTreeMap.{BTreeMap, get}
 use Rattle.cbl_violations.specs.Fitting.{where_all_fit, excess}
 use Rattle.diff_load_seq.specs.Parts.{Part, IsSumOf}
 use Rattle.diff_load_seq.specs.declared.levels.Level.{Level}

@@ -18,3 +18,6 @@ mod windows;
 pub use knapsack::Knapsack;
 pub use multi_knapsack::MultiKnapsack;
 pub use sequence::Sequence;
+
+#[cfg(test)]
+mod tests;

@@ -1,4 +1,4 @@
-use Rattle.std.proofs.Common.{◌∙◌, ◌∷◌, [], ◌++◌, ℤ, pos, List, ap, sym, map, get_or, take, rules, w64}
+use Rattle.std.proofs.Common.{◌∙◌, ◌∷◌, [], ◌++◌, ℤ, pos, ap, sym, map, get_or, take, rules, w64}
 use Rattle.std.specs.Prelude.{FitsSigned}
 use Rattle.std.proofs.lemmas.Int.{to_z-of_z}
 use Rattle.std.proofs.lemmas.List.{take_more, map-append}

@@ -1,9 +1,8 @@
-use Rattle.std.proofs.Common.{◌≡◌, ◌<◌, ◌^◌, ◌∙◌, ℤ, pos, neg_ℤ, ◌≤ℤ◌, ap, sym, subst, to_z, of_z, w64, length, get_or, rules, arith}
+use Rattle.std.proofs.Common.{◌≡◌, ◌<◌, ◌^◌, ◌∙◌, pos, neg_ℤ, ◌≤ℤ◌, ap, to_z, of_z, w64, length, get_or, rules, arith}
 use Rattle.std.specs.Prelude.{FitsSigned}
 use Rattle.std.specs.Int.{w128}
 use Rattle.std.proofs.lemmas.Int.{ints, to_z-of_z}
-use Rattle.diff_load_seq.specs.Levels.{level_at, IsRaisable}
-use Rattle.diff_load_seq.specs.Bins.{bin_raised, bins_of_first}
+use Rattle.diff_load_seq.specs.Bins.{bin_raised}
 use Rattle.diff_load_seq.proofs.BinLoads.{all_fit_more, bins_raisable, bins_more, bins_emptied}
 use Rattle.diff_load_seq.proofs.bins.filled_bins.Goals as goal
 

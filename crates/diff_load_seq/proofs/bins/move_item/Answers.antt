@@ -1,4 +1,4 @@
-use Rattle.std.proofs.Common.{rules, arith, w64}
+use Rattle.std.proofs.Common.{arith, w64}
 use Rattle.std.specs.Prelude.{FitsSigned}
 use Rattle.std.proofs.lemmas.Int.{ints}
 use Rattle.diff_load_seq.proofs.BinLoads.{raised_raisable}

@@ -1,4 +1,4 @@
-use Rattle.std.proofs.Common.{◌<◌, length, sym, ap, ◌∙◌, subst, rules, arith, w64}
+use Rattle.std.proofs.Common.{◌<◌, length, subst, arith, w64}
 use Rattle.std.specs.Prelude.{FitsSigned}
 use Rattle.std.proofs.lemmas.Int.{ints}
 use Rattle.diff_load_seq.specs.LevelsOver.{shown}

@@ -1,10 +1,9 @@
 use Rattle.std.proofs.Common.{◌≡◌, ◌∙◌, ap, sym, subst, to_z, of_z, w64, length, set, arith}
-use Rattle.std.specs.Prelude.{ℤ, Some, None}
 use Rattle.std.specs.Int.{w128}
 use Rattle.std.proofs.lemmas.Int.{to_z-of_z}
 use Rattle.diff_load_seq.specs.Levels.{level_at, raised, IsRaisable}
-use Rattle.diff_load_seq.specs.Bins.{place_of_bin, bin_raised}
-use Rattle.diff_load_seq.proofs.BinPlaces.{HasPlace, bin_found, raised_found, raised_lost}
+use Rattle.diff_load_seq.specs.Bins.{place_of_bin}
+use Rattle.diff_load_seq.proofs.BinPlaces.{bin_found, raised_found, raised_lost}
 use Rattle.diff_load_seq.proofs.bins.raise_bin.Goals as goal
 use Rattle.diff_load_seq.proofs.bins.raise_bin.Goals.{After-place_of_bin}
 

@@ -1,7 +1,6 @@
-use Rattle.std.proofs.Common.{ℤ, pos, get_or, subst, sym, rules, arith, w64, length, ◌<◌, ◌+◌, ◌^◌}
+use Rattle.std.proofs.Common.{pos, get_or, rules, arith, w64, length, ◌<◌, ◌^◌}
 use Rattle.std.specs.Prelude.{FitsSigned}
 use Rattle.std.proofs.lemmas.Int.{to_z-of_z}
-use Rattle.diff_load_seq.specs.Parts.{IsReplaced}
 use Rattle.diff_load_seq.proofs.PartLemmas.{has_room_more}
 use Rattle.diff_load_seq.proofs.ProductLemmas.{first_products, load_more}
 use Rattle.diff_load_seq.proofs.knapsack.load_of.Goals as goal

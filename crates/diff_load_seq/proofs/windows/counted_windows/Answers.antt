@@ -1,11 +1,10 @@
-use Rattle.std.proofs.Common.{◌≡◌, ℕ, ◌+◌, ◌<◌, ◌≤◌, ◌^◌, ◌∙◌, ◌++◌, ◌∷◌, [], ℤ, pos, ◌-ℤ◌, List, ap, sym, take, length, arith, rules, to_z, of_z, w64}
+use Rattle.std.proofs.Common.{◌≡◌, ℕ, ◌+◌, ◌<◌, ◌^◌, ◌∙◌, ◌++◌, ◌∷◌, [], ℤ, pos, ◌-ℤ◌, List, ap, sym, length, arith, rules, to_z, of_z, w64}
 use Rattle.std.specs.Prelude.{slice_range}
 use Rattle.std.specs.Int.{w128}
 use Rattle.std.proofs.lemmas.Int.{ints}
 use Rattle.std.proofs.lemmas.List.FromFn.{map-range_with_len_more}
 use Rattle.cbl_violations.specs.Violations.Sequence.{count_in}
 use Rattle.diff_load_seq.specs.Windows.{window_of}
-use Rattle.diff_load_seq.specs.declared.levels.Level.{Level}
 use Rattle.diff_load_seq.proofs.WindowLemmas.{before, before_few, window_count}
 use Rattle.diff_load_seq.proofs.windows.counted_windows.Goals as goal
 

@@ -1,4 +1,4 @@
-use Rattle.std.proofs.Common.{◌≡◌, ◌∙◌, ap, sym, length, pos, arith, rules}
+use Rattle.std.proofs.Common.{◌≡◌, ◌∙◌, ap, sym, length, pos, arith}
 use Rattle.std.proofs.lemmas.Int.{ints}
 use Rattle.diff_load_seq.specs.Levels.{raised_between}
 use Rattle.diff_load_seq.specs.Windows.{gain_of, first_holding, last_holding}

@@ -1,4 +1,4 @@
-use Rattle.std.proofs.Common.{◌∙◌, ap, sym, rules, to_z, of_z, pos, w64, get_or, length, ◌<◌, arith, ◌*ℤ◌}
+use Rattle.std.proofs.Common.{◌∙◌, ap, rules, to_z, of_z, pos, w64, get_or, ◌*ℤ◌}
 use Rattle.std.specs.Prelude.{FitsSigned}
 use Rattle.std.specs.Int.{int_max, int_min}
 use Rattle.std.specs.Result.{result_unwrap_or}

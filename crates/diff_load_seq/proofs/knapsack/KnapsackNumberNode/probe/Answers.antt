@@ -1,11 +1,9 @@
-use Rattle.std.proofs.Common.{◌≡◌, ◌∙◌, ap, subst, arith, pos, take, get_or}
-use Rattle.std.specs.Prelude.{Result, ℤ}
+use Rattle.std.proofs.Common.{◌∙◌, ap, subst, arith, pos, take, get_or}
 use Rattle.std.proofs.lemmas.List.{take_all}
 use Rattle.node_base.specs.declared.number_change.NumberChange.{NumberChange}
 use Rattle.node_base.specs.NumberChanges.{after_number_changes, IsNumberAnswer}
 use Rattle.node_base.proofs.ChangeLemmas.{number_now, number_next, length-after_numbers}
 use Rattle.cbl_violations.specs.Violations.Knapsack.{knapsack_violations}
-use Rattle.diff_load_seq.specs.Parts.{IsSumOf}
 use Rattle.diff_load_seq.specs.Products.{above_capacity, products}
 use Rattle.diff_load_seq.proofs.PartLemmas.{joined_kept}
 use Rattle.diff_load_seq.proofs.ProductLemmas.{change_within, load_room, load_moved, above_is}

@@ -1,5 +1,4 @@
 use Rattle.std.proofs.Common.{◌∙◌, ap}
-use Rattle.diff_load_seq.specs.Parts.{joined_of, joined}
 use Rattle.diff_load_seq.specs.Products.{above_capacity, products}
 use Rattle.diff_load_seq.proofs.PartLemmas.{joined_kept}
 use Rattle.diff_load_seq.proofs.ProductLemmas.{above_is}

@@ -1,6 +1,5 @@
-use Rattle.std.proofs.Common.{arith, length, ap, ◌∙◌, subst, sym, length-append, ◌<◌, ◌+◌, ◌^◌, ◌∷◌, [], rules}
-use Rattle.diff_load_seq.specs.Parts.{IsSumOf, IsReplaced, HasRoom}
-use Rattle.diff_load_seq.specs.Levels.{excesses, excess_of}
+use Rattle.std.proofs.Common.{arith, length, ap, length-append, ◌<◌, ◌+◌, ◌^◌, ◌∷◌, [], rules}
+use Rattle.diff_load_seq.specs.Levels.{excesses}
 use Rattle.diff_load_seq.proofs.PartLemmas.{has_room_more}
 use Rattle.diff_load_seq.proofs.LevelLemmas.{levels_pushed}
 use Rattle.diff_load_seq.proofs.levels.Levels.push.Goals as goal

@@ -1,6 +1,5 @@
-use Rattle.std.proofs.Common.{◌∙◌, ap, sym, subst}
-use Rattle.diff_load_seq.specs.Parts.{HasRoom, IsReplaced}
-use Rattle.diff_load_seq.specs.Levels.{excess_of, level_at}
+use Rattle.std.proofs.Common.{sym, subst}
+use Rattle.diff_load_seq.specs.Parts.{HasRoom}
 use Rattle.diff_load_seq.proofs.LevelLemmas.{room_at, levels_replaced}
 use Rattle.diff_load_seq.proofs.levels.Levels.raise.Goals as goal
 

@@ -1,10 +1,9 @@
-use Rattle.std.proofs.Common.{◌≡◌, ap, sym, subst}
+use Rattle.std.proofs.Common.{ap, sym, subst}
 use Rattle.std.specs.Map.{lookup}
 use Rattle.std.specs.Ordering.{nat_cmp}
 use Rattle.std.specs.BTreeMap.{is_at}
 use Rattle.diff_load_seq.specs.Parts.{IsSumOf}
 use Rattle.diff_load_seq.specs.Levels.{excesses}
-use Rattle.diff_load_seq.specs.LevelsOver.{shown}
 use Rattle.diff_load_seq.proofs.OverLemmas.{nothing_kept}
 use Rattle.diff_load_seq.proofs.levels_over.LevelsOver.new.Goals as goal
 

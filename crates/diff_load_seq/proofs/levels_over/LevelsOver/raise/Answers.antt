@@ -1,9 +1,9 @@
-use Rattle.std.proofs.Common.{◌≡◌, ◌<◌, length, set, ap, sym, ◌∙◌, subst}
+use Rattle.std.proofs.Common.{◌<◌, set, ap, sym, ◌∙◌, subst}
 use Rattle.std.specs.Int.{w128}
 use Rattle.std.proofs.lemmas.Int.{to_z-of_z}
-use Rattle.diff_load_seq.specs.Parts.{IsSumOf, HasRoom, IsReplaced}
-use Rattle.diff_load_seq.specs.Levels.{excesses, excess_of, raised}
-use Rattle.diff_load_seq.specs.LevelsOver.{shown, level_over}
+use Rattle.diff_load_seq.specs.Parts.{IsSumOf, HasRoom}
+use Rattle.diff_load_seq.specs.Levels.{excesses, raised}
+use Rattle.diff_load_seq.specs.LevelsOver.{shown}
 use Rattle.diff_load_seq.proofs.LevelLemmas.{room_at, levels_replaced}
 use Rattle.diff_load_seq.proofs.OverLemmas.{one_kept, length_shown, shown_read}
 use Rattle.diff_load_seq.proofs.levels_over.LevelsOver.raise.Goals as goal

@@ -1,4 +1,4 @@
-use Rattle.std.proofs.Common.{◌≡◌, ◌<◌, ℤ, length, sym, subst, ap, ◌∙◌, arith, to_z, of_z, set}
+use Rattle.std.proofs.Common.{◌<◌, length, sym, subst, ap, ◌∙◌, arith, to_z, of_z, set}
 use Rattle.std.specs.Int.{w128}
 use Rattle.std.proofs.lemmas.Int.{to_z-of_z}
 use Rattle.diff_load_seq.specs.Levels.{IsRaisable, level_at, raised, flat}

@@ -1,12 +1,11 @@
-use Rattle.std.proofs.Common.{◌≡◌, ◌∙◌, ap, sym, subst, arith, rules, ℤ, pos, get_or, length, to_z, of_z, w64}
+use Rattle.std.proofs.Common.{◌≡◌, ◌∙◌, ap, sym, arith, rules, pos, get_or, length, to_z, of_z, w64}
 use Rattle.std.specs.Prelude.{FitsSigned}
 use Rattle.std.proofs.lemmas.Int.{to_z-of_z}
 use Rattle.std.proofs.lemmas.List.{get_or_default}
-use Rattle.cbl_violations.specs.Bounds.{bound_of}
 use Rattle.cbl_violations.specs.Violations.MultiKnapsack.{load_of, excess_of, multi_knapsack_violation_at}
 use Rattle.diff_load_seq.specs.Parts.{number_in}
 use Rattle.diff_load_seq.specs.Levels.{level_at, excess_of as excess_of_level}
-use Rattle.diff_load_seq.specs.Bins.{bins_of, place_of_bin}
+use Rattle.diff_load_seq.specs.Bins.{place_of_bin}
 use Rattle.diff_load_seq.proofs.BinPlaces.{bin_found, bound_lost}
 use Rattle.diff_load_seq.proofs.BinLoads.{bins_length, bin_violation}
 use Rattle.diff_load_seq.proofs.multi_knapsack.MultiKnapsackNumberNode.place_violation.Goals as goal

@@ -1,4 +1,4 @@
-use Rattle.std.proofs.Common.{◌≡◌, ◌<◌, ◌^◌, ◌∙◌, ap, sym, subst, arith, rules, ℤ, pos, take, get_or, length, to_z, of_z, w64}
+use Rattle.std.proofs.Common.{◌<◌, ◌^◌, ◌∙◌, ap, sym, subst, arith, rules, pos, take, get_or, length, to_z, of_z, w64}
 use Rattle.std.specs.Prelude.{FitsSigned}
 use Rattle.std.proofs.lemmas.Int.{to_z-of_z}
 use Rattle.std.proofs.lemmas.List.{take_all}
@@ -9,7 +9,7 @@ use Rattle.cbl_violations.specs.Violations.MultiKnapsack.{multi_knapsack_violati
 use Rattle.diff_load_seq.specs.Parts.{joined}
 use Rattle.diff_load_seq.specs.Levels.{excesses}
 use Rattle.diff_load_seq.specs.LevelsOver.{shown}
-use Rattle.diff_load_seq.specs.Bins.{bins_of, item_moved, AreLow}
+use Rattle.diff_load_seq.specs.Bins.{item_moved, AreLow}
 use Rattle.diff_load_seq.proofs.ProductLemmas.{change_within}
 use Rattle.diff_load_seq.proofs.BinLoads.{bins_low, bins_moved, bins_value}
 use Rattle.diff_load_seq.proofs.multi_knapsack.MultiKnapsackNumberNode.probe.Goals as goal

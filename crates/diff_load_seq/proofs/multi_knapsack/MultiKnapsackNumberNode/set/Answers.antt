@@ -1,4 +1,4 @@
-use Rattle.std.proofs.Common.{◌≡◌, ◌<◌, ◌^◌, ◌∙◌, ℤ, pos, ap, sym, subst, get_or, length, to_z, of_z, rules, arith, w64}
+use Rattle.std.proofs.Common.{◌<◌, ◌^◌, ◌∙◌, pos, ap, sym, subst, get_or, length, to_z, of_z, rules, arith, w64}
 use Rattle.std.specs.Prelude.{FitsSigned}
 use Rattle.std.proofs.lemmas.Int.{to_z-of_z}
 use Rattle.std.proofs.lemmas.List.{length-set}

@@ -1,4 +1,4 @@
-use Rattle.std.proofs.Common.{◌≡◌, ℕ, ◌<◌, ◌≤◌, ◌-◌, ◌^◌, ◌∙◌, ap, sym, subst, arith, rules, ℤ, pos, cond, get_or, length, to_z, of_z, w64, Bool}
+use Rattle.std.proofs.Common.{◌≡◌, ◌<◌, ◌-◌, ◌^◌, ◌∙◌, ap, sym, arith, rules, pos, cond, get_or, length, w64}
 use Rattle.std.specs.Prelude.{FitsSigned}
 use Rattle.std.specs.List.{range_with_len}
 use Rattle.std.proofs.lemmas.Int.{to_z-of_z}
@@ -12,7 +12,7 @@ use Rattle.cbl_violations.proofs.SequenceRun.{sum_where, sum_where_fits}
 use Rattle.diff_load_seq.specs.Parts.{sum_of}
 use Rattle.diff_load_seq.specs.Levels.{excesses_between}
 use Rattle.diff_load_seq.specs.Windows.{windows_of, first_holding, last_holding}
-use Rattle.diff_load_seq.proofs.WindowLemmas.{windows_length, place_held}
+use Rattle.diff_load_seq.proofs.WindowLemmas.{windows_length}
 use Rattle.diff_load_seq.proofs.WindowSums.{held_sum}
 use Rattle.diff_load_seq.proofs.sequence.SequenceNumberNode.place_violation.Goals as goal
 use Rattle.diff_load_seq.proofs.sequence.SequenceNumberNode.place_violation.Goals.{After-contains, After-windows_holding-holding}

@@ -1,4 +1,4 @@
-use Rattle.std.proofs.Common.{◌≡◌, ◌<◌, ◌≤◌, ◌^◌, ◌∙◌, ap, sym, subst, arith, rules, ℤ, pos, take, get_or, length, to_z, of_z, w64}
+use Rattle.std.proofs.Common.{◌≡◌, ◌<◌, ◌≤◌, ◌^◌, ◌∙◌, ap, sym, subst, arith, rules, pos, take, get_or, length, w64}
 use Rattle.std.specs.Prelude.{FitsSigned}
 use Rattle.std.proofs.lemmas.Int.{to_z-of_z}
 use Rattle.std.proofs.lemmas.List.{take_all}
@@ -10,7 +10,7 @@ use Rattle.diff_load_seq.specs.Parts.{joined}
 use Rattle.diff_load_seq.specs.Levels.{excesses}
 use Rattle.diff_load_seq.specs.LevelsOver.{shown}
 use Rattle.diff_load_seq.specs.Bins.{AreLow}
-use Rattle.diff_load_seq.specs.Windows.{windows_of, number_moved, first_holding}
+use Rattle.diff_load_seq.specs.Windows.{number_moved, first_holding}
 use Rattle.diff_load_seq.proofs.ProductLemmas.{change_within}
 use Rattle.diff_load_seq.proofs.OverLemmas.{length_shown}
 use Rattle.diff_load_seq.proofs.WindowLemmas.{windows_low, place_held, windows_moved, windows_value}
