@@ -1,0 +1,10 @@
+pub mod BinLoads
+pub mod BinPlaces
+pub mod JoinLemmas
+pub mod LevelLemmas
+pub mod OverLemmas
+pub mod PartLemmas
+pub mod PlaceLists
+pub mod ProductLemmas
+pub mod WindowLemmas
+pub mod WindowSums
