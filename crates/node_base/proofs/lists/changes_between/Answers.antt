@@ -16,16 +16,16 @@ loop-place-preserved c =
     let test : c.are_equal.result ≡ int_eq (get_or c.args.to.now i (pos 0)) (get_or c.args.from.now i (pos 0)) = simp (to_z-of_z w64 (get_or c.args.from.now i (pos 0)) old, to_z-of_z w64 (get_or c.args.to.now i (pos 0)) new) at c.are_equal.ensures in
     elim c.if-not-are_equal.branch [
       | then-not-are_equal+in_ok-push w ↦
-         let differs : int_eq (get_or c.args.to.now i (pos 0)) (get_or c.args.from.now i (pos 0)) ≡ false = sym test ∙ w.if-not-are_equal.true in
-         let pushed : w.push.new.self.items ≡ c.loop-place.changes.items ++ IntChange i (get_or c.args.from.now i (pos 0)) (get_or c.args.to.now i (pos 0)) ∷ []
-         = simp (to_z-of_z w64 (get_or c.args.from.now i (pos 0)) old, to_z-of_z w64 (get_or c.args.to.now i (pos 0)) new) at w.in_ok-push.ensures.items in
-         ap (λ v. v.items ++ changes_from (i + 1) (drop (i + 1) c.args.from.now) (drop (i + 1) c.args.to.now)) w.changes-is
-         ∙ pushed_on c.loop-place.changes.items w.push.new.self.items _ (changes_from (i + 1) (drop (i + 1) c.args.from.now) (drop (i + 1) c.args.to.now)) pushed
-         ∙ ap (λ t. c.loop-place.changes.items ++ t) (sym (step_differs c.args.from.now c.args.to.now i (pos 0) c.loop-place-test.true c.requires.lengths differs)) ∙ c.loop-place.invariant
+          let differs : int_eq (get_or c.args.to.now i (pos 0)) (get_or c.args.from.now i (pos 0)) ≡ false = sym test ∙ w.if-not-are_equal.true in
+          let pushed : w.push.new.self.items ≡ c.loop-place.changes.items ++ IntChange i (get_or c.args.from.now i (pos 0)) (get_or c.args.to.now i (pos 0)) ∷ []
+          = simp (to_z-of_z w64 (get_or c.args.from.now i (pos 0)) old, to_z-of_z w64 (get_or c.args.to.now i (pos 0)) new) at w.in_ok-push.ensures.items in
+          ap (λ v. v.items ++ changes_from (i + 1) (drop (i + 1) c.args.from.now) (drop (i + 1) c.args.to.now)) w.changes-is
+          ∙ pushed_on c.loop-place.changes.items w.push.new.self.items _ (changes_from (i + 1) (drop (i + 1) c.args.from.now) (drop (i + 1) c.args.to.now)) pushed
+          ∙ ap (λ t. c.loop-place.changes.items ++ t) (sym (step_differs c.args.from.now c.args.to.now i (pos 0) c.loop-place-test.true c.requires.lengths differs)) ∙ c.loop-place.invariant
       | else-not-are_equal w ↦
-         let same : int_eq (get_or c.args.to.now i (pos 0)) (get_or c.args.from.now i (pos 0)) ≡ true = sym test ∙ w.if-not-are_equal.false in
-         ap (λ v. v.items ++ changes_from (i + 1) (drop (i + 1) c.args.from.now) (drop (i + 1) c.args.to.now)) w.changes-is
-         ∙ ap (λ t. c.loop-place.changes.items ++ t) (sym (step_same c.args.from.now c.args.to.now i (pos 0) c.loop-place-test.true c.requires.lengths same)) ∙ c.loop-place.invariant
+          let same : int_eq (get_or c.args.to.now i (pos 0)) (get_or c.args.from.now i (pos 0)) ≡ true = sym test ∙ w.if-not-are_equal.false in
+          ap (λ v. v.items ++ changes_from (i + 1) (drop (i + 1) c.args.from.now) (drop (i + 1) c.args.to.now)) w.changes-is
+          ∙ ap (λ t. c.loop-place.changes.items ++ t) (sym (step_same c.args.from.now c.args.to.now i (pos 0) c.loop-place-test.true c.requires.lengths same)) ∙ c.loop-place.invariant
     ]
 
 pub returns-clause-changes : goal.returns-clause-changes
