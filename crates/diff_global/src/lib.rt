@@ -9,6 +9,8 @@
 
 mod all_different;
 mod cardinality;
+#[cfg(test)]
+mod tests;
 
 pub use all_different::AllDifferent;
 pub use cardinality::{Cardinality, Demand};

@@ -1,3 +1,4 @@
 pub mod ChangeLemmas
+pub mod ListChanges
 pub mod TallyLemmas
 pub mod ValueSums

@@ -9,12 +9,14 @@
 #![tactic(auto)]
 
 mod counts;
+mod lists;
 mod number_change;
 mod number_node;
 mod over_numbers;
 mod overlay;
 mod tally;
 
+pub use lists::{changes_between, inputs_of};
 pub use number_change::NumberChange;
 pub use number_node::{NumberNode, probe_answer};
 pub use over_numbers::OverNumbers;
