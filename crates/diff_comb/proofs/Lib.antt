@@ -1,2 +1,3 @@
+pub mod Lowest
 pub mod ProductLemmas
 pub mod Sides
