@@ -4,3 +4,8 @@ pub mod Kinded
 pub mod Layers
 pub mod Noted
 pub mod Congruence
+pub mod VarLaws
+pub mod Rounds
+pub mod PartLaws
+pub mod SameWholes
+pub mod TotalSteps

@@ -32,3 +32,7 @@ pub record AreTables (M : Model) (definitions : List (Option Defined)) (named : 
   pub count : length definitions ≡ length M.vars.items
   pub each : (i : ℕ) → i < length M.vars.items → slice_get definitions i ≡ Some (definition_of M i)
   pub names : named ≡ map (named_by M.defs.items) definitions
+
+-- the variables that rank below a number are known
+abbrev pub IsKnownBelow : Model → (ℕ → ℕ) → ℕ → List (Option Outcome) → Type 0
+IsKnownBelow M rank k cells = (i : ℕ) → i < length M.vars.items → rank i < k → is_known cells i ≡ true

@@ -1,12 +1,13 @@
 //! What terms come to, where the outcomes of the variables are known.
 ghost use Rattle.std.specs.Prelude.{◌≡◌, ◌++◌, [], ◌∷◌, ℕ, Option, Some, All, IsSome, IsTrue, IfOk, Ok, map, is_some, true};
+ghost use Rattle.std.specs.Option.{option_map};
 ghost use Rattle.cbl_base.specs.Inputs.{InputKind, kind_of, kinds_of};
 ghost use Rattle.cbl_operations.specs.RuleOf.{rule_of};
 ghost use Rattle.term_model.specs.Kinds.{kinds_in, kind_of_term, all_kinds, AreKinds};
-ghost use Rattle.term_model.specs.Outcomes.{earlier, gather, gathered, listed, at_turn, env_of, outcome_of, HasKinds};
+ghost use Rattle.term_model.specs.Outcomes.{earlier, gather, gathered, listed, at_turn, known, env_of, outcome_of, HasKinds};
 ghost use Rattle.term_model.specs.Users.{user_rules};
 
-use crate::model::VarDecl;
+use crate::model::Model;
 use crate::operation::value_of;
 use crate::outcome::{Failure, Outcome};
 use crate::term::Term;
@@ -15,27 +16,28 @@ use cbl_base::{Input, IntSet, NoMemory, Place, RunFault};
 use cbl_operations::Op;
 use std::alloc::Global;
 
-/// What a term is evaluated in: what computes the users' constraints, the declarations of the variables, and
-/// their outcomes as far as they are known.
+/// What a term is evaluated in: what computes the users' constraints, the model, and the
+/// outcomes of its variables as far as they are known.
+#[derive(Drop)]
 pub(crate) struct Setting<'a, U> {
     pub(crate) alloc: Global,
     pub(crate) users: &'a U,
-    pub(crate) vars: &'a [VarDecl],
+    pub(crate) model: &'a Model,
     pub(crate) cells: &'a [Option<Outcome>],
 }
 
 /// The values of several terms, or the least numbered failure.
-type Gathered = Result<Vec<Input>, Failure>;
+pub(crate) type Gathered = Result<Vec<Input>, Failure>;
 
 /// Of two failures the one that was posted earlier, and of one term the first.
-fn earlier(f: Failure, g: Failure) -> Failure
+pub(crate) fn earlier(f: Failure, g: Failure) -> Failure
     ensures { result ≡ earlier f g }
 {
     if g.turn < f.turn { g } else { f }
 }
 
 /// The values so far and one more, or the least numbered failure.
-fn gather(so_far: Gathered, outcome: Outcome) -> Result<Gathered, NoMemory>
+pub(crate) fn gather(so_far: Gathered, outcome: Outcome) -> Result<Gathered, NoMemory>
     ensures { IfOk result (λ r. listed r ≡ gather (listed so_far) outcome) }
 {
     match (so_far, outcome) {
@@ -67,14 +69,24 @@ pub(crate) fn copied(alloc: Global, input: &Input) -> Result<Input, NoMemory>
     }
 }
 
+/// The outcome in a cell again, where one is known.
+pub(crate) fn copied_outcome(alloc: Global, cell: &Option<Outcome>) -> Result<Outcome, NoMemory>
+    ensures { IfOk result (λ o. o ≡ known (Some cell.now)) }
+{
+    match cell {
+        Some(Ok(value)) => Ok(Ok(copied(alloc, value)?)),
+        Some(Err(failure)) => Ok(Err(*failure)),
+        None => Ok(Err(Failure::unknown())),
+    }
+}
+
 /// The outcome of a variable, where it is known.
 fn outcome_at(alloc: Global, cells: &[Option<Outcome>], index: u32) -> Result<Outcome, NoMemory>
     ensures { IfOk result (λ o. o ≡ env_of cells.now index) }
 {
     match cells.get(index as usize) {
-        Some(Some(Ok(value))) => Ok(Ok(copied(alloc, value)?)),
-        Some(Some(Err(failure))) => Ok(Err(*failure)),
-        _ => Ok(Err(Failure::unknown())),
+        Some(cell) => copied_outcome(alloc, cell),
+        None => Ok(Err(Failure::unknown())),
     }
 }
 
@@ -103,10 +115,10 @@ pub(crate) fn term_outcome<U: UserValues>(
     turn: usize,
     term: &Term,
 ) -> Result<Outcome, NoMemory>
-    requires kinds { HasKinds (kinds_in setting.now.vars.now) (env_of setting.now.cells.now) }
-    requires well_kinded { IsSome (kind_of_term (kinds_in setting.now.vars.now) term.now) }
+    requires kinds { HasKinds (kinds_in setting.now.model.now.vars.items) (env_of setting.now.cells.now) }
+    requires well_kinded { IsSome (kind_of_term (kinds_in setting.now.model.now.vars.items) term.now) }
     ensures outcome { IfOk result (λ o. o ≡ outcome_of (user_rules (U.viol_of setting.now.users.now) (U.viol_at setting.now.users.now)) (env_of setting.now.cells.now) turn term.now) }
-    ensures kind { IfOk result (λ o. IfOk o (λ x. kind_of_term (kinds_in setting.now.vars.now) term.now ≡ Some (kind_of x))) }
+    ensures kind { IfOk result (λ o. IfOk o (λ x. kind_of_term (kinds_in setting.now.model.now.vars.items) term.now ≡ Some (kind_of x))) }
 {
     match term {
         Term::Const(x) => Ok(Ok(Input::Int(*x))),

@@ -22,7 +22,7 @@ fn numbers_of(alloc: Global, inputs: &[Input]) -> Result<Vec<i64>, NoMemory>
 }
 
 /// The number of an input, 0 for a set.
-fn number_of(input: &Input) -> i64
+pub(crate) fn number_of(input: &Input) -> i64
     ensures { result ≡ number_of input.now }
 {
     match input {

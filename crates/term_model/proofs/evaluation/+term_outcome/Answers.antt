@@ -16,7 +16,7 @@ kind_of_result kind (Err e) h f = tt
 
 pub term_outcome-requires : goal.term_outcome-requires
 term_outcome-requires g t c κs within =
-    let kinds = kinds_in c.args.setting.now.vars.now in
+    let kinds = kinds_in c.args.setting.now.model.now.vars.items in
     let all = args_of_term kinds c.args.term.now c.in-Node.op c.in-Node.args c.in-Node.place c.deref-arg-items.result.now c.in-Node.is c.deref-arg-items.ensures.value c.requires.well_kinded in
     let fact : IsSome (kind_of_term kinds c.arg-item.result) = subst (λ u. IsSome (kind_of_term kinds u)) (sym c.arg-item.is) (all c.loop-arg.arg-index c.arg-item.result c.loop-arg-test.true) in
     let below : depth_of c.arg-item.result < depth_of c.args.term.now = depth_below c.args.term.now c.in-Node.op c.in-Node.args c.in-Node.place c.deref-arg-items.result.now c.loop-arg.arg-index c.arg-item.result c.in-Node.is c.deref-arg-items.ensures.value c.loop-arg-test.true c.arg-item.is in
@@ -24,7 +24,7 @@ term_outcome-requires g t c κs within =
 
 pub loop-arg-preserved : goal.loop-arg-preserved
 loop-arg-preserved g t c =
-    let kinds = kinds_in c.args.setting.now.vars.now in
+    let kinds = kinds_in c.args.setting.now.model.now.vars.items in
     let users = user_rules (g.U.UserValues.viol_of c.args.setting.now.users.now) (g.U.UserValues.viol_at c.args.setting.now.users.now) in (
       gathered_more (outcome_of users (env_of c.args.setting.now.cells.now) c.args.turn) c.deref-arg-items.result.now c.loop-arg.arg-index c.arg-item.result
           (listed c.loop-arg.so_far) (listed c.in_ok-so_far-in-Node.so_far) c.in_ok-outcome-in-Node.outcome
@@ -40,7 +40,7 @@ all_of items i le = take_all i items le
 
 pub operate-requires : goal.operate-requires
 operate-requires g t c =
-    let kinds = kinds_in c.args.setting.now.vars.now in
+    let kinds = kinds_in c.args.setting.now.model.now.vars.items in
     let whole = all_of c.deref-arg-items.result.now c.loop-arg.arg-index c.loop-arg-test.false in
     let are : AreKinds (listed c.loop-arg.so_far) (all_kinds (map (kind_of_term kinds) c.deref-arg-items.result.now)) = subst (λ ts. AreKinds (listed c.loop-arg.so_far) (all_kinds (map (kind_of_term kinds) ts))) whole c.loop-arg.invariant.1 in
     let are' : all_kinds (map (kind_of_term kinds) c.deref-arg-items.result.now) ≡ Some (kinds_of c.in-Ok.inputs.items) = subst (λ r. AreKinds (listed r) (all_kinds (map (kind_of_term kinds) c.deref-arg-items.result.now))) c.in-Ok.is are in
@@ -59,7 +59,7 @@ returns-in-Ok-clause-outcome g t c =
 
 pub returns-in-Ok-clause-kind : goal.returns-in-Ok-clause-kind
 returns-in-Ok-clause-kind g t c =
-    let kinds = kinds_in c.args.setting.now.vars.now in
+    let kinds = kinds_in c.args.setting.now.model.now.vars.items in
     let viol_of = g.U.UserValues.viol_of c.args.setting.now.users.now in
     let viol_at = g.U.UserValues.viol_at c.args.setting.now.users.now in
     let whole = all_of c.deref-arg-items.result.now c.loop-arg.arg-index c.loop-arg-test.false in
