@@ -9,3 +9,4 @@ pub mod Rounds
 pub mod PartLaws
 pub mod SameWholes
 pub mod TotalSteps
+pub mod DeltaLaws

@@ -1,4 +1,5 @@
 pub mod Definitions
+pub mod Delta
 pub mod Depth
 pub mod Fresh
 pub mod Kinds

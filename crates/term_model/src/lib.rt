@@ -9,7 +9,7 @@
 #![tactic(auto)]
 
 mod definitions;
-mod delta;
+mod deltas;
 mod evaluation;
 mod fresh_values;
 mod model;
@@ -21,6 +21,7 @@ mod term;
 mod users;
 mod wholes;
 
+pub use deltas::{DeltaStop, Move, delta};
 pub use fresh_values::{ModelStop, Values, fresh, fresh_with};
 pub use model::{Definition, Member, Model, Posted, Total, VarDecl, VarKind};
 pub use term::Term;
