@@ -1,5 +1,5 @@
 -- What a term comes to depends on the variables in it alone.
-use Rattle.std.proofs.Common.{◌≡◌, ℕ, List, [], ◌∷◌, ◌++◌, map, refl, sym, ap, ◌∙◌, subst, Contains}
+use Rattle.std.proofs.Common.{◌≡◌, ℕ, List, [], ◌∷◌, map, refl, sym, ap, ◌∙◌, subst, Contains}
 use Rattle.std.proofs.lemmas.List.Elements.{Contains-append_left, Contains-append_right, Contains-push}
 use Rattle.cbl_base.specs.NumberRule.{NumberRule}
 use Rattle.term_model.specs.Definitions.{joined, vars_of, vars_step}
@@ -7,7 +7,7 @@ use Rattle.term_model.specs.Outcomes.{Outcome, outcome_of, outcome_step, gathere
 use Rattle.term_model.specs.declared.term.Term.{Term}
 use Rattle.term_model.specs.declared.term.Term.TheOpen.{Term-F}
 use Rattle.term_model.specs.declared.term.Term.TheViews.{roll-Term}
-use Rattle.term_model.specs.declared.term.Term.TheFolds.{fold-Term, fold-roll-Term, map-Term, ind-Term}
+use Rattle.term_model.specs.declared.term.Term.TheFolds.{fold-roll-Term, map-Term, ind-Term}
 
 module _ (users : ℕ → NumberRule) (env other : ℕ → Outcome) (turn : ℕ) where
   abbrev Agree : List ℕ → Type 0

@@ -1,5 +1,5 @@
 -- What the kind of a node says of its arguments, and of its value.
-use Rattle.std.proofs.Common.{◌≡◌, ℕ, ℤ, Bool, true, false, List, [], ◌∷◌, ◌++◌, Option, Some, None, Result, Ok, Err, IsTrue, IsSome, IfOk, All, fold, map, take, is_some, refl, sym, ap, ◌∙◌, subst, true≢false, ◌&&◌}
+use Rattle.std.proofs.Common.{◌≡◌, ℕ, ℤ, Bool, true, false, List, [], ◌∷◌, ◌++◌, Option, Some, None, Result, Ok, Err, IsTrue, IsSome, IfOk, All, fold, map, is_some, refl, sym, ap, ◌∙◌, subst, true≢false, ◌&&◌}
 use Rattle.std.specs.Prelude.{if◌then◌else◌}
 use Rattle.std.proofs.lemmas.List.Elements.{All-nil, All-cons}
 use Rattle.cbl_base.specs.Inputs.{InputKind, kind_of, kinds_of}

@@ -1,5 +1,5 @@
 -- One layer of a term: what it comes to, and its kind, from those of its arguments.
-use Rattle.std.proofs.Common.{◌≡◌, ℕ, zero, suc, max, arith, ℤ, List, Option, Some, Vec, Global, All, IsSome, IfOk, IsTrue, Result, Ok, Err, [], ◌∷◌, ◌++◌, ◌+◌, ◌<◌, ◌≤◌, fold, take, length, get_or, map, refl, sym, ap, ◌∙◌, subst}
+use Rattle.std.proofs.Common.{◌≡◌, ℕ, zero, suc, arith, ℤ, List, Option, Some, Vec, Global, All, IsSome, IfOk, IsTrue, Result, Ok, [], ◌∷◌, ◌++◌, ◌+◌, ◌<◌, ◌≤◌, fold, take, length, get_or, map, sym, ap, ◌∙◌, subst}
 use Rattle.cbl_base.specs.Inputs.{InputKind, kind_of, kinds_of}
 use Rattle.cbl_base.specs.declared.input.Input.{Input}
 use Rattle.cbl_base.specs.declared.place.Place.{Place}

@@ -1,5 +1,5 @@
 -- Each round makes the outcomes known of the variables that rank one higher.
-use Rattle.std.proofs.Common.{◌≡◌, ℕ, ℤ, zero, suc, ◌+◌, ◌<◌, ◌≤◌, Bool, true, false, List, [], ◌∷◌, Option, Some, None, Ok, IsSome, is_some, length, replicate, refl, sym, ap, ◌∙◌, subst, arith, Contains, true≢false, All, map, slice_get, Err}
+use Rattle.std.proofs.Common.{◌≡◌, ℕ, ℤ, zero, suc, ◌+◌, ◌<◌, true, List, [], ◌∷◌, Option, Some, None, Ok, IsSome, is_some, length, replicate, refl, sym, ap, subst, arith, true≢false, All, map, slice_get, Err}
 use Rattle.std.specs.List.{list_all}
 use native.Mathlib.Decide.{ℕ_discrete}
 use Rattle.std.proofs.lemmas.List.Elements.{All-head, All-tail, All-nil, All-cons, All-append, All-contains}
@@ -9,9 +9,9 @@ use Rattle.cbl_base.specs.NumberRule.{NumberRule}
 use Rattle.cbl_base.specs.Inputs.{InputKind}
 use Rattle.cbl_base.specs.declared.input.Input.{Input}
 use Rattle.term_model.specs.Definitions.{definition_of, term_of, named_by, vars_named, vars_of, vars_step, joined, DependsOn, IsAcyclic}
-use Rattle.term_model.specs.Kinds.{kinds_in, kind_of_term, kind_step, all_kinds, node_kind}
-use Rattle.term_model.specs.Outcomes.{Outcome, env_of, known, unknown}
-use Rattle.term_model.specs.Settling.{is_there, is_known, IsRight, KeepsKnown, IsKnownBelow}
+use Rattle.term_model.specs.Kinds.{kinds_in, kind_of_term, kind_step}
+use Rattle.term_model.specs.Outcomes.{Outcome, known, unknown}
+use Rattle.term_model.specs.Settling.{is_known, IsRight, KeepsKnown, IsKnownBelow}
 use Rattle.term_model.specs.Wellformed.{IsWellFormed}
 use Rattle.term_model.specs.declared.model.Model.{Model}
 use Rattle.term_model.specs.declared.model.VarDecl.{VarDecl}

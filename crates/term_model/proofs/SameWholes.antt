@@ -1,20 +1,19 @@
 -- What a system or an objective comes to where the outcomes of all variables are known.
-use Rattle.std.proofs.Common.{◌≡◌, ℕ, ℤ, ◌<◌, Bool, true, false, List, [], ◌∷◌, ◌++◌, Option, Some, None, Result, Ok, Err, IsSome, length, refl, sym, ap, ◌∙◌, subst, true≢false, slice_get, Contains, fold, All}
+use Rattle.std.proofs.Common.{◌≡◌, ℕ, ℤ, ◌<◌, true, List, [], ◌∷◌, ◌++◌, Option, Some, None, IsSome, length, refl, sym, ap, ◌∙◌, true≢false, slice_get, Contains, fold}
 use Rattle.std.specs.List.{enumerate_from}
 use Rattle.std.proofs.lemmas.List.Elements.{All-contains}
 use Rattle.cbl_base.specs.NumberRule.{NumberRule}
 use Rattle.cbl_base.specs.declared.place.Place.{Place}
 use Rattle.term_model.specs.Definitions.{vars_of}
-use Rattle.term_model.specs.Kinds.{kinds_in, kind_of_term}
-use Rattle.term_model.specs.Outcomes.{Outcome, outcome_of, env_of, known}
+use Rattle.term_model.specs.Kinds.{kinds_in}
+use Rattle.term_model.specs.Outcomes.{Outcome, env_of, known}
 use Rattle.term_model.specs.Settling.{is_there, is_known, IsRight}
 use Rattle.term_model.specs.VarOutcomes.{outcome_of_var}
 use Rattle.term_model.specs.Wellformed.{IsWellFormed}
-use Rattle.term_model.specs.Wholes.{member_in, gather_number, Parts, no_parts, with_part, add_posted, parts_in, total_of, outcome_of_whole}
+use Rattle.term_model.specs.Wholes.{member_in, gather_number, Parts, no_parts, with_part, add_posted, total_of, outcome_of_whole}
 use Rattle.term_model.specs.declared.model.Member.{Member}
 use Rattle.term_model.specs.declared.model.Model.{Model}
 use Rattle.term_model.specs.declared.model.Posted.{Posted}
-use Rattle.term_model.specs.declared.outcome.Failure.{Failure}
 use Rattle.term_model.specs.declared.wholes.Whole.{Whole}
 use Rattle.term_model.proofs.Congruence.{same_outcome}
 use Rattle.term_model.proofs.PartLaws.{member_kinded}

@@ -1,12 +1,11 @@
 -- The totals of all systems or objectives, as far as they have been gone through; and where all variables
 -- are known.
-use Rattle.std.proofs.Common.{◌≡◌, ℕ, ℤ, zero, suc, ◌+◌, ◌<◌, ◌≤◌, true, true≢false, List, [], ◌∷◌, Option, Some, None, Result, Ok, Err, length, get_or, take, fold, map, refl, sym, ap, ◌∙◌, subst, arith, slice_get}
+use Rattle.std.proofs.Common.{◌≡◌, ℕ, ℤ, suc, ◌+◌, ◌<◌, ◌≤◌, true, List, [], ◌∷◌, Option, Some, Result, Ok, length, get_or, take, fold, map, refl, sym, ap, ◌∙◌, subst, arith, slice_get}
 use Rattle.std.specs.List.{enumerate_from, range_with_len}
 use Rattle.std.proofs.lemmas.List.{take_all}
 use Rattle.std.proofs.lemmas.List.Sums.{fold_more}
 use Rattle.std.proofs.lemmas.List.FromFn.{get_or-enumerate_from, length-enumerate_from}
 use Rattle.cbl_base.specs.NumberRule.{NumberRule}
-use Rattle.cbl_base.specs.declared.input.Input.{Input}
 use Rattle.term_model.specs.Fresh.{add_total, totals_in, totals_by, whole_by, gather_total, fresh_totals, fresh_vars}
 use Rattle.term_model.specs.Outcomes.{Outcome, env_of, known, gathered}
 use Rattle.term_model.specs.Settling.{is_known, IsRight}

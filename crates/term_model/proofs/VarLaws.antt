@@ -1,6 +1,6 @@
 -- A defined variable equals its definition's term, and what is known of the variables that a term names is
 -- enough for what it comes to.
-use Rattle.std.proofs.Common.{◌≡◌, ℕ, ℤ, zero, suc, ◌<◌, ◌≤◌, Bool, true, false, List, [], ◌∷◌, Option, Some, None, length, refl, sym, ap, ◌∙◌, subst, arith, Contains, true≢false, fold, slice_get, IsSome, is_some, IfOk, Ok, set, get_or, map, Vec, Global, ◌&&◌, length-set}
+use Rattle.std.proofs.Common.{◌≡◌, ℕ, ℤ, zero, suc, ◌<◌, Bool, true, false, List, [], ◌∷◌, Option, Some, None, length, refl, sym, ap, ◌∙◌, subst, arith, Contains, true≢false, fold, slice_get, IsSome, is_some, IfOk, Ok, set, get_or, map, Vec, Global, ◌&&◌, length-set}
 use Rattle.std.specs.Prelude.{nat_eq, unwrap_or, if◌then◌else◌, pos, slice_index_or}
 use native.Mathlib.Decide.{ℕ_discrete}
 use Rattle.std.specs.List.{list_all}
@@ -14,7 +14,7 @@ use Rattle.cbl_base.specs.declared.input.Input.TheVariants.{Int}
 use Rattle.std.specs.List.{enumerate_from}
 use Rattle.std.specs.Option.{option_map}
 use Rattle.cbl_base.specs.NumberRule.{NumberRule}
-use Rattle.term_model.specs.Definitions.{definition_of, definition_in, term_of, named_by, vars_named, vars_of, note, is_of, DependsOn, IsAcyclic}
+use Rattle.term_model.specs.Definitions.{definition_of, term_of, named_by, vars_named, vars_of, note, is_of, DependsOn, IsAcyclic}
 use Rattle.term_model.specs.Outcomes.{Outcome, outcome_of, env_of, known}
 use Rattle.term_model.specs.Settling.{is_there, is_known, IsRight, KeepsKnown, AreTables}
 use Rattle.term_model.specs.Kinds.{kinds_in, kind_of_term}

@@ -1,6 +1,6 @@
 -- The definition of a variable: which one it is, and at which turn it was posted. A variable depends on those
 -- that stand in its definition's term. A rule of this project.
-use Rattle.std.specs.Prelude.{◌≡◌, ℕ, zero, suc, ◌<◌, Bool, false, List, [], ◌∷◌, ◌++◌, fold, length, nat_eq, Option, Some, None, slice_get, unwrap_or, if◌then◌else◌}
+use Rattle.std.specs.Prelude.{ℕ, ◌<◌, Bool, false, List, [], ◌∷◌, ◌++◌, fold, length, nat_eq, Option, Some, None, slice_get, unwrap_or, if◌then◌else◌}
 use Rattle.std.specs.Option.{option_map}
 use Rattle.std.specs.List.{Contains, enumerate_from}
 use Rattle.term_model.specs.declared.definitions.Defined.{Defined}

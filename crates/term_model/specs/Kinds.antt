@@ -1,6 +1,6 @@
 -- The kind of a term, where it is well kinded: each operation in it has arguments of a number and of kinds
 -- that it takes, and fields that fit it; and each variable has a kind. A rule of this project.
-use Rattle.std.specs.Prelude.{◌≡◌, ℕ, ℤ, pos, Bool, true, ◌&&◌, List, [], ◌∷◌, ◌++◌, fold, Option, Some, None, Result, Ok, Err, slice_get, int_le, if◌then◌else◌}
+use Rattle.std.specs.Prelude.{◌≡◌, ℕ, pos, Bool, true, ◌&&◌, List, [], ◌∷◌, ◌++◌, fold, Option, Some, None, Result, Ok, Err, slice_get, int_le, if◌then◌else◌}
 use Rattle.std.specs.Option.{option_map}
 use Rattle.cbl_base.specs.Inputs.{InputKind, number_kind, set_kind, kinds_of}
 use Rattle.cbl_base.specs.declared.input.Input.{Input}

@@ -1,8 +1,7 @@
 -- What the search for the variables' outcomes keeps: which are known so far, and that these are right.
 use Rattle.std.specs.Prelude.{◌≡◌, ℕ, ◌<◌, ℤ, Bool, true, false, List, length, Option, Some, None, slice_get, map}
-use Rattle.std.specs.List.{Contains}
 use Rattle.cbl_base.specs.NumberRule.{NumberRule}
-use Rattle.term_model.specs.Definitions.{definition_of, named_by, DependsOn}
+use Rattle.term_model.specs.Definitions.{definition_of, named_by}
 use Rattle.term_model.specs.Kinds.{kinds_in}
 use Rattle.term_model.specs.Outcomes.{Outcome, HasKinds, env_of}
 use Rattle.term_model.specs.VarOutcomes.{outcome_of_var}

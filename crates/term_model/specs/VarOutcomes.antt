@@ -1,11 +1,9 @@
 -- The outcome of a variable: of a free one its number in the assignment, and of a defined one that of its
 -- definition's term. Comet's rule that a defined variable always equals its expression.
-use Rattle.std.specs.Prelude.{◌≡◌, ℕ, ℤ, pos, zero, suc, ◌<◌, List, length, Option, Some, None, Ok, Err, slice_get, slice_index_or}
+use Rattle.std.specs.Prelude.{ℕ, ℤ, pos, zero, suc, List, length, Option, Some, None, Ok, Err, slice_index_or}
 use Rattle.cbl_base.specs.NumberRule.{NumberRule}
-use Rattle.cbl_base.specs.Inputs.{InputKind, number_kind, kind_of}
 use Rattle.cbl_base.specs.declared.input.Input.TheVariants.{Int}
 use Rattle.term_model.specs.Definitions.{definition_of, term_of}
-use Rattle.term_model.specs.Kinds.{kinds_in, kind_of_term}
 use Rattle.term_model.specs.Outcomes.{Outcome, outcome_of, unknown}
 use Rattle.term_model.specs.declared.definitions.Defined.{Defined}
 use Rattle.term_model.specs.declared.model.Model.{Model}

@@ -2,21 +2,18 @@
 -- is of the variable's kind, members are numbers, and `posted` names the definitions, the constraints of
 -- each system and the terms of each objective, each once and in order. The variables in terms are the
 -- model's own, since others have no kind. A rule of this project.
-use Rattle.std.specs.Prelude.{◌≡◌, ℕ, ◌<◌, ◌≤◌, List, [], ◌∷◌, filter_map, length, nat_eq, Option, Some, None, Vec, IsSome, slice_get, if◌then◌else◌, All}
+use Rattle.std.specs.Prelude.{◌≡◌, ℕ, ◌<◌, ◌≤◌, List, filter_map, length, nat_eq, Option, Some, None, slice_get, if◌then◌else◌}
 use Rattle.std.specs.List.{range_with_len}
-use Rattle.std.specs.declared.alloc.Global.{Global}
 use Rattle.cbl_base.specs.Inputs.{number_kind}
-use Rattle.term_model.specs.Definitions.{definition_of, term_of}
+use Rattle.term_model.specs.Definitions.{definition_of}
 use Rattle.term_model.specs.Depth.{depth_of}
 use Rattle.term_model.specs.Kinds.{kinds_in, kind_of_term}
-use Rattle.term_model.specs.declared.definitions.Defined.{Defined}
 use Rattle.term_model.specs.declared.model.Definition.{Definition}
 use Rattle.term_model.specs.declared.model.Member.{Member}
 use Rattle.term_model.specs.declared.model.Model.{Model}
 use Rattle.term_model.specs.declared.model.Posted.{Posted}
 use Rattle.term_model.specs.declared.model.Posted.TheVariants.{Define, Constrain, Part}
 use Rattle.term_model.specs.declared.model.Total.{Total}
-use Rattle.term_model.specs.declared.term.Term.{Term}
 
 -- the numbers of the definitions that were posted, of the constraints of a system, of the terms of an objective
 abbrev pub define_number : Posted → Option ℕ

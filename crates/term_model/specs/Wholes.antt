@@ -7,7 +7,6 @@ use Rattle.std.specs.Option.{option_and_then}
 use Rattle.std.specs.List.{enumerate_from}
 use Rattle.cbl_base.specs.NumberRule.{NumberRule}
 use Rattle.cbl_base.specs.Inputs.{number_of}
-use Rattle.cbl_base.specs.declared.input.Input.{Input}
 use Rattle.cbl_base.specs.declared.faults.RunFault.{RunFault}
 use Rattle.cbl_base.specs.declared.place.Place.{Place}
 use Rattle.cbl_violations.specs.Violations.WeightedTotal.{weighted_total_value}

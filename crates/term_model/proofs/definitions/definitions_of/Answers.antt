@@ -1,4 +1,4 @@
-use Rattle.std.proofs.Common.{rules, ◌≡◌, ◌∙◌, Some, get_or, sym, ap, arith, ◌≤◌, length}
+use Rattle.std.proofs.Common.{rules, ◌≡◌, ◌∙◌, Some, get_or, ap}
 use Rattle.term_model.specs.declared.model.Posted.{Posted}
 use Rattle.term_model.proofs.Noted.{definition_more, definition_all}
 use Rattle.term_model.proofs.definitions.definitions_of.Goals as goal

@@ -1,5 +1,5 @@
-use Rattle.std.proofs.Common.{rules, ◌≡◌, ◌∙◌, false}
-use Rattle.term_model.specs.Delta.{moves_defined, moved, value_of}
+use Rattle.std.proofs.Common.{rules, ◌≡◌, false}
+use Rattle.term_model.specs.Delta.{moves_defined, moved}
 use Rattle.term_model.specs.Users.{user_rules}
 use Rattle.term_model.proofs.DeltaLaws.{delta_from}
 use Rattle.term_model.proofs.deltas.delta.Goals as goal

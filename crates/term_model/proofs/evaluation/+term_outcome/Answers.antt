@@ -1,12 +1,11 @@
-use Rattle.std.proofs.Common.{rules, ◌<◌, ◌≡◌, ◌∙◌, Ok, Err, Result, Option, Some, ℕ, ◌≤◌, All, IsSome, IsTrue, IfOk, List, map, take, length, subst, sym, ap, arith}
+use Rattle.std.proofs.Common.{rules, ◌<◌, ◌≡◌, ◌∙◌, Ok, Err, Result, Option, Some, ℕ, ◌≤◌, IsSome, IfOk, List, map, take, length, subst, sym, ap}
 use Rattle.std.proofs.lemmas.List.{take_all}
 use Rattle.cbl_base.specs.Inputs.{InputKind, kind_of, kinds_of}
 use Rattle.term_model.specs.Depth.{depth_of}
-use Rattle.term_model.specs.Kinds.{kinds_in, kind_of_term, all_kinds, node_kind, AreKinds}
+use Rattle.term_model.specs.Kinds.{kinds_in, kind_of_term, all_kinds, AreKinds}
 use Rattle.term_model.specs.Outcomes.{Outcome, listed, gathered, outcome_of, env_of, operated}
 use Rattle.term_model.specs.Users.{user_rules}
 use Rattle.term_model.specs.declared.term.Term.{Term}
-use Rattle.term_model.specs.declared.outcome.Failure.{Failure}
 use Rattle.term_model.proofs.Layers.{args_of_term, inputs_of_term, kind_of_outcome, gathered_more, kinds_one_more, outcome_of_layer, depth_below}
 use Rattle.term_model.proofs.evaluation.+term_outcome.Goals as goal
 

@@ -1,4 +1,4 @@
-use Rattle.std.proofs.Common.{rules, ◌≡◌, ◌<◌, ◌∙◌, ℕ, ℤ, true, List, Option, Result, Ok, IfOk, IfErr, length, subst, sym}
+use Rattle.std.proofs.Common.{◌≡◌, ◌<◌, ◌∙◌, ℕ, ℤ, true, List, Option, Ok, IfOk, IfErr, length, subst, sym}
 use Rattle.cbl_base.specs.NumberRule.{NumberRule}
 use Rattle.term_model.specs.Fresh.{fresh_vars, fresh_totals, fault_of, earliest, failure_of, IsStop}
 use Rattle.term_model.specs.Outcomes.{Outcome, listed}

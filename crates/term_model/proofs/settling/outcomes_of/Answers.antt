@@ -1,4 +1,4 @@
-use Rattle.std.proofs.Common.{rules, ◌<◌, arith}
+use Rattle.std.proofs.Common.{◌<◌, arith}
 use Rattle.term_model.proofs.Rounds.{round_more}
 use Rattle.term_model.proofs.settling.outcomes_of.Goals as goal
 

@@ -1,6 +1,5 @@
-use Rattle.std.proofs.Common.{◌≡◌, ◌<◌, ℕ, true}
 use Rattle.term_model.specs.Definitions.{IsAcyclic}
-use Rattle.term_model.specs.Settling.{is_known, IsRight, IsKnownBelow}
+use Rattle.term_model.specs.Settling.{IsRight, IsKnownBelow}
 use Rattle.term_model.specs.Users.{user_rules}
 use Rattle.term_model.proofs.settling.outcomes_of.Given as goal
 

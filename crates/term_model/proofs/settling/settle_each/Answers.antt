@@ -1,4 +1,3 @@
-use Rattle.std.proofs.Common.{rules}
 use Rattle.term_model.proofs.Rounds.{kept_both, settled_more}
 use Rattle.term_model.proofs.settling.settle_each.Goals as goal
 

@@ -1,6 +1,4 @@
-use Rattle.std.proofs.Common.{◌≡◌, ◌<◌, ℕ, true}
-use Rattle.term_model.specs.Definitions.{DependsOn}
-use Rattle.term_model.specs.Settling.{is_known, IsRight, KeepsKnown}
+use Rattle.term_model.specs.Settling.{IsRight}
 use Rattle.term_model.specs.Users.{user_rules}
 use Rattle.term_model.proofs.settling.settle_in_order.Given as goal
 

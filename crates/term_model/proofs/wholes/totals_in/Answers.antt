@@ -1,6 +1,5 @@
-use Rattle.std.proofs.Common.{rules, ◌≡◌, ◌<◌, length, arith, get_or, subst, ap, sym}
-use Rattle.std.specs.List.{enumerate_from}
-use Rattle.term_model.specs.Fresh.{totals_by, whole_by}
+use Rattle.std.proofs.Common.{rules, ◌≡◌, ◌<◌, length, get_or}
+use Rattle.term_model.specs.Fresh.{totals_by}
 use Rattle.term_model.specs.Outcomes.{env_of}
 use Rattle.term_model.specs.Users.{user_rules}
 use Rattle.term_model.specs.Wholes.{listed_numbers}
