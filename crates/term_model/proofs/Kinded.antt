@@ -1,0 +1,130 @@
+-- What the kind of a node says of its arguments, and of its value.
+use Rattle.std.proofs.Common.{◌≡◌, ℕ, ℤ, Bool, true, false, List, [], ◌∷◌, ◌++◌, Option, Some, None, Result, Ok, Err, IsTrue, IsSome, IfOk, All, fold, map, is_some, refl, sym, ap, ◌∙◌, subst, true≢false, ◌&&◌}
+use Rattle.std.specs.Prelude.{if◌then◌else◌}
+use Rattle.std.proofs.lemmas.List.Elements.{All-nil, All-cons}
+use Rattle.cbl_base.specs.Inputs.{InputKind, kind_of, kinds_of}
+use Rattle.cbl_base.specs.declared.input.Input.{Input}
+use Rattle.cbl_base.specs.declared.faults.RunFault.{RunFault}
+use Rattle.cbl_base.specs.declared.place.Place.{Place}
+use Rattle.cbl_operations.specs.RuleOf.{rule_of, value_kind}
+use Rattle.cbl_operations.specs.declared.op.Op.{Op}
+use Rattle.cbl_operations.specs.declared.op.Op.TheVariants.{Add, Sub, Mul, Div, Rem, Neg, Abs, Least, Greatest, Sum, ArgMin, ArgMax, Count, Element, Element2, Eq, Ne, Le, Lt, And, Or, Not, SetOf, Union, Inter, Minus, Card, Member, ViolEq, ViolNe, ViolLe, ViolLt, AllDifferent, AtMost, AtLeast, Exactly, Knapsack, MultiKnapsack, Sequence, AllOf, AnyOf, NotHeld, User}
+use Rattle.cbl_operations.proofs.KindLaws.{kind_of_values}
+use Rattle.term_model.specs.Kinds.{gather_kind, all_kinds, node_kind, has_fields, AreKinds}
+use Rattle.term_model.specs.Outcomes.{Outcome, gather, at_turn}
+use Rattle.term_model.specs.Users.{user_rules, no_users}
+use Rattle.term_model.specs.declared.term.Term.{Term}
+use Rattle.term_model.specs.declared.outcome.Failure.{Failure}
+
+not_none : {X : Type 0} (o : Option X) → o ≡ None → IsSome o → ⊥
+not_none o e h = true≢false (sym h ∙ ap is_some e)
+
+none_stays : (ks : List (Option InputKind)) → fold gather_kind None ks ≡ None
+none_stays [] = refl
+none_stays (Some k ∷ ks) = none_stays ks
+none_stays (None ∷ ks) = none_stays ks
+
+first_some : (so_far : Option (List InputKind)) (k : Option InputKind) (ks : List (Option InputKind)) → IsSome (fold gather_kind (gather_kind so_far k) ks) → IsSome k
+first_some so_far (Some k) ks h = refl
+first_some (Some so_far) None ks h = absurd (not_none _ (none_stays ks) h)
+first_some None None ks h = absurd (not_none _ (none_stays ks) h)
+
+all_some : (so_far : Option (List InputKind)) (kind : Term → Option InputKind) (ts : List Term) → IsSome (fold gather_kind so_far (map kind ts)) → All (λ t. IsSome (kind t)) ts
+all_some so_far kind [] h = All-nil (λ t. IsSome (kind t))
+all_some so_far kind (t ∷ ts) h =
+    All-cons (λ u. IsSome (kind u)) t ts (first_some so_far (kind t) (map kind ts) h) (all_some (gather_kind so_far (kind t)) kind ts h)
+
+some_kinds : (op : Op) (kinds : Option (List InputKind)) → IsSome (node_kind op kinds) → IsSome kinds
+some_kinds op (Some kinds) h = refl
+some_kinds op None h = h
+
+-- the arguments of a node that has a kind have kinds
+pub args_kinded : (op : Op) (kind : Term → Option InputKind) (ts : List Term) → IsSome (node_kind op (all_kinds (map kind ts))) → All (λ t. IsSome (kind t)) ts
+args_kinded op kind ts h = all_some (Some []) kind ts (some_kinds op (all_kinds (map kind ts)) h)
+
+-- a user's constraint takes the same whatever its violations
+takes_same : (viol_of : ℕ → List ℤ → ℤ) (viol_at : ℕ → List ℤ → ℕ → ℤ) (op : Op) (kinds : List InputKind) → (rule_of (user_rules viol_of viol_at) op).takes kinds ≡ (rule_of no_users op).takes kinds
+takes_same viol_of viol_at Add kinds = refl
+takes_same viol_of viol_at Sub kinds = refl
+takes_same viol_of viol_at Mul kinds = refl
+takes_same viol_of viol_at Div kinds = refl
+takes_same viol_of viol_at Rem kinds = refl
+takes_same viol_of viol_at Neg kinds = refl
+takes_same viol_of viol_at Abs kinds = refl
+takes_same viol_of viol_at Least kinds = refl
+takes_same viol_of viol_at Greatest kinds = refl
+takes_same viol_of viol_at Sum kinds = refl
+takes_same viol_of viol_at (ArgMin keys) kinds = refl
+takes_same viol_of viol_at (ArgMax keys) kinds = refl
+takes_same viol_of viol_at Count kinds = refl
+takes_same viol_of viol_at (Element low len) kinds = refl
+takes_same viol_of viol_at (Element2 low1 len1 low2 len2) kinds = refl
+takes_same viol_of viol_at Eq kinds = refl
+takes_same viol_of viol_at Ne kinds = refl
+takes_same viol_of viol_at Le kinds = refl
+takes_same viol_of viol_at Lt kinds = refl
+takes_same viol_of viol_at And kinds = refl
+takes_same viol_of viol_at Or kinds = refl
+takes_same viol_of viol_at Not kinds = refl
+takes_same viol_of viol_at (SetOf keys) kinds = refl
+takes_same viol_of viol_at Union kinds = refl
+takes_same viol_of viol_at Inter kinds = refl
+takes_same viol_of viol_at Minus kinds = refl
+takes_same viol_of viol_at Card kinds = refl
+takes_same viol_of viol_at Member kinds = refl
+takes_same viol_of viol_at ViolEq kinds = refl
+takes_same viol_of viol_at ViolNe kinds = refl
+takes_same viol_of viol_at ViolLe kinds = refl
+takes_same viol_of viol_at ViolLt kinds = refl
+takes_same viol_of viol_at AllDifferent kinds = refl
+takes_same viol_of viol_at (AtMost low bounds) kinds = refl
+takes_same viol_of viol_at (AtLeast low bounds) kinds = refl
+takes_same viol_of viol_at (Exactly low bounds) kinds = refl
+takes_same viol_of viol_at (Knapsack weights capacity) kinds = refl
+takes_same viol_of viol_at (MultiKnapsack sizes low capacities) kinds = refl
+takes_same viol_of viol_at (Sequence values most window) kinds = refl
+takes_same viol_of viol_at AllOf kinds = refl
+takes_same viol_of viol_at AnyOf kinds = refl
+takes_same viol_of viol_at NotHeld kinds = refl
+takes_same viol_of viol_at (User number) kinds = refl
+
+both : (a b : Bool) (kind : InputKind) → IsSome (if a && b then Some kind else None) → (IsTrue a) × ((if a && b then Some kind else None) ≡ Some kind)
+both true true kind h = (refl, refl)
+both true false kind h = absurd (true≢false (sym h))
+both false b kind h = absurd (true≢false (sym h))
+
+-- a node that has a kind takes arguments of these kinds, and its kind is that of its values
+pub takes_args : (viol_of : ℕ → List ℤ → ℤ) (viol_at : ℕ → List ℤ → ℕ → ℤ) (op : Op) (kinds : List InputKind) → IsSome (node_kind op (Some kinds)) → IsTrue ((rule_of (user_rules viol_of viol_at) op).takes kinds)
+takes_args viol_of viol_at op kinds h =
+    takes_same viol_of viol_at op kinds ∙ (both ((rule_of no_users op).takes kinds) (has_fields op) (value_kind op) h).0
+
+kind_of_node : (op : Op) (kinds : List InputKind) → IsSome (node_kind op (Some kinds)) → node_kind op (Some kinds) ≡ Some (value_kind op)
+kind_of_node op kinds h = (both ((rule_of no_users op).takes kinds) (has_fields op) (value_kind op) h).1
+
+kind_at_turn : (turn : ℕ) (place : Place) (kind : InputKind) (value : Result Input RunFault) → ((x : Input) → value ≡ Ok x → kind_of x ≡ kind) → IfOk (at_turn turn place value) (λ x. Some kind ≡ Some (kind_of x))
+kind_at_turn turn place kind (Ok x) is = ap Some (sym (is x refl))
+kind_at_turn turn place kind (Err fault) is = tt
+
+-- so is the kind of what it comes to
+pub kind_of_operated : (viol_of : ℕ → List ℤ → ℤ) (viol_at : ℕ → List ℤ → ℕ → ℤ) (op : Op) (turn : ℕ) (place : Place) (inputs : List Input) (kinds : Option (List InputKind)) (outcome : Outcome) →
+    kinds ≡ Some (kinds_of inputs) → IsSome (node_kind op kinds) → outcome ≡ at_turn turn place ((rule_of (user_rules viol_of viol_at) op).value inputs) →
+    IfOk outcome (λ x. node_kind op kinds ≡ Some (kind_of x))
+kind_of_operated viol_of viol_at op turn place inputs kinds outcome e h is =
+    let some : IsSome (node_kind op (Some (kinds_of inputs))) = subst (λ k. IsSome (node_kind op k)) e h in
+    let kind : node_kind op kinds ≡ Some (value_kind op) = ap (node_kind op) e ∙ kind_of_node op (kinds_of inputs) some in
+    subst (λ o. IfOk o (λ x. node_kind op kinds ≡ Some (kind_of x))) (sym is)
+    (subst (λ k. IfOk (at_turn turn place ((rule_of (user_rules viol_of viol_at) op).value inputs)) (λ x. k ≡ Some (kind_of x))) (sym kind)
+    (kind_at_turn turn place (value_kind op) ((rule_of (user_rules viol_of viol_at) op).value inputs) (kind_of_values (user_rules viol_of viol_at) op inputs)))
+
+-- one more value, and its kind
+kinds_more : (xs : List Input) (x : Input) → kinds_of (xs ++ x ∷ []) ≡ kinds_of xs ++ kind_of x ∷ []
+kinds_more [] x = refl
+kinds_more (y ∷ xs) x = ap (λ t. kind_of y ∷ t) (kinds_more xs x)
+
+pub kinds_gather : (so_far : Result (List Input) Failure) (outcome : Outcome) (kinds : Option (List InputKind)) (kind : Option InputKind) → AreKinds so_far kinds → IfOk outcome (λ x. kind ≡ Some (kind_of x)) → AreKinds (gather so_far outcome) (gather_kind kinds kind)
+kinds_gather (Ok xs) (Ok x) kinds kind e h =
+    subst (λ k. gather_kind k kind ≡ Some (kinds_of (xs ++ x ∷ []))) (sym e)
+    (subst (λ k. gather_kind (Some (kinds_of xs)) k ≡ Some (kinds_of (xs ++ x ∷ []))) (sym h) (ap Some (sym (kinds_more xs x))))
+kinds_gather (Ok xs) (Err f) kinds kind e h = tt
+kinds_gather (Err f) (Ok x) kinds kind e h = tt
+kinds_gather (Err f) (Err g) kinds kind e h = tt

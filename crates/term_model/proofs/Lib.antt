@@ -1,0 +1,12 @@
+pub mod KeyedValues
+pub mod SetCopies
+pub mod Kinded
+pub mod Layers
+pub mod Noted
+pub mod Congruence
+pub mod VarLaws
+pub mod Rounds
+pub mod PartLaws
+pub mod SameWholes
+pub mod TotalSteps
+pub mod DeltaLaws

@@ -1,0 +1,14 @@
+use Rattle.std.proofs.Common.{◌≡◌, map, take}
+use Rattle.term_model.specs.Depth.{depth_of}
+use Rattle.term_model.specs.Kinds.{kinds_in, kind_of_term, all_kinds, AreKinds}
+use Rattle.term_model.specs.Outcomes.{gathered, listed, env_of, outcome_of}
+use Rattle.term_model.specs.Users.{user_rules}
+use Rattle.term_model.proofs.evaluation.+term_outcome.Given as goal
+
+abbrev pub invariant-loop-arg : goal.invariant-loop-arg
+invariant-loop-arg g l =
+    (listed l.so_far ≡ gathered (map (outcome_of (user_rules (g.U.UserValues.viol_of l.setting.users.now) (g.U.UserValues.viol_at l.setting.users.now)) (env_of l.setting.cells.now) l.turn) (take l.arg-index l.arg-items)))
+    × AreKinds (listed l.so_far) (all_kinds (map (kind_of_term (kinds_in l.setting.model.now.vars.items)) (take l.arg-index l.arg-items)))
+
+abbrev pub decreases-term_outcome : goal.decreases-term_outcome
+decreases-term_outcome g l = depth_of l.term.now

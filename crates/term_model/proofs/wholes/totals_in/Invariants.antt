@@ -1,0 +1,11 @@
+use Rattle.std.proofs.Common.{◌≡◌, take}
+use Rattle.std.specs.List.{enumerate_from}
+use Rattle.term_model.specs.Fresh.{totals_in, totals_by}
+use Rattle.term_model.specs.Outcomes.{env_of}
+use Rattle.term_model.specs.Users.{user_rules}
+use Rattle.term_model.specs.Wholes.{listed_numbers}
+use Rattle.term_model.proofs.wholes.totals_in.Given as goal
+
+abbrev pub invariant-loop-number : goal.invariant-loop-number
+invariant-loop-number g l =
+    listed_numbers l.so_far ≡ totals_in (user_rules (g.U.UserValues.viol_of l.setting.users.now) (g.U.UserValues.viol_at l.setting.users.now)) l.setting.model.now (env_of l.setting.cells.now) l.side (take l.number (enumerate_from 0 (totals_by l.setting.model.now l.side)))

@@ -1,0 +1,11 @@
+pub mod Definitions
+pub mod Delta
+pub mod Depth
+pub mod Fresh
+pub mod Kinds
+pub mod Outcomes
+pub mod Settling
+pub mod Users
+pub mod VarOutcomes
+pub mod Wellformed
+pub mod Wholes

@@ -1,0 +1,176 @@
+//! Values and deltas of systems and objectives, from scratch.
+ghost use Rattle.std.specs.Prelude.{◌≡◌, ◌<◌, IfOk, Ok, Err, Some, IsTrue, is_some, length, slice_get, slice_set, pos, slice_index_or};
+ghost use Rattle.term_model.specs.Definitions.{IsAcyclic, definition_of};
+ghost use Rattle.term_model.specs.Delta.{AreOwn, moves_defined, moved, difference, value_of, delta_of, IsDelta};
+ghost use Rattle.term_model.specs.Users.{user_rules};
+ghost use Rattle.term_model.specs.VarOutcomes.{outcome_of_var};
+ghost use Rattle.term_model.specs.Wellformed.{IsWellFormed, HasDefinedSets};
+ghost use Rattle.term_model.specs.Wholes.{outcome_of_whole};
+
+use crate::definitions::{definitions_of, dependencies_of};
+use crate::evaluation::Setting;
+use crate::model::Model;
+use crate::outcome::Failure;
+use crate::settling::{Tables, outcomes_of};
+use crate::users::UserValues;
+use crate::wholes::{Whole, whole_outcome};
+use cbl_base::{NoMemory, Place, RunFault, sub};
+use std::alloc::Global;
+
+/// An assignment of a number to a variable, or a swap of two variables' numbers.
+#[derive(Clone, Copy, PartialEq, Eq, Debug)]
+pub enum Move {
+    Assign { var: u32, value: i64 },
+    Swap { left: u32, right: u32 },
+}
+
+/// Why there is no delta: a fault of the call itself, a fault with its place in the model, or no memory.
+#[derive(Clone, Copy, PartialEq, Eq, Debug)]
+pub enum DeltaStop {
+    Run(RunFault),
+    Fault(Place, RunFault),
+    NoMemory,
+}
+
+impl From<NoMemory> for DeltaStop {
+    ghost use Rattle.std.specs.Prelude.{◌≡◌};
+    ghost use Rattle.term_model.specs.declared.deltas.DeltaStop.TheVariants.{NoMemory as WithoutMemory};
+
+    ghost from_gives = { λ _ stop. stop ≡ WithoutMemory };
+
+    fn from(_error: NoMemory) -> DeltaStop {
+        DeltaStop::NoMemory
+    }
+}
+
+/// What a system or an objective comes to, which was declared at this place.
+#[tactic(auto, using(crate::proofs::SameWholes::settled_whole))]
+pub(crate) fn outcome_in<U: UserValues>(
+    alloc: Global,
+    model: &Model,
+    assignment: &[i64],
+    users: &U,
+    whole: Whole,
+    place: Place,
+) -> Result<Result<i64, Failure>, NoMemory>
+    requires well_formed { IsWellFormed model.now }
+    requires sets { HasDefinedSets model.now }
+    requires acyclic { IsAcyclic model.now }
+    requires assigned { length assignment.now ≡ length model.now.vars.items }
+    ensures { IfOk result (λ o. o ≡ outcome_of_whole (user_rules (U.viol_of users.now) (U.viol_at users.now)) model.now (outcome_of_var (user_rules (U.viol_of users.now) (U.viol_at users.now)) model.now assignment.now) whole place) }
+{
+    let definitions = definitions_of(alloc, model)?;
+    let named = dependencies_of(alloc, &model.defs, &definitions)?;
+    let tables = Tables {
+        alloc,
+        users,
+        model,
+        assignment,
+        definitions,
+        named,
+    };
+    let cells = outcomes_of(&tables)?;
+    let setting = Setting {
+        alloc,
+        users,
+        model,
+        cells: &cells,
+    };
+    whole_outcome(&setting, whole, place)
+}
+
+/// Whether a variable has a definition.
+fn is_defined(alloc: Global, model: &Model, var: u32) -> Result<bool, NoMemory>
+    requires { var < length model.now.vars.items }
+    ensures { IfOk result (λ b. b ≡ is_some (definition_of model.now var)) }
+{
+    let definitions = definitions_of(alloc, model)?;
+    Ok(definitions[var as usize].is_some())
+}
+
+/// Whether a moved variable has a definition.
+fn moves_defined(alloc: Global, model: &Model, change: Move) -> Result<bool, NoMemory>
+    requires { AreOwn model.now change }
+    ensures { IfOk result (λ b. b ≡ moves_defined model.now change) }
+{
+    match change {
+        Move::Assign { var, value: _ } => is_defined(alloc, model, var),
+        Move::Swap { left, right } => {
+            let is_left = is_defined(alloc, model, left)?;
+            let is_right = is_defined(alloc, model, right)?;
+            Ok(is_left || is_right)
+        }
+    }
+}
+
+/// The assignment after a move.
+fn moved(
+    alloc: Global,
+    model: &Model,
+    assignment: &[i64],
+    change: Move,
+) -> Result<Vec<i64>, NoMemory>
+    requires own { AreOwn model.now change }
+    requires assigned { length assignment.now ≡ length model.now.vars.items }
+    ensures moved { IfOk result (λ v. v.items ≡ moved assignment.now change) }
+    ensures count { IfOk result (λ v. length v.items ≡ length model.now.vars.items) }
+{
+    let mut numbers = Vec::from_slice(alloc, assignment)?;
+    match change {
+        Move::Assign { var, value } => numbers[var as usize] = value,
+        Move::Swap { left, right } => {
+            numbers[left as usize] = assignment[right as usize];
+            numbers[right as usize] = assignment[left as usize];
+        }
+    }
+    Ok(numbers)
+}
+
+/// The difference of two values, or why there is none.
+fn difference(after: Result<i64, Failure>, now: Result<i64, Failure>) -> Result<i64, DeltaStop>
+    ensures { IsDelta (difference after now) result }
+{
+    let after = match after {
+        Ok(after) => after,
+        Err(failure) => return Err(DeltaStop::Fault(failure.place, failure.fault)),
+    };
+    let now = match now {
+        Ok(now) => now,
+        Err(failure) => return Err(DeltaStop::Fault(failure.place, failure.fault)),
+    };
+    match sub(after, now) {
+        Ok(delta) => Ok(delta),
+        Err(fault) => Err(DeltaStop::Run(fault)),
+    }
+}
+
+/// The delta of a system or an objective that was declared at this place: its value after the move less its
+/// value now.
+///
+/// `Run(DefinedVariable)` comes exactly where a moved variable has a definition; else `Fault` exactly where
+/// the system or objective has one after the move or now, that after the move first; else `Run(Overflow)`
+/// exactly where the difference doesn't fit 64 bits. Each yields only to `NoMemory`.
+pub fn delta<U: UserValues>(
+    alloc: Global,
+    model: &Model,
+    assignment: &[i64],
+    users: &U,
+    whole: Whole,
+    place: Place,
+    change: Move,
+) -> Result<i64, DeltaStop>
+    requires well_formed { IsWellFormed model.now }
+    requires sets { HasDefinedSets model.now }
+    requires acyclic { IsAcyclic model.now }
+    requires assigned { length assignment.now ≡ length model.now.vars.items }
+    requires own { AreOwn model.now change }
+    ensures { IsDelta (delta_of (user_rules (U.viol_of users.now) (U.viol_at users.now)) model.now assignment.now whole place change) result }
+{
+    if moves_defined(alloc, model, change)? {
+        return Err(DeltaStop::Run(RunFault::DefinedVariable));
+    }
+    let numbers = moved(alloc, model, assignment, change)?;
+    let after = outcome_in(alloc, model, numbers.as_slice(), users, whole, place)?;
+    let now = outcome_in(alloc, model, assignment, users, whole, place)?;
+    difference(after, now)
+}

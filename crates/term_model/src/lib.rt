@@ -1,0 +1,29 @@
+//! What a solver means before any solver exists: terms, models, and what they come to under an assignment,
+//! from scratch.
+//!
+//! It knows nothing of solvers, nodes that are kept up to date, or programs. The layers above use the
+//! definitions (the kind, depth and variables of a term, a well formed and an acyclic model, the outcome of
+//! a variable, of a system and of an objective, and which of several failures is the least numbered), and
+//! that `fresh` and `fresh_with` give exactly the values that these say, or the fault of the least numbered
+//! failing subterm with its place.
+#![tactic(auto)]
+
+mod definitions;
+mod deltas;
+mod evaluation;
+mod fresh_values;
+mod model;
+mod operation;
+mod order;
+mod outcome;
+mod settling;
+mod term;
+mod users;
+mod wholes;
+
+pub use deltas::{DeltaStop, Move, delta};
+pub use fresh_values::{ModelStop, Values, fresh, fresh_with};
+pub use model::{Definition, Member, Model, Posted, Total, VarDecl, VarKind};
+pub use term::Term;
+pub use users::UserValues;
+pub use wholes::Whole;

@@ -1,0 +1,224 @@
+//! What systems and objectives come to, where the outcomes of the variables are known.
+ghost use Rattle.std.specs.Prelude.{◌≡◌, ◌+◌, IfOk, Ok, IsSome, Option, Some, length};
+ghost use Rattle.std.specs.List.{enumerate_from};
+ghost use Rattle.std.specs.Option.{option_map};
+ghost use Rattle.term_model.specs.Fresh.{totals_by, whole_by, gather_total, add_total, totals_in};
+ghost use Rattle.term_model.specs.Kinds.{kinds_in};
+ghost use Rattle.term_model.specs.Outcomes.{HasKinds, env_of};
+ghost use Rattle.term_model.specs.Users.{user_rules};
+ghost use Rattle.term_model.specs.Wellformed.{IsWellFormed};
+ghost use Rattle.term_model.specs.Wholes.{member_in, gather_number, add_posted, parts_in, seen, outcome_of_whole, total_of, HasWeights, listed_numbers};
+
+use crate::evaluation::{Setting, earlier, term_outcome};
+use crate::model::{Member, Model, Posted, Total};
+use crate::operation::number_of;
+use crate::outcome::{Failure, Outcome};
+use crate::users::UserValues;
+use cbl_base::{NoMemory, Place};
+use cbl_violations::weighted_total_value;
+
+/// A system or an objective, by its number from 0.
+#[derive(Clone, Copy, PartialEq, Eq, Debug)]
+pub enum Whole {
+    System(usize),
+    Objective(usize),
+}
+
+/// The member that was posted, where it is one of the system or objective.
+fn member_in(model: &Model, whole: Whole, posted: Posted) -> Option<&Member>
+    ensures { option_map (λ m. m.now) result ≡ member_in model.now whole posted }
+{
+    let (totals, number, member) = match (whole, posted) {
+        (Whole::System(s), Posted::Constrain { system, member }) if system as usize == s => {
+            (&model.systems, s, member)
+        }
+        (Whole::Objective(o), Posted::Part { objective, member }) if objective as usize == o => {
+            (&model.objectives, o, member)
+        }
+        _ => return None,
+    };
+    totals.get(number)?.members.get(member as usize)
+}
+
+/// The numbers of members and their weights, so far; or the least numbered failure in place of the numbers.
+#[derive(Drop)]
+struct PartsHeld {
+    numbers: Result<Vec<i64>, Failure>,
+    weights: Vec<i64>,
+}
+
+/// The numbers so far and one more, or the least numbered failure.
+fn gather_number(
+    so_far: Result<Vec<i64>, Failure>,
+    outcome: Outcome,
+) -> Result<Result<Vec<i64>, Failure>, NoMemory>
+    ensures { IfOk result (λ r. listed_numbers r ≡ gather_number (listed_numbers so_far) outcome) }
+{
+    match (so_far, outcome) {
+        (Ok(mut numbers), Ok(value)) => {
+            numbers.push(number_of(&value))?;
+            Ok(Ok(numbers))
+        }
+        (Ok(_), Err(failure)) => Ok(Err(failure)),
+        (Err(failure), Ok(_)) => Ok(Err(failure)),
+        (Err(first), Err(second)) => Ok(Err(earlier(first, second))),
+    }
+}
+
+/// The parts so far and what was posted at a turn, where it is one of them.
+#[tactic(auto, using(crate::proofs::PartLaws::member_kinded, crate::proofs::PartLaws::part_added, crate::proofs::PartLaws::part_weighed))]
+fn add_posted<U: UserValues>(
+    setting: &Setting<'_, U>,
+    whole: Whole,
+    parts: PartsHeld,
+    turn: usize,
+    posted: Posted,
+) -> Result<PartsHeld, NoMemory>
+    requires well_formed { IsWellFormed setting.now.model.now }
+    requires kinds { HasKinds (kinds_in setting.now.model.now.vars.items) (env_of setting.now.cells.now) }
+    requires weighed { HasWeights (listed_numbers parts.numbers) parts.weights.items }
+    ensures parts { IfOk result (λ p. seen p ≡ add_posted (user_rules (U.viol_of setting.now.users.now) (U.viol_at setting.now.users.now)) (env_of setting.now.cells.now) setting.now.model.now whole (seen parts) (turn, posted)) }
+    ensures weighed { IfOk result (λ p. HasWeights (listed_numbers p.numbers) p.weights.items) }
+{
+    let Some(member) = member_in(setting.model, whole, posted) else {
+        return Ok(parts);
+    };
+    let outcome = term_outcome(setting, turn, &member.term)?;
+    let numbers = gather_number(parts.numbers, outcome)?;
+    let mut weights = parts.weights;
+    weights.push(member.weight)?;
+    Ok(PartsHeld { numbers, weights })
+}
+
+/// The parts of a system or an objective, in order of posting.
+#[tactic(auto, using(crate::proofs::PartLaws::parts_more, crate::proofs::PartLaws::parts_all))]
+fn parts_of<U: UserValues>(setting: &Setting<'_, U>, whole: Whole) -> Result<PartsHeld, NoMemory>
+    requires well_formed { IsWellFormed setting.now.model.now }
+    requires kinds { HasKinds (kinds_in setting.now.model.now.vars.items) (env_of setting.now.cells.now) }
+    ensures parts { IfOk result (λ p. seen p ≡ parts_in (user_rules (U.viol_of setting.now.users.now) (U.viol_at setting.now.users.now)) (env_of setting.now.cells.now) setting.now.model.now whole (enumerate_from 0 setting.now.model.now.posted.items)) }
+    ensures weighed { IfOk result (λ p. HasWeights (listed_numbers p.numbers) p.weights.items) }
+{
+    let mut parts = PartsHeld {
+        numbers: Ok(Vec::new(setting.alloc)),
+        weights: Vec::new(setting.alloc),
+    };
+    for turn in 0..setting.model.posted.len() {
+        parts = add_posted(setting, whole, parts, turn, setting.model.posted[turn])?;
+    }
+    Ok(parts)
+}
+
+/// The total of numbers, each times its weight, that was declared at this place.
+fn total_of(
+    turn: usize,
+    place: Place,
+    numbers: Vec<i64>,
+    weights: &[i64],
+) -> Result<Result<i64, Failure>, NoMemory>
+    requires { length numbers.items ≡ length weights.now }
+    ensures { IfOk result (λ o. o ≡ total_of turn place (Ok numbers.items) weights.now) }
+{
+    let mut inputs = numbers;
+    inputs.extend_from_slice(weights)?;
+    match weighted_total_value(&inputs, weights.len()) {
+        Ok(total) => Ok(Ok(total)),
+        Err(fault) => Ok(Err(Failure { turn, place, fault })),
+    }
+}
+
+/// What a system or an objective comes to that was declared at this place.
+#[tactic(auto, using(crate::proofs::PartLaws::whole_from))]
+pub(crate) fn whole_outcome<U: UserValues>(
+    setting: &Setting<'_, U>,
+    whole: Whole,
+    place: Place,
+) -> Result<Result<i64, Failure>, NoMemory>
+    requires well_formed { IsWellFormed setting.now.model.now }
+    requires kinds { HasKinds (kinds_in setting.now.model.now.vars.items) (env_of setting.now.cells.now) }
+    ensures { IfOk result (λ o. o ≡ outcome_of_whole (user_rules (U.viol_of setting.now.users.now) (U.viol_at setting.now.users.now)) setting.now.model.now (env_of setting.now.cells.now) whole place) }
+{
+    let PartsHeld { numbers, weights } = parts_of(setting, whole)?;
+    match numbers {
+        Ok(numbers) => total_of(setting.model.posted.len(), place, numbers, &weights),
+        Err(failure) => Ok(Err(failure)),
+    }
+}
+
+/// All systems, or all objectives.
+#[derive(Clone, Copy, PartialEq, Eq, Debug)]
+pub(crate) enum Side {
+    Systems,
+    Objectives,
+}
+
+/// The systems or the objectives of a model.
+fn totals_by(model: &Model, side: Side) -> &[Total]
+    ensures { result.now ≡ totals_by model.now side }
+{
+    match side {
+        Side::Systems => &model.systems,
+        Side::Objectives => &model.objectives,
+    }
+}
+
+/// The system or the objective with a number.
+fn whole_by(side: Side, number: usize) -> Whole
+    ensures { result ≡ whole_by side number }
+{
+    match side {
+        Side::Systems => Whole::System(number),
+        Side::Objectives => Whole::Objective(number),
+    }
+}
+
+/// The totals so far and one more, or the least numbered failure.
+fn gather_total(
+    so_far: Result<Vec<i64>, Failure>,
+    total: Result<i64, Failure>,
+) -> Result<Result<Vec<i64>, Failure>, NoMemory>
+    ensures { IfOk result (λ r. listed_numbers r ≡ gather_total (listed_numbers so_far) total) }
+{
+    match (so_far, total) {
+        (Ok(mut totals), Ok(total)) => {
+            totals.push(total)?;
+            Ok(Ok(totals))
+        }
+        (Ok(_), Err(failure)) => Ok(Err(failure)),
+        (Err(failure), Ok(_)) => Ok(Err(failure)),
+        (Err(first), Err(second)) => Ok(Err(earlier(first, second))),
+    }
+}
+
+/// The totals so far and that of one more system or objective, or the least numbered failure.
+fn add_total<U: UserValues>(
+    setting: &Setting<'_, U>,
+    side: Side,
+    so_far: Result<Vec<i64>, Failure>,
+    number: usize,
+    total: &Total,
+) -> Result<Result<Vec<i64>, Failure>, NoMemory>
+    requires well_formed { IsWellFormed setting.now.model.now }
+    requires kinds { HasKinds (kinds_in setting.now.model.now.vars.items) (env_of setting.now.cells.now) }
+    ensures { IfOk result (λ r. listed_numbers r ≡ add_total (user_rules (U.viol_of setting.now.users.now) (U.viol_at setting.now.users.now)) setting.now.model.now (env_of setting.now.cells.now) side (listed_numbers so_far) (number, total.now)) }
+{
+    let total = whole_outcome(setting, whole_by(side, number), total.place)?;
+    gather_total(so_far, total)
+}
+
+/// The values of all systems or of all objectives, or the least numbered failure.
+#[tactic(auto, using(crate::proofs::TotalSteps::totals_all))]
+pub(crate) fn totals_in<U: UserValues>(
+    setting: &Setting<'_, U>,
+    side: Side,
+) -> Result<Result<Vec<i64>, Failure>, NoMemory>
+    requires well_formed { IsWellFormed setting.now.model.now }
+    requires kinds { HasKinds (kinds_in setting.now.model.now.vars.items) (env_of setting.now.cells.now) }
+    ensures { IfOk result (λ r. listed_numbers r ≡ totals_in (user_rules (U.viol_of setting.now.users.now) (U.viol_at setting.now.users.now)) setting.now.model.now (env_of setting.now.cells.now) side (enumerate_from 0 (totals_by setting.now.model.now side))) }
+{
+    let totals = totals_by(setting.model, side);
+    let mut so_far = Ok(Vec::new(setting.alloc));
+    for number in 0..totals.len() {
+        so_far = add_total(setting, side, so_far, number, &totals[number])?;
+    }
+    Ok(so_far)
+}
