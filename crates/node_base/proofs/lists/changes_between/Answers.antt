@@ -1,9 +1,7 @@
-use Rattle.std.proofs.Common.{◌≡◌, ◌++◌, ◌∷◌, ◌+◌, ◌∙◌, ap, sym, drop, [], ℕ, arith, length, w64, rules, get_or, int_eq, true, false}
+use Rattle.std.proofs.Common.{◌≡◌, ◌++◌, ◌∷◌, ◌+◌, ◌∙◌, ap, sym, drop, [], w64, rules, get_or, int_eq, true, false}
 use Rattle.std.specs.Prelude.{pos, FitsSigned}
 use Rattle.std.proofs.lemmas.Int.{to_z-of_z}
 use Rattle.cbl_base.specs.declared.input.Change.TheVariants.{Int as IntChange}
-use Rattle.cbl_base.specs.Inputs.{as_inputs}
-use Rattle.cbl_base.specs.Changes.{AreChanges, after_changes}
 use Rattle.node_base.proofs.ListChanges.{changes_from, are_changes_from, after_changes_from, all_done, pushed_on, step_same, step_differs}
 use Rattle.node_base.proofs.lists.changes_between.Goals as goal
 use Rattle.node_base.proofs.lists.changes_between.Goals.{then-not-are_equal+in_ok-push, else-not-are_equal}
