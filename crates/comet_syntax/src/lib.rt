@@ -18,10 +18,12 @@ mod stop;
 mod term;
 #[cfg(test)]
 mod tests;
+mod token;
 mod variables;
 
 pub use limits::{MOST_BYTES, MOST_PARENTHESES};
 pub use program::{Act, Declaration, SmallProgram};
 pub use small::read_small;
-pub use stop::{FormCause, SmallStop};
+pub use stop::{FormCause, LexStop, SmallStop};
 pub use term::{Operation, Step, Term};
+pub use token::{Token, TokenKind};
