@@ -26,4 +26,4 @@ pub use program::{Act, Declaration, SmallProgram};
 pub use small::read_small;
 pub use stop::{FormCause, LexStop, SmallStop};
 pub use term::{Operation, Step, Term};
-pub use token::{Token, TokenKind};
+pub use token::{Token, TokenKind, Word};

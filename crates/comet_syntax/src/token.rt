@@ -1,13 +1,9 @@
 //! The tokens of a text.
 use cbl_base::{Place, Text};
 
-/// What a token is: a name, a number, a string with its escapes replaced, a sign, or a keyword.
-#[derive(Drop, Debug)]
-pub enum TokenKind {
-    Name(Text),
-    /// From 0 to 9223372036854775807.
-    Number(i64),
-    Str(Text),
+/// What is spelled in one way: a sign, or a keyword.
+#[derive(Clone, Copy, PartialEq, Eq, Debug)]
+pub enum Word {
     /// `(`
     LeftParenthesis,
     /// `)`
@@ -131,6 +127,16 @@ pub enum TokenKind {
     MinNeighborSelector,
     BestMonitor,
     Solution,
+}
+
+/// What a token is: a name, a number, a string with its escapes replaced, or a sign or a keyword.
+#[derive(Drop, Debug)]
+pub enum TokenKind {
+    Name(Text),
+    /// From 0 to 9223372036854775807.
+    Number(i64),
+    Str(Text),
+    Word(Word),
 }
 
 /// A token: its kind, where it begins and where it ends in the text (the indices of its first byte and
