@@ -43,6 +43,15 @@ pub enum LexStop {
     NoMemory,
 }
 
+/// Why nothing is read at a place of a text.
+#[derive(Clone, Copy, PartialEq, Eq, Debug)]
+pub enum FrontStop {
+    /// Nothing can be read there.
+    NotRead,
+    /// There was no memory.
+    NoMemory,
+}
+
 impl From<NoMemory> for SmallStop {
     ghost use Rattle.comet_syntax.specs.declared.stop.SmallStop.TheVariants as stops;
 
@@ -100,5 +109,35 @@ impl<T: Drop> From<AllocFailed<T>> for LexStop {
 
     fn from(_error: AllocFailed<T>) -> LexStop {
         LexStop::NoMemory
+    }
+}
+
+impl From<NoMemory> for FrontStop {
+    ghost use Rattle.comet_syntax.specs.declared.stop.FrontStop.TheVariants as stops;
+
+    ghost from_gives = { λ _ stop. stop ≡ stops.NoMemory };
+
+    fn from(_error: NoMemory) -> FrontStop {
+        FrontStop::NoMemory
+    }
+}
+
+impl From<AllocError> for FrontStop {
+    ghost use Rattle.comet_syntax.specs.declared.stop.FrontStop.TheVariants as stops;
+
+    ghost from_gives = { λ _ stop. stop ≡ stops.NoMemory };
+
+    fn from(_error: AllocError) -> FrontStop {
+        FrontStop::NoMemory
+    }
+}
+
+impl<T: Drop> From<AllocFailed<T>> for FrontStop {
+    ghost use Rattle.comet_syntax.specs.declared.stop.FrontStop.TheVariants as stops;
+
+    ghost from_gives = { λ _ stop. stop ≡ stops.NoMemory };
+
+    fn from(_error: AllocFailed<T>) -> FrontStop {
+        FrontStop::NoMemory
     }
 }
