@@ -1,5 +1,5 @@
 -- A loaded program that ran to its own end ended as meant.
-use Rattle.std.proofs.Common.{◌≡◌, ◌≢◌, ◌⊎◌, ◌++◌, ℕ, List, Option, Some, sym, subst, inl, inr}
+use Rattle.std.proofs.Common.{◌≡◌, ◌≢◌, ◌⊎◌, ℕ, List, Option, Some, sym, subst, inl, inr}
 use Rattle.std.proofs.lemmas.Bool.Decides.{eqb_tells}
 use Rattle.std.specs.FinMap as map
 use Rattle.cbl_io.specs.Appended.{Appends}
@@ -8,7 +8,7 @@ use Rattle.comet_syntax.specs.declared.program.Declaration.{Declaration}
 use Rattle.comet_syntax.specs.declared.program.Act.{Act}
 use Rattle.stmt_run.specs.Meaning.{meaning_of}
 use Rattle.comet.specs.Loading.{IsLoaded}
-use Rattle.comet.specs.Output.{RunOutput, GivesNamed, GivesHeld, EndsAsMeant, Decides}
+use Rattle.comet.specs.Output.{GivesNamed, GivesHeld, EndsAsMeant, Decides}
 use Rattle.comet.specs.Status.{cause_of}
 use Rattle.comet.specs.Words.{program_named}
 use Rattle.comet.specs.declared.report.Cause.{Cause}

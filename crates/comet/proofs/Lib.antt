@@ -1,3 +1,4 @@
 pub mod Ending
 pub mod Fronts
 pub mod Loaded
+pub mod Pieces

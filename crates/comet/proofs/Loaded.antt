@@ -1,76 +1,106 @@
 -- What is read of a file decides what its whole text spells, though it is cut behind the limit.
-use Rattle.std.proofs.Common.{◌≡◌, ◌+◌, ◌≤◌, ℕ, List, [], Option, Some, None, length, take, refl, sym, ◌∙◌, ap, subst, inl, inr, arith}
+use Rattle.std.proofs.Common.{◌≡◌, ◌+◌, ◌<◌, ◌≤◌, ◌⊎◌, ℕ, Bool, true, false, List, [], Option, Some, None, length, take, refl, sym, ◌∙◌, ap, subst, inl, inr, arith}
+use Rattle.std.specs.Prelude.{nat_le, Result, IfErr}
+use Rattle.std.specs.Result.{IsErrAnd}
+use Rattle.std.proofs.lemmas.Result.{err_from_is_err_and}
 use Rattle.std.proofs.lemmas.List.{take_all, length-take}
 use Rattle.std.specs.FinMap as map
 use Rattle.cbl_io.specs.Held.{Held, IsRead}
-use Rattle.comet_syntax.specs.Small.{Spells}
+use Rattle.cbl_base.specs.declared.place.Place.{Place}
+use Rattle.comet_syntax.specs.Tokens.TokenFault.{HasTokenFault, too_long, not_utf8, not_read}
+use Rattle.comet_syntax.specs.declared.stop.FormCause.{FormCause}
 use Rattle.comet_syntax.specs.declared.program.Declaration.{Declaration}
 use Rattle.comet_syntax.specs.declared.program.Act.{Act}
 use Rattle.comet_syntax.specs.declared.limits.TheConstants.{MOST_BYTES}
-use Rattle.comet_syntax.specs.declared.stop.FormCause.TheVariants.{NotBuilt}
-use Rattle.stmt_run.specs.Meaning.{meaning_of, first_place}
-use Rattle.comet.specs.Output.{Gives, Runs, GivesHeld}
-use Rattle.comet.specs.Loading.{IsLoaded, IsWhatItGives}
+use Rattle.stmt_run.specs.Meaning.{meaning_of}
+use Rattle.comet.specs.Output.{Gives, runs, not_built, ill_formed, GivesHeld}
+use Rattle.comet.specs.Loading.{HasProgram, IsTextStop, IsLoaded, IsWhatItGives, IsLoadStop}
 use Rattle.comet.specs.Status.{cause_of}
 use Rattle.comet.specs.declared.report.Cause.{Cause}
 use Rattle.comet.specs.declared.report.Cause.TheVariants as causes
 
--- bytes cut behind a limit that are within it are the whole text
-read_whole : (n : ℕ) (bytes whole : List ℕ) → bytes ≡ take (n + 1) whole → length bytes ≤ n → bytes ≡ whole
-read_whole n bytes whole cut short =
-    let cut_short : length whole ≤ n + 1 = omega (arith, ap length cut, length-take (n + 1) whole) in
-    cut ∙ take_all (n + 1) whole cut_short
-
--- and so are those of a whole text that is within it
+-- what is read of a text that is within the limit is the whole text
 short_is_read : (n : ℕ) (bytes whole : List ℕ) → bytes ≡ take (n + 1) whole → length whole ≤ n → bytes ≡ whole
 short_is_read n bytes whole cut short =
     let fits : length whole ≤ n + 1 = omega arith in
     cut ∙ take_all (n + 1) whole fits
 
--- what the bytes that were read spell is what the whole text spells
-bytes_spell : (bytes whole : List ℕ) (declarations : List Declaration) (acts : List Act) → bytes ≡ take (MOST_BYTES + 1) whole → Spells whole declarations acts → Spells bytes declarations acts
-bytes_spell bytes whole declarations acts cut spelled =
-    subst (λ text. Spells text declarations acts) (sym (short_is_read MOST_BYTES bytes whole cut spelled.0)) spelled
+-- texts that are the same, or both too long
+abbrev pub SameOrLong : List ℕ → List ℕ → Type 0
+SameOrLong a b = (a ≡ b) ⊎ ((MOST_BYTES < length a) × (MOST_BYTES < length b))
 
-whole_spells : (bytes whole : List ℕ) (declarations : List Declaration) (acts : List Act) → bytes ≡ take (MOST_BYTES + 1) whole → Spells bytes declarations acts → Spells whole declarations acts
-whole_spells bytes whole declarations acts cut spelled =
-    subst (λ text. Spells text declarations acts) (read_whole MOST_BYTES bytes whole cut spelled.0) spelled
+up_to_or_past : (m n : ℕ) → (m ≤ n) ⊎ (n < m)
+up_to_or_past m n = by_test (nat_le m n) refl
+  where
+    by_test : (b : Bool) → nat_le m n ≡ b → (m ≤ n) ⊎ (n < m)
+    by_test true h = inl (grind arith)
+    by_test false h = inr (grind arith)
+
+long_is_read : (n : ℕ) (bytes whole : List ℕ) → bytes ≡ take (n + 1) whole → n < length whole → n < length bytes
+long_is_read n bytes whole cut long = let size : length bytes ≡ length (take (n + 1) whole) = ap length cut in omega (arith, size, length-take (n + 1) whole, long)
+
+read_alike : (bytes whole : List ℕ) → bytes ≡ take (MOST_BYTES + 1) whole → SameOrLong bytes whole
+read_alike bytes whole cut = elim (up_to_or_past (length whole) MOST_BYTES) [
+  | inl short ↦ inl (short_is_read MOST_BYTES bytes whole cut short)
+  | inr long ↦ inr (long_is_read MOST_BYTES bytes whole cut long, long)
+]
+
+other_way : {a b : List ℕ} → SameOrLong a b → SameOrLong b a
+other_way (inl e) = inl (sym e)
+other_way (inr (x, y)) = inr (y, x)
+
+-- and they give the same
+gives_alike : {a b : List ℕ} {cause : Cause} {printed : List ℕ} → SameOrLong a b → Gives a cause printed → Gives b cause printed
+gives_alike {cause = cause} {printed = printed} (inl e) gives = subst (λ text. Gives text cause printed) e gives
+gives_alike (inr (x, y)) (runs r) = absurd (omega (arith, x, r.listed.short))
+gives_alike (inr (x, y)) (not_built r) = absurd (omega (arith, x, r.listed.short))
+gives_alike {b = b} (inr (x, y)) (ill_formed r) = ill_formed (record { place = r.place; form = r.form; fault = long_fault r.fault x y; ends = r.ends; prints = r.prints })
+  where
+    long_fault : {a c : List ℕ} {place : Place} {form : FormCause} → HasTokenFault a place form → MOST_BYTES < length a → MOST_BYTES < length c → HasTokenFault c place form
+    long_fault (too_long h) p q = too_long q
+    long_fault (not_utf8 short h k) p q = absurd (omega (arith, p, short))
+    long_fault (not_read short h k) p q = absurd (omega (arith, p, short))
 
 -- the text that is held gives the meaning of the one program that the bytes spell
-only_meaning : (bytes whole : List ℕ) (declarations : List Declaration) (acts : List Act) (cause : Cause) (printed : List ℕ) →
-    bytes ≡ take (MOST_BYTES + 1) whole → Spells bytes declarations acts →
-    ((ds : List Declaration) (as' : List Act) → Spells bytes ds as' → (ds ≡ declarations) × (as' ≡ acts)) →
-    Gives whole cause printed → printed ≡ (meaning_of declarations acts).printed
-only_meaning bytes whole declarations acts cause printed cut spelled only (inl runs) =
-    let one : (runs.declarations ≡ declarations) × (runs.acts ≡ acts) =
-    only runs.declarations runs.acts (bytes_spell bytes whole runs.declarations runs.acts cut runs.spelled) in
-    runs.prints ∙ ap (λ ds. (meaning_of ds runs.acts).printed) one.0 ∙ ap (λ xs. (meaning_of declarations xs).printed) one.1
-only_meaning bytes whole declarations acts cause printed cut spelled only (inr refused) =
-    absurd (refused.not_small declarations acts (whole_spells bytes whole declarations acts cut spelled))
+only_meaning : {text : List ℕ} {declarations : List Declaration} {acts : List Act} {cause : Cause} {printed : List ℕ} →
+    HasProgram text declarations acts → Gives text cause printed → printed ≡ (meaning_of declarations acts).printed
+only_meaning {declarations = declarations} {acts = acts} has (runs r) =
+    let one : (r.declarations ≡ declarations) × (r.acts ≡ acts) = has.only r.declarations r.acts r.spelled in
+    r.prints ∙ ap (λ ds. (meaning_of ds r.acts).printed) one.0 ∙ ap (λ xs. (meaning_of declarations xs).printed) one.1
+only_meaning {declarations = declarations} {acts = acts} has (not_built r) = absurd (r.not_small declarations acts has.spelled)
+only_meaning has (ill_formed r) = absurd (has.no_fault r.place r.form r.fault)
 
 pub loaded : (told : Option Held) (name bytes : List ℕ) (declarations : List Declaration) (acts : List Act) (held : Held) →
-    IsRead told name MOST_BYTES bytes → Spells bytes declarations acts →
-    ((ds : List Declaration) (as' : List Act) → Spells bytes ds as' → (ds ≡ declarations) × (as' ≡ acts)) →
-    told ≡ Some held → IsLoaded name held declarations acts
-loaded told name bytes declarations acts held read spelled only is_told =
+    IsRead told name MOST_BYTES bytes → HasProgram bytes declarations acts → told ≡ Some held → IsLoaded name held declarations acts
+loaded told name bytes declarations acts held read has is_told =
     let known : IsRead (Some held) name MOST_BYTES bytes = subst (λ o. IsRead o name MOST_BYTES bytes) is_told read in
     let whole : List ℕ = known.0 in
     let found : map.get held name ≡ Some whole = known.1 in
-    let cut : bytes ≡ take (MOST_BYTES + 1) whole = known.2 in
-    let runs : Runs whole (cause_of (meaning_of declarations acts).end) (meaning_of declarations acts).printed =
-    record { declarations = declarations; acts = acts; spelled = whole_spells bytes whole declarations acts cut spelled; ends = refl; prints = refl } in
+    let alike : SameOrLong bytes whole = read_alike bytes whole known.2 in
+    let meant : Gives bytes (cause_of (meaning_of declarations acts).end) (meaning_of declarations acts).printed =
+    runs (record { tokens = has.tokens; listed = has.listed; declarations = declarations; acts = acts; spelled = has.spelled; ends = refl; prints = refl }) in
     record {
-      gives = subst (λ o. GivesHeld o (cause_of (meaning_of declarations acts).end) (meaning_of declarations acts).printed) (sym found) (inl runs);
-      only = λ cause printed given.
-          only_meaning bytes whole declarations acts cause printed cut spelled only (subst (λ o. GivesHeld o cause printed) found given);
+      gives = subst (λ o. GivesHeld o (cause_of (meaning_of declarations acts).end) (meaning_of declarations acts).printed) (sym found) (gives_alike alike meant);
+      only = λ cause printed given. only_meaning has (gives_alike (other_way alike) (subst (λ o. GivesHeld o cause printed) found given));
     }
 
--- a text that spells no small program gives its refusal
-pub refused : (told : Option Held) (name bytes : List ℕ) → IsRead told name MOST_BYTES bytes →
-    ((ds : List Declaration) (as' : List Act) → Spells bytes ds as' → ⊥) → IsWhatItGives told name (causes.IllFormed first_place NotBuilt)
-refused None name bytes read none = tt
-refused (Some held) name bytes read none =
-    let no_program : (ds : List Declaration) (as' : List Act) → Spells read.0 ds as' → ⊥ =
-    λ ds as' spelled. none ds as' (bytes_spell bytes read.0 ds as' read.2 spelled) in
-    subst (λ o. GivesHeld o (causes.IllFormed first_place NotBuilt) []) (sym read.1)
-    (inr (record { not_small = no_program; ends = refl; prints = refl }))
+-- a text that is refused gives its refusal
+pub refused : (told : Option Held) (name bytes : List ℕ) (place : Place) (form : FormCause) → IsRead told name MOST_BYTES bytes →
+    Gives bytes (causes.IllFormed place form) [] → IsWhatItGives told name (causes.IllFormed place form)
+refused None name bytes place form read gives = tt
+refused (Some held) name bytes place form read gives =
+    subst (λ o. GivesHeld o (causes.IllFormed place form) []) (sym read.1) (gives_alike (read_alike bytes read.0 read.2) gives)
+
+-- why a text has no program is why it can't be loaded
+pub stopped : (told : Option Held) (name bytes : List ℕ) (cause : Cause) (old new : ℕ) → IsRead told name MOST_BYTES bytes → IsTextStop bytes cause → IsLoadStop cause name told old new
+stopped told name bytes (causes.IllFormed place form) old new read stop = refused told name bytes place form read stop
+stopped told name bytes causes.NoMemory old new read stop = tt
+stopped told name bytes causes.Done old new read stop = absurd stop
+stopped told name bytes causes.Words old new read stop = absurd stop
+stopped told name bytes (causes.Run place fault) old new read stop = absurd stop
+stopped told name bytes (causes.Read role) old new read stop = absurd stop
+stopped told name bytes causes.Write old new read stop = absurd stop
+
+-- the exit of a `?` passes a cause on
+pub passes : {T : Type 0} (P : Cause → Type 0) (r : Result T Cause) (cause : Cause) → IsErrAnd r (λ e. e ≡ cause) → P cause → IfErr r P
+passes P r cause h f = let p = err_from_is_err_and r h in rw p.1 (subst P (sym p.2) f)

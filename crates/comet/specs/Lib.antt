@@ -1,3 +1,4 @@
+pub mod Line
 pub mod Loading
 pub mod Output
 pub mod Status

@@ -1,7 +1,7 @@
 //! Whole runs over memory: the worked examples, and what a user meets at the edges.
 ghost use Rattle.std.specs.Prelude.{◌<◌};
 
-use crate::{Cause, FileRole, Report, comet_run, words_form};
+use crate::{Cause, FileRole, Report, comet_run, say, words_form};
 use cbl_base::{Place, RunFault};
 use cbl_io::{MemFiles, MemSink};
 use comet_syntax::FormCause;
@@ -18,6 +18,7 @@ const PLACE: Place = Place { line: 1, col: 1 };
 struct Left {
     report: Report,
     sink: MemSink,
+    err: MemSink,
 }
 
 /// Runs the file `p`, whose text this is, with these words, over a sink that takes `most` bytes a
@@ -35,8 +36,9 @@ fn run_words(
     let entries = vec![in alloc; (name, text.to_vec(alloc)?)]?;
     let mut files = MemFiles::new(alloc, entries, Vec::new(alloc));
     let mut sink = MemSink::new(alloc, 4096, most, failing)?;
-    let report = comet_run(alloc, words, &mut files, &mut sink);
-    Ok(Left { report, sink })
+    let mut err = MemSink::new(alloc, 4096, 4096, Vec::new(alloc))?;
+    let report = comet_run(alloc, words, &mut files, &mut sink, &mut err);
+    Ok(Left { report, sink, err })
 }
 
 fn run_text(alloc: Global, text: &[u8]) -> Result<Left, Fail> {
@@ -50,6 +52,7 @@ fn square_invariant(rt: HostRuntime) -> Result<(), Fail> {
     assert_eq!(rt; left.report.status, 0);
     assert_eq!(rt; left.report.cause, Cause::Done);
     assert!(rt; left.sink.bytes() == b"10\n26\n".as_slice());
+    assert!(rt; left.err.bytes().is_empty());
     Ok(())
 }
 
@@ -127,12 +130,7 @@ fn overflow_ends_the_run(rt: HostRuntime) -> Result<(), Fail> {
 
 #[test]
 fn what_is_not_small_is_refused(rt: HostRuntime) -> Result<(), Fail> {
-    for text in [
-        "cout << 1;",
-        "// a comment",
-        "Solver<LS> m(); m.close(); x := 1;",
-        "\u{e9}",
-    ] {
+    for text in ["cout << 1;", "Solver<LS> m(); m.close(); x := 1;"] {
         let left = run_text(rt.alloc(), text.as_bytes())?;
         assert_eq!(rt; left.report.status, 2, "{text}");
         assert_eq!(rt;
@@ -141,6 +139,102 @@ fn what_is_not_small_is_refused(rt: HostRuntime) -> Result<(), Fail> {
         );
         assert!(rt; left.sink.bytes().is_empty());
     }
+    Ok(())
+}
+
+/// The refused texts, and the lines that tell why.
+const ILL_FORMED: [(&[u8], u32, u32, FormCause, &str); 6] = [
+    (
+        b"x = 1; /* ",
+        1,
+        8,
+        FormCause::BadToken,
+        "comet: 1:8: bad token\n",
+    ),
+    (
+        b"cout\n<< # 1;",
+        2,
+        4,
+        FormCause::BadToken,
+        "comet: 2:4: bad token\n",
+    ),
+    (
+        b"int x = 9223372036854775808;",
+        1,
+        9,
+        FormCause::WideNumber,
+        "comet: 1:9: number too wide\n",
+    ),
+    (
+        b"x\n\xff",
+        2,
+        1,
+        FormCause::Encoding,
+        "comet: 2:1: not UTF-8\n",
+    ),
+    (
+        b"\xc3\xa9",
+        1,
+        1,
+        FormCause::BadToken,
+        "comet: 1:1: bad token\n",
+    ),
+    (
+        b"cout << 1;",
+        1,
+        1,
+        FormCause::NotBuilt,
+        "comet: 1:1: not built yet\n",
+    ),
+];
+
+#[test]
+fn tells_why_a_text_is_refused(rt: HostRuntime) -> Result<(), Fail> {
+    for (text, line, col, cause, said) in ILL_FORMED {
+        let left = run_text(rt.alloc(), text)?;
+        assert_eq!(rt; left.report.status, 2, "{said}");
+        assert_eq!(rt;
+            left.report.cause,
+            Cause::IllFormed(Place { line, col }, cause)
+        );
+        assert!(rt; left.err.bytes() == said.as_bytes(), "{said}");
+        assert!(rt; left.sink.bytes().is_empty());
+    }
+    let too_long = vec![in rt.alloc(); b' '; 1024 * 1024 + 1]?;
+    let left = run_text(rt.alloc(), too_long.as_slice())?;
+    assert_eq!(rt;
+        left.report.cause,
+        Cause::IllFormed(PLACE, FormCause::TooLong)
+    );
+    assert!(rt; left.err.bytes() == b"comet: 1:1: text too long\n".as_slice());
+    Ok(())
+}
+
+#[test]
+fn tells_why_a_run_ended(rt: HostRuntime) -> Result<(), Fail> {
+    let alloc = rt.alloc();
+    let left = run_text(alloc, OVERFLOWS[0].0.as_bytes())?;
+    assert!(rt; left.err.bytes() == b"comet: 1:1: F1 overflow\n".as_slice());
+    let left = run_words(alloc, &[], SQUARE, 4096, Vec::new(alloc))?;
+    assert!(rt;
+        left.err.bytes()
+            == b"comet: usage: comet [--data FILE] [--seed N] [--workers N] [--fuel N] [--journal] [--replay FILE] (PROGRAM | --gen N)\n".as_slice()
+    );
+    let words = vec![in alloc; String::from_str(alloc, "q")?]?;
+    let left = run_words(alloc, words.as_slice(), SQUARE, 4096, Vec::new(alloc))?;
+    assert!(rt; left.err.bytes() == b"comet: cannot read program\n".as_slice());
+    let words = vec![in alloc; String::from_str(alloc, "p")?]?;
+    let left = run_words(alloc, words.as_slice(), SQUARE, 3, vec![in alloc; 1]?)?;
+    assert!(rt; left.err.bytes() == b"comet: cannot write\n".as_slice());
+    Ok(())
+}
+
+#[test]
+fn a_failing_standard_error_has_a_front_of_the_line(rt: HostRuntime) -> Result<(), Fail> {
+    // `come` and `t: ` are taken, `no m` is taken, and the fourth write fails
+    let mut err = MemSink::new(rt.alloc(), 4096, 4, vec![in rt.alloc(); 3]?)?;
+    say(&Cause::NoMemory, &mut err);
+    assert!(rt; err.bytes() == b"comet: no m".as_slice());
     Ok(())
 }
 

@@ -4,21 +4,67 @@ ghost use Rattle.cbl_io.specs.Appended.{Appends, AppendsFront};
 ghost use Rattle.cbl_io.specs.Faults.{HasRisen};
 ghost use Rattle.cbl_io.specs.Held.{Held};
 ghost use Rattle.stmt_run.specs.Meaning.{meaning_of};
-ghost use Rattle.comet.specs.Loading.{IsLoaded, IsLoadStop};
+ghost use Rattle.comet.specs.Line.{line_of};
+ghost use Rattle.comet.specs.Loading.{HasProgram, IsLoaded, IsLoadStop, IsTextStop};
 ghost use Rattle.comet.specs.Output.{RunOutput, Decides, EndsAsMeant};
 ghost use Rattle.comet.specs.Status.{status_of, cause_of};
 ghost use Rattle.comet.specs.Words.{program_named, texts};
 
+use crate::line::say;
 use crate::report::{Cause, FileRole, Report};
 use crate::words::program_name;
 use cbl_base::Place;
 use cbl_io::{Files, ReadStop, Sink, write_all};
-use comet_syntax::{FormCause, MOST_BYTES, SmallProgram, SmallStop, read_small};
+use comet_syntax::laws::one_token_fault;
+use comet_syntax::{FormCause, LexStop, MOST_BYTES, SmallProgram, SmallStop, lex, read_small};
 use std::alloc::Global;
 use stmt_run::run;
 
+/// Runs the program whose file the words name, writes what it prints to `out`, and a line that tells why
+/// it ended, where it isn't done, to `err`. A fault of `err` changes nothing else.
+pub fn comet_run<F: Files, O: Sink, E: Sink>(
+    alloc: Global,
+    words: &[String],
+    files: &mut F,
+    out: &mut O,
+    err: &mut E,
+) -> Report
+    ensures status { result.status ≡ status_of result.cause }
+    ensures words { (result.status ≡ 1) ↔ (program_named (texts words.now) ≡ None) }
+    ensures unwritten { (result.status ≡ 1) ⊎ (result.status ≡ 8) → O.bytes out.new ≡ O.bytes out.old }
+
+    // what is written, and the status, where no memory was wanted and nothing outside failed
+    ensures exact { (held : Held) (before : List ℕ) → F.held files.old ≡ Some held → O.bytes out.old ≡ Some before →
+        Decides result.status → EndsAsMeant (texts words.now) held before result.cause (O.bytes out.new) }
+
+    // a front of it, in any case
+    ensures front { (held : Held) (before : List ℕ) → F.held files.old ≡ Some held → O.bytes out.old ≡ Some before →
+        (cause : Cause) (printed : List ℕ) → RunOutput (texts words.now) held cause printed →
+        AppendsFront (O.bytes out.old) (O.bytes out.new) printed }
+
+    // when the outside is to blame
+    ensures read { result.status ≡ 8 → (name : List ℕ) → program_named (texts words.now) ≡ Some name →
+        HasRisen (F.faults files.old name) (F.faults files.new name) }
+    ensures write { result.status ≡ 9 → HasRisen (O.faults out.old) (O.faults out.new) }
+
+    // where nothing outside failed, only want of memory keeps the run from its end
+    ensures complete { (held : Held) (before name : List ℕ) → F.held files.old ≡ Some held → O.bytes out.old ≡ Some before →
+        program_named (texts words.now) ≡ Some name →
+        ¬ HasRisen (F.faults files.old name) (F.faults files.new name) → ¬ HasRisen (O.faults out.old) (O.faults out.new) →
+        (result.status ≡ 7) ⊎ EndsAsMeant (texts words.now) held before result.cause (O.bytes out.new) }
+
+    // the line on `err`
+    ensures said { ¬ HasRisen (E.faults err.old) (E.faults err.new) →
+        Appends (E.bytes err.old) (E.bytes err.new) (line_of result.cause) }
+    ensures said_front { AppendsFront (E.bytes err.old) (E.bytes err.new) (line_of result.cause) }
+{
+    let report = run_words(alloc, words, files, out);
+    say(&report.cause, err);
+    report
+}
+
 /// Runs the program whose file the words name, and writes what it prints to `out`.
-pub fn comet_run<F: Files, O: Sink>(
+fn run_words<F: Files, O: Sink>(
     alloc: Global,
     words: &[String],
     files: &mut F,
@@ -69,7 +115,23 @@ fn load<F: Files>(alloc: Global, files: &mut F, name: &str) -> Result<SmallProgr
         Err(ReadStop::Failed) => return Err(Cause::Read(FileRole::Program)),
         Err(ReadStop::NoMemory) => return Err(Cause::NoMemory),
     };
-    match read_small(alloc, text.as_slice()) {
+    let program = program_of(alloc, text.as_slice())?;
+    Ok(program)
+}
+
+/// The small program that a text spells. The refusal is the text's first fault where it has no token
+/// list, and otherwise `NotBuilt` at 1:1.
+fn program_of(alloc: Global, text: &[u8]) -> Result<SmallProgram, Cause>
+    ensures found { IfOk result (λ program. HasProgram text.now program.declarations.items program.acts.items) }
+    ensures refused { IfErr result (IsTextStop text.now) }
+{
+    one_token_fault();
+    let tokens = match lex(alloc, text) {
+        Ok(tokens) => tokens,
+        Err(LexStop::Fault(place, form)) => return Err(Cause::IllFormed(place, form)),
+        Err(LexStop::NoMemory) => return Err(Cause::NoMemory),
+    };
+    match read_small(alloc, text) {
         Ok(program) => Ok(program),
         Err(SmallStop::NotSmall) => Err(Cause::IllFormed(
             Place { line: 1, col: 1 },

@@ -2,7 +2,7 @@
 #![tactic(auto)]
 
 use cbl_io::{RealFiles, RealSink};
-use comet::{Cause, comet_run};
+use comet::{Cause, comet_run, say};
 use std::alloc::Global;
 use std::env;
 use std::io::ErrorKind;
@@ -10,13 +10,17 @@ use std::process::ExitCode;
 use std::rt::Env;
 
 fn main(rt: HostRuntime) -> ExitCode {
+    let mut err = RealSink::new(rt.stderr());
     let words = match words_of(&rt) {
         Ok(words) => words,
-        Err(cause) => return ExitCode::from(cause.status()),
+        Err(cause) => {
+            say(&cause, &mut err);
+            return ExitCode::from(cause.status());
+        }
     };
     let mut files = RealFiles::new(rt.alloc(), rt);
     let mut out = RealSink::new(rt.stdout());
-    let report = comet_run(rt.alloc(), words.as_slice(), &mut files, &mut out);
+    let report = comet_run(rt.alloc(), words.as_slice(), &mut files, &mut out, &mut err);
     ExitCode::from(report.status)
 }
 

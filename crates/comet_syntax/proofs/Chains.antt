@@ -12,8 +12,9 @@ use Rattle.comet_syntax.specs.declared.limits.TheConstants.{MOST_PARENTHESES}
 use Rattle.comet_syntax.specs.Lexeme.{is_number, Next, NotNext}
 use Rattle.comet_syntax.specs.Name.{is_name}
 use Rattle.comet_syntax.specs.Tree.{Tree, number, variable, join, postorder}
+use Rattle.comet_syntax.specs.Number.{number_of_digits}
 use Rattle.comet_syntax.specs.TreeCode.{tree_of, tree_of-postorder}
-use Rattle.comet_syntax.specs.Expression.{Part, sum, product, primary, rest_of_sum, rest_of_product, number_of_digits, leaf_of, IsPart, a_sum, added, subtracted, sum_ends, a_product, multiplied, product_ends, a_leaf, in_parentheses, IsEndedExpression}
+use Rattle.comet_syntax.specs.Expression.{Part, sum, product, primary, rest_of_sum, rest_of_product, leaf_of, IsPart, a_sum, added, subtracted, sum_ends, a_product, multiplied, product_ends, a_leaf, in_parentheses, IsEndedExpression}
 use Rattle.comet_syntax.specs.Reading.{Reads, Refuses, IsSumJoiner}
 use Rattle.comet_syntax.proofs.Lexing.{next_one, next_shorter, apart}
 use Rattle.comet_syntax.proofs.OneTerm.{next_rest, next_from, moved, joined_sum, joined_product, one_term, leaf_is_bare}

@@ -5,7 +5,7 @@ use Rattle.std.proofs.Common.{arith, ap, sym, ◌∙◌, subst, add-one}
 use Rattle.std.proofs.Math.ListN.{drop_of_length-le}
 use Rattle.std.proofs.Math.Seq.{drop-cons}
 use Rattle.comet_syntax.specs.Lexeme.{is_digit}
-use Rattle.comet_syntax.specs.Expression.{digits_behind, number_of_digits}
+use Rattle.comet_syntax.specs.Number.{digits_behind, number_of_digits}
 use Rattle.comet_syntax.proofs.Lexing.{and_left, and_right}
 
 -- more digits spell no less

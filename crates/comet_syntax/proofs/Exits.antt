@@ -10,7 +10,7 @@ use Rattle.comet_syntax.specs.Lexeme.{Next, NextAll, NotNext}
 use Rattle.comet_syntax.proofs.OneTerm.{next_rest}
 
 -- the exit of a `?` passes a stop on
-pub passes : {T : Type 0} (P : SmallStop → Type 0) (r : Result T SmallStop) (s : SmallStop) → IsErrAnd r (λ e. e ≡ s) → P s → IfErr r P
+pub passes : {T E : Type 0} (P : E → Type 0) (r : Result T E) (s : E) → IsErrAnd r (λ e. e ≡ s) → P s → IfErr r P
 passes P r s h f = let p = err_from_is_err_and r h in rw p.1 (subst P (sym p.2) f)
 
 -- memory has run out, which refuses nothing

@@ -2,21 +2,13 @@
 -- by `*`, and a primary a number, a variable, or a sum in parentheses. A chain groups from the left, and
 -- goes on as long as the next lexeme joins. From the book. That parentheses stand at most 198 deep, and
 -- that numbers have at most 63 bits, are rules of this project.
-use Rattle.std.specs.Prelude.{◌≡◌, ◌+◌, ◌*◌, ◌-◌, ◌<◌, ◌^◌, ℕ, pos, List, [], ◌∷◌, Option, Some, None, option_map, if◌then◌else◌, nat_lt, codes}
+use Rattle.std.specs.Prelude.{◌≡◌, ◌+◌, ◌<◌, ◌^◌, ℕ, pos, List, Option, Some, None, option_map, if◌then◌else◌, nat_lt, codes}
 use Rattle.comet_syntax.specs.declared.term.Operation.TheVariants.{Add, Sub, Mul}
 use Rattle.comet_syntax.specs.declared.limits.TheConstants.{MOST_PARENTHESES}
 use Rattle.comet_syntax.specs.Lexeme.{is_number, Next, NotNext}
 use Rattle.comet_syntax.specs.Name.{is_name}
+use Rattle.comet_syntax.specs.Number.{number_of_digits}
 use Rattle.comet_syntax.specs.Tree.{Tree, number, variable, join}
-
--- the number that digits spell, behind those that spell the one before
-abbrev pub digits_behind : ℕ → List ℕ → ℕ
-digits_behind before [] = before
-digits_behind before (c ∷ cs) = digits_behind (before * 10 + (c - 48)) cs
-
--- the number that digits spell
-abbrev pub number_of_digits : List ℕ → ℕ
-number_of_digits digits = digits_behind 0 digits
 
 -- the term that a lexeme alone stands for: a number of at most 63 bits, or a variable
 abbrev pub leaf_of : (List ℕ → Option ℕ) → List ℕ → Option Tree

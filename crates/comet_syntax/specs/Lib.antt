@@ -1,8 +1,12 @@
 pub mod Expression
 pub mod Lexeme
 pub mod Name
+pub mod Number
+pub mod Place
 pub mod Reading
 pub mod Small
+pub mod Tokens
 pub mod Tree
 pub mod TreeCode
 pub mod Variables
+pub mod Word

@@ -4,9 +4,10 @@ ghost use Rattle.std.specs.List.{list_all};
 ghost use Rattle.comet_syntax.specs.Lexeme.{Next, NotNext, is_digit, is_number};
 ghost use Rattle.comet_syntax.specs.Variables.{number_of as numbers};
 ghost use Rattle.comet_syntax.specs.Tree.{Tree, postorder};
-ghost use Rattle.comet_syntax.specs.Expression.{number_of_digits, leaf_of, sum, product, primary, IsEndedExpression, IsPart};
+ghost use Rattle.comet_syntax.specs.Expression.{leaf_of, sum, product, primary, IsEndedExpression, IsPart};
 ghost use Rattle.comet_syntax.specs.Reading.{Reads, Refuses, IsSumJoiner};
 
+use crate::decimal::number;
 use crate::lexeme::{expect, is_name, is_number, next_lexeme, skip};
 use crate::limits::{MOST_BYTES, MOST_PARENTHESES};
 use crate::stop::SmallStop;
@@ -26,28 +27,6 @@ struct Joiner<'a> {
 pub struct Expression<'a> {
     pub term: Term,
     pub rest: &'a [u8],
-}
-
-/// The number that digits spell. `None` exactly where it doesn't fit 64 bits.
-fn wide_number(digits: &[u8]) -> Option<u64>
-    requires { list_all is_digit digits.now ≡ true }
-    ensures { SomeIff result (number_of_digits digits.now < 2 ^ 64) (number_of_digits digits.now) }
-{
-    let mut number: u64 = 0;
-    for digit in digits {
-        number = number
-            .checked_mul(10)?
-            .checked_add(u64::from(*digit - b'0'))?;
-    }
-    Some(number)
-}
-
-/// The number that digits spell. `None` exactly where it doesn't fit 64 bits signed.
-fn number(digits: &[u8]) -> Option<i64>
-    requires { is_number digits.now ≡ true }
-    ensures { result ≡ (if nat_lt (number_of_digits digits.now) (2 ^ 63) then Some (pos (number_of_digits digits.now)) else None) }
-{
-    i64::try_from(wide_number(digits)?).ok()
 }
 
 /// The step of the number or the variable that a lexeme stands for. `None` exactly where it stands for

@@ -80,7 +80,7 @@ pub struct Lexeme<'a> {
     pub rest: &'a [u8],
 }
 
-fn is_space(c: u8) -> bool
+pub fn is_space(c: u8) -> bool
     ensures { result ≡ lexeme.is_space c }
 {
     c == b' ' || c == b'\t' || c == b'\r' || c == b'\n'
@@ -92,7 +92,7 @@ fn is_letter(c: u8) -> bool
     (b'A' <= c && c <= b'Z') || (b'a' <= c && c <= b'z') || c == b'_'
 }
 
-fn is_digit(c: u8) -> bool
+pub fn is_digit(c: u8) -> bool
     ensures { result ≡ lexeme.is_digit c }
 {
     b'0' <= c && c <= b'9'
@@ -208,7 +208,7 @@ fn sign_len(text: &[u8]) -> usize
 }
 
 /// The length of the longest lexeme at the front of a text, or 0.
-fn lexeme_len(text: &[u8]) -> usize
+pub fn lexeme_len(text: &[u8]) -> usize
     ensures bound { result ≤ length text.now }
     ensures is_lexeme { 0 < result → IsLexeme (take result text.now) }
     ensures longest { (bytes rest : List ℕ) →

@@ -1,6 +1,6 @@
-//! The limits of small texts.
+//! The limits of texts.
 
-/// How many bytes a small text has at most.
+/// How many bytes a text has at most.
 pub const MOST_BYTES: usize = 1_048_576;
 
 /// How deep parentheses stand in an expression at most.

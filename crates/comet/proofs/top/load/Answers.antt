@@ -1,12 +1,9 @@
-use Rattle.comet.proofs.Loaded.{loaded, refused}
+use Rattle.comet.proofs.Loaded.{loaded, stopped, passes}
 use Rattle.comet.proofs.top.load.Goals as goal
 
-pub returns-in-Ok-read_small-clause-loaded : goal.returns-in-Ok-read_small-clause-loaded
-returns-in-Ok-read_small-clause-loaded g c = λ held.
-    loaded _ _ c.as_slice.result.now _ _ held (rw c.as_slice.ensures.value c.in-Ok.ensures.ok)
-    c.in-Ok-read_small.ensures.found c.in-Ok-read_small.ensures.only
+pub returns-in_err-program-clause-refused : goal.returns-in_err-program-clause-refused
+returns-in_err-program-clause-refused g c = passes _ _ c.in_err-program.field-0.0 c.from_residual.ensures.1
+    (stopped _ _ c.as_slice.result.now _ _ _ (rw c.as_slice.ensures.value c.in-Ok.ensures.ok) c.in_err-program.ensures.refused)
 
-pub returns-in-Err-NotSmall-clause-refused : goal.returns-in-Err-NotSmall-clause-refused
-returns-in-Err-NotSmall-clause-refused g c =
-    refused _ _ c.as_slice.result.now (rw c.as_slice.ensures.value c.in-Ok.ensures.ok)
-    (c.in-Err-NotSmall.ensures.refused (cc))
+pub returns-clause-loaded : goal.returns-clause-loaded
+returns-clause-loaded g c = λ held. loaded _ _ c.as_slice.result.now _ _ held (rw c.as_slice.ensures.value c.in-Ok.ensures.ok) c.in_ok-program.ensures.found

@@ -1,8 +1,8 @@
 use Rattle.std.specs.Prelude.{◌≡◌, ◌<◌, ◌+◌, ◌*◌, ◌-◌, ◌^◌, slice_index, drop}
 use Rattle.std.proofs.Common.{arith, ap, sym, subst, ◌∙◌}
-use Rattle.comet_syntax.specs.Expression.{digits_behind}
+use Rattle.comet_syntax.specs.Number.{digits_behind}
 use Rattle.comet_syntax.proofs.Digits.{at_least, digit_here, digits_step, no_more_digits}
-use Rattle.comet_syntax.proofs.expression.wide_number.Goals as goal
+use Rattle.comet_syntax.proofs.decimal.wide_number.Goals as goal
 
 pub returns-in_err-checked_mul : goal.returns-in_err-checked_mul
 returns-in_err-checked_mul c = rw c.from_residual.ensures (λ fits. c.in_err-checked_mul.ensures (omega (arith, at_least c.args.digits.now c.loop-digit.digit-index c.loop-digit.number c.loop-digit-test.true c.loop-digit.invariant.so_far)))

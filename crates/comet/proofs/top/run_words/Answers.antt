@@ -1,5 +1,5 @@
 use Rattle.comet.proofs.Ending.{ends_as_meant, ends_or_wants}
-use Rattle.comet.proofs.top.comet_run.Goals as goal
+use Rattle.comet.proofs.top.run_words.Goals as goal
 
 pub returns-in-Ok-clause-complete : goal.returns-in-Ok-clause-complete
 returns-in-Ok-clause-complete g c = λ held before name is_held told named no_fault no_write.

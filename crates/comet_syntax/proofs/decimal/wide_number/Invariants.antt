@@ -1,8 +1,8 @@
 use Rattle.std.specs.Prelude.{◌≡◌, ◌<◌, ◌^◌, true, drop}
 use Rattle.std.specs.List.{list_all}
 use Rattle.comet_syntax.specs.Lexeme.{is_digit}
-use Rattle.comet_syntax.specs.Expression.{digits_behind, number_of_digits}
-use Rattle.comet_syntax.proofs.expression.wide_number.Given as goal
+use Rattle.comet_syntax.specs.Number.{digits_behind, number_of_digits}
+use Rattle.comet_syntax.proofs.decimal.wide_number.Given as goal
 
 abbrev pub invariant-loop-digit : goal.invariant-loop-digit
 invariant-loop-digit l = record {

@@ -1,0 +1,54 @@
+-- The line on the standard error that tells why a run ended. `Done` has none. From the language, section
+-- on texts.
+use Rattle.std.specs.Prelude.{ℕ, List, [], ◌∷◌, ◌++◌, codes, decimal}
+use Rattle.cbl_base.specs.declared.place.Place.{Place}
+use Rattle.cbl_base.specs.declared.faults.RunFault.{RunFault}
+use Rattle.cbl_base.specs.Faults.{code_of, text_of}
+use Rattle.comet_syntax.specs.declared.stop.FormCause.{FormCause}
+use Rattle.comet_syntax.specs.declared.stop.FormCause.TheVariants.{Encoding, TooLong, BadToken, WideNumber, Unexpected, UnexpectedEnd, TooDeep, NotBuilt}
+use Rattle.comet.specs.declared.report.Cause.{Cause}
+use Rattle.comet.specs.declared.report.Cause.TheVariants as causes
+use Rattle.comet.specs.declared.report.FileRole.{FileRole}
+use Rattle.comet.specs.declared.report.FileRole.TheVariants.{Program}
+
+abbrev pub form_text : FormCause → List ℕ
+form_text Encoding = codes "not UTF-8"
+form_text TooLong = codes "text too long"
+form_text BadToken = codes "bad token"
+form_text WideNumber = codes "number too wide"
+form_text Unexpected = codes "unexpected token"
+form_text UnexpectedEnd = codes "unexpected end of text"
+form_text TooDeep = codes "nested too deeply"
+form_text NotBuilt = codes "not built yet"
+
+abbrev pub role_text : FileRole → List ℕ
+role_text Program = codes "cannot read program"
+
+abbrev pub usage_text : List ℕ
+usage_text = codes "usage: comet [--data FILE] [--seed N] [--workers N] [--fuel N] [--journal] [--replay FILE] (PROGRAM | --gen N)"
+
+-- pieces, one behind the other
+abbrev pub joined : List (List ℕ) → List ℕ
+joined [] = []
+joined (piece ∷ pieces) = piece ++ joined pieces
+
+abbrev pub plain_line : List ℕ → List ℕ
+plain_line text = joined (codes "comet: " ∷ text ∷ codes "\n" ∷ [])
+
+-- `L:C: ` and the text
+abbrev pub placed_line : Place → List ℕ → List ℕ
+placed_line place text = joined (codes "comet: " ∷ decimal place.line ∷ codes ":" ∷ decimal place.col ∷ codes ": " ∷ text ∷ codes "\n" ∷ [])
+
+-- `L:C: F`, the code, a space and the text
+abbrev pub fault_line : Place → RunFault → List ℕ
+fault_line place fault =
+    joined (codes "comet: " ∷ decimal place.line ∷ codes ":" ∷ decimal place.col ∷ codes ": F" ∷ decimal (code_of fault) ∷ codes " " ∷ text_of fault ∷ codes "\n" ∷ [])
+
+abbrev pub line_of : Cause → List ℕ
+line_of causes.Done = []
+line_of causes.Words = plain_line usage_text
+line_of (causes.IllFormed place cause) = placed_line place (form_text cause)
+line_of (causes.Run place fault) = fault_line place fault
+line_of causes.NoMemory = plain_line (codes "no memory")
+line_of (causes.Read role) = plain_line (role_text role)
+line_of causes.Write = plain_line (codes "cannot write")

@@ -1,0 +1,147 @@
+//! The line on the standard error that tells why a run ended.
+ghost use Rattle.std.specs.Prelude.{◌≡◌, ◌≤◌, OnOk, OnErr, map};
+ghost use Rattle.cbl_io.specs.Appended.{Appends, AppendsFront};
+ghost use Rattle.cbl_io.specs.Faults.{HasRisen};
+ghost use Rattle.comet.specs.Line.{form_text, role_text, joined, plain_line, placed_line, fault_line, line_of};
+
+use crate::report::{Cause, FileRole};
+use cbl_base::{Place, RunFault};
+use cbl_io::{Failed, Sink, write_all};
+use comet_syntax::FormCause;
+use itoa::Buffer;
+
+/// The text for words that aren't in form.
+const USAGE: &str =
+    "usage: comet [--data FILE] [--seed N] [--workers N] [--fuel N] [--journal] [--replay FILE] (PROGRAM | --gen N)";
+
+/// The text of a program's refusal.
+fn text_of_form(cause: FormCause) -> &'static str
+    ensures { result.now ≡ form_text cause }
+{
+    match cause {
+        FormCause::Encoding => "not UTF-8",
+        FormCause::TooLong => "text too long",
+        FormCause::BadToken => "bad token",
+        FormCause::WideNumber => "number too wide",
+        FormCause::Unexpected => "unexpected token",
+        FormCause::UnexpectedEnd => "unexpected end of text",
+        FormCause::TooDeep => "nested too deeply",
+        FormCause::NotBuilt => "not built yet",
+    }
+}
+
+/// The text for a file that can't be read.
+fn text_of_role(role: FileRole) -> &'static str
+    ensures { result.now ≡ role_text role }
+{
+    match role {
+        FileRole::Program => "cannot read program",
+    }
+}
+
+/// Writes pieces one behind the other.
+fn write_pieces<E: Sink>(err: &mut E, pieces: &[&[u8]]) -> Result<(), Failed>
+    ensures ok { OnOk result (Appends (E.bytes err.old) (E.bytes err.new) (joined (map (λ piece. piece.now) pieces.now))) }
+    ensures err { OnErr result (AppendsFront (E.bytes err.old) (E.bytes err.new) (joined (map (λ piece. piece.now) pieces.now))) }
+    ensures failed { OnErr result (HasRisen (E.faults err.old) (E.faults err.new)) }
+    ensures never_falls { E.faults err.old ≤ E.faults err.new }
+{
+    for piece in pieces {
+        write_all(err, piece)?;
+    }
+    Ok(())
+}
+
+/// Writes a line with this text.
+fn write_plain<E: Sink>(err: &mut E, text: &str) -> Result<(), Failed>
+    ensures ok { OnOk result (Appends (E.bytes err.old) (E.bytes err.new) (plain_line text.now)) }
+    ensures err { OnErr result (AppendsFront (E.bytes err.old) (E.bytes err.new) (plain_line text.now)) }
+    ensures failed { OnErr result (HasRisen (E.faults err.old) (E.faults err.new)) }
+{
+    write_pieces(err, &[b"comet: ", text.as_bytes(), b"\n"])?;
+    Ok(())
+}
+
+/// Writes a line with a place and this text.
+fn write_placed<E: Sink>(err: &mut E, place: Place, text: &str) -> Result<(), Failed>
+    ensures ok { OnOk result (Appends (E.bytes err.old) (E.bytes err.new) (placed_line place text.now)) }
+    ensures err { OnErr result (AppendsFront (E.bytes err.old) (E.bytes err.new) (placed_line place text.now)) }
+    ensures failed { OnErr result (HasRisen (E.faults err.old) (E.faults err.new)) }
+{
+    let mut line_buffer = Buffer::new();
+    let mut col_buffer = Buffer::new();
+    let line = line_buffer.format(place.line);
+    let col = col_buffer.format(place.col);
+    write_pieces(
+        err,
+        &[
+            b"comet: ",
+            line.as_bytes(),
+            b":",
+            col.as_bytes(),
+            b": ",
+            text.as_bytes(),
+            b"\n",
+        ],
+    )?;
+    Ok(())
+}
+
+/// Writes a line with a place, and the code and the text of a run fault.
+fn write_fault<E: Sink>(err: &mut E, place: Place, fault: RunFault) -> Result<(), Failed>
+    ensures ok { OnOk result (Appends (E.bytes err.old) (E.bytes err.new) (fault_line place fault)) }
+    ensures err { OnErr result (AppendsFront (E.bytes err.old) (E.bytes err.new) (fault_line place fault)) }
+    ensures failed { OnErr result (HasRisen (E.faults err.old) (E.faults err.new)) }
+{
+    let mut line_buffer = Buffer::new();
+    let mut col_buffer = Buffer::new();
+    let mut code_buffer = Buffer::new();
+    let line = line_buffer.format(place.line);
+    let col = col_buffer.format(place.col);
+    let code = code_buffer.format(fault.code());
+    write_pieces(
+        err,
+        &[
+            b"comet: ",
+            line.as_bytes(),
+            b":",
+            col.as_bytes(),
+            b": F",
+            code.as_bytes(),
+            b" ",
+            fault.text().as_bytes(),
+            b"\n",
+        ],
+    )?;
+    Ok(())
+}
+
+/// Writes the line of a cause.
+fn write_line<E: Sink>(cause: &Cause, err: &mut E) -> Result<(), Failed>
+    ensures ok { OnOk result (Appends (E.bytes err.old) (E.bytes err.new) (line_of cause.now)) }
+    ensures err { OnErr result (AppendsFront (E.bytes err.old) (E.bytes err.new) (line_of cause.now)) }
+    ensures failed { OnErr result (HasRisen (E.faults err.old) (E.faults err.new)) }
+{
+    match *cause {
+        Cause::Done => Ok(()),
+        Cause::Words => write_plain(err, USAGE),
+        Cause::IllFormed(place, form) => write_placed(err, place, text_of_form(form)),
+        Cause::Run(place, fault) => write_fault(err, place, fault),
+        Cause::NoMemory => write_plain(err, "no memory"),
+        Cause::Read(role) => write_plain(err, text_of_role(role)),
+        Cause::Write => write_plain(err, "cannot write"),
+    }
+}
+
+/// Writes the line of a cause; `Done` has none. It takes no memory. Where the sink fails, a front of the
+/// line is written and nothing else happens.
+pub fn say<E: Sink>(cause: &Cause, err: &mut E)
+    ensures whole { ¬ HasRisen (E.faults err.old) (E.faults err.new) →
+        Appends (E.bytes err.old) (E.bytes err.new) (line_of cause.now) }
+    ensures front { AppendsFront (E.bytes err.old) (E.bytes err.new) (line_of cause.now) }
+{
+    match write_line(cause, err) {
+        Ok(()) => (),
+        Err(Failed) => (),
+    }
+}
