@@ -19,6 +19,7 @@ mod term;
 #[cfg(test)]
 mod tests;
 mod token;
+pub mod tree;
 mod variables;
 
 pub use limits::{MOST_BYTES, MOST_PARENTHESES};
