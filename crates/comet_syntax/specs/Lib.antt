@@ -1,7 +1,10 @@
+pub mod Derivation
 pub mod Expression
+pub mod Grammar
 pub mod Lexeme
 pub mod Name
 pub mod Reading
+pub mod Refusal
 pub mod Small
 pub mod Tree
 pub mod TreeCode
