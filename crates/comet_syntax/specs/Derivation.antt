@@ -45,7 +45,7 @@ MayTake n (deeper m ∷ form) ts = Unit {0}
 pub data Derives (Allow : ℕ → Type 0) (End : List Item → List Token → Type 0) : List Item → List Event → List Token → Type 0 where
   ends : {items : List Item} {ts : List Token} → End items ts → Derives Allow End items [] ts
   reads : {m : Bool} {k : Kind} {items : List Item} {t : Token} {events : List Event} {ts : List Token} → kind t ≡ k
-    → Derives Allow End items events ts → Derives Allow End (want m k ∷ items) (read m t ∷ events) (t ∷ ts)
+      → Derives Allow End items events ts → Derives Allow End (want m k ∷ items) (read m t ∷ events) (t ∷ ts)
   takes : {n : Part} {d : ℕ} {items : List Item} {events : List Event} {ts : List Token} (form : List Symbol) → Allow d
-    → OneOf (alternatives n) form → MayTake n form ts
-    → Derives Allow End (push form d items) events ts → Derives Allow End (part n d ∷ items) (chose n form ∷ events) ts
+      → OneOf (alternatives n) form → MayTake n form ts
+      → Derives Allow End (push form d items) events ts → Derives Allow End (part n d ∷ items) (chose n form ∷ events) ts

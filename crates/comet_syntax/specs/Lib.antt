@@ -6,6 +6,8 @@ pub mod Name
 pub mod Reading
 pub mod Refusal
 pub mod Small
+pub mod Spells
 pub mod Tree
 pub mod TreeCode
 pub mod Variables
+pub mod Written

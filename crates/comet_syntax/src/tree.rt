@@ -11,7 +11,7 @@ mod program;
 mod statements;
 
 pub use declarations::{
-    Class, Declaration, Dimension, Dimensions, Incremental, Maker, VariableStart,
+    Class, ClassKind, Declaration, Dimension, Dimensions, Incremental, Maker, VariableStart,
 };
 pub use expressions::{
     Aggregate, Argument, ChainOperator, Comparison, Expression, Extreme, Generator, Generators,

@@ -1,9 +1,9 @@
 -- The productions: the forms that each part may have. An optional part has the form `[]` too.
 -- A rule of the language.
 use Rattle.std.specs.Prelude.{List, [], ◌∷◌}
-use Rattle.comet_syntax.specs.Grammar.Symbols.{Part, Symbol, program, top, result_kind, parameters, parameters_tail, parameter, parameter_kind, brackets, template, class_name, block, statements, statement, otherwise, value, for_start, for_step, events, with_mode, generators, generators_tail, condition, generator, declaration, int_rest, start_value, variable_rest, domain, variable_start, maker, dimensions, dimensions_tail, dimension, dimension_rest, simple, named_simple, new_value, write, first_name, item, items_tail, expression, branches, or_tail, and_tail, comparison_tail, range_tail, total_tail, product_tail, operand, unnamed, pair, pair_named, literal, extreme, postfix, called, suffixes, second, arguments, listed, arguments_tail, argument}
+use Rattle.comet_syntax.specs.Grammar.Symbols.{Part, Symbol, program, top, result_kind, parameters, parameters_tail, parameter, parameter_kind, brackets, template, class_name, block, statements, statement, otherwise, optional_value, for_start, for_step, events, with_mode, generators, generators_tail, condition, generator, declaration, int_rest, start_value, variable_rest, domain, variable_start, maker, dimensions, dimensions_tail, dimension, dimension_rest, simple, named_simple, new_value, write, first_name, item, items_tail, expression, branches, or_tail, and_tail, comparison_tail, range_tail, total_tail, product_tail, operand, unnamed, pair, pair_named, literal, extreme, postfix, called, suffixes, second, arguments, listed, arguments_tail, argument}
 use Rattle.comet_syntax.specs.Grammar.Programs.{program_top, result_kind_void, result_kind_int, result_kind_bool, parameters_parameter, parameters_tail_comma, parameter_parameter_kind, parameter_kind_int, parameter_kind_bool, parameter_kind_range, parameter_kind_set, parameter_kind_var, parameter_kind_inc, parameter_kind_solver, parameter_kind_local_solver, parameter_kind_constraint_system, parameter_kind_best_monitor, brackets_left_bracket, template_less, class_name_solver, class_name_local_solver, class_name_constraint_system, class_name_function_expr, class_name_function_sum, class_name_uniform_distribution, class_name_input_file, class_name_min_neighbor_selector, class_name_best_monitor, class_name_solution, top_import, top_include, top_function, top_statement}
-use Rattle.comet_syntax.specs.Grammar.Statements.{block_left_brace, statements_statement, statement_block, statement_semicolon, statement_declaration, statement_simple, statement_return, statement_if, statement_while, statement_for, statement_for_all, statement_select, statement_select_min, statement_select_max, statement_neighbor, statement_whenever, statement_with, statement_parall, otherwise_else, value_expression, for_start_int, for_step_simple, events_int, with_mode_atomic, with_mode_delay, generators_generator, generators_tail_comma, condition_colon, generator_name, simple_first_name, simple_literal, simple_extreme, simple_cout, simple_call, named_simple_equal, named_simple_called, new_value_new, new_value_expression, write_equal, write_plus_equal, write_minus_equal, write_assign, write_arrow, write_swap, write_plus_plus, write_minus_minus, first_name_name, item_expression, item_string, item_endl, items_tail_less_less}
+use Rattle.comet_syntax.specs.Grammar.Statements.{block_left_brace, statements_statement, statement_block, statement_semicolon, statement_declaration, statement_simple, statement_return, statement_if, statement_while, statement_for, statement_for_all, statement_select, statement_select_min, statement_select_max, statement_neighbor, statement_whenever, statement_with, statement_parall, otherwise_else, optional_value_expression, for_start_int, for_step_simple, events_int, with_mode_atomic, with_mode_delay, generators_generator, generators_tail_comma, condition_colon, generator_name, simple_first_name, simple_literal, simple_extreme, simple_cout, simple_call, named_simple_equal, named_simple_called, new_value_new, new_value_expression, write_equal, write_plus_equal, write_minus_equal, write_assign, write_arrow, write_swap, write_plus_plus, write_minus_minus, first_name_name, item_expression, item_string, item_endl, items_tail_less_less}
 use Rattle.comet_syntax.specs.Grammar.Declarations.{declaration_int, declaration_bool, declaration_range, declaration_set, declaration_var, declaration_inc, declaration_class_name, int_rest_left_bracket, int_rest_name, start_value_equal, variable_rest_int, variable_rest_set, domain_comma, variable_start_assign, variable_start_arrow, maker_left_parenthesis, maker_equal, dimensions_left_bracket, dimensions_tail_comma, dimension_name, dimension_unnamed, dimension_rest_in, dimension_rest_called}
 use Rattle.comet_syntax.specs.Grammar.Expressions.{expression_operand, branches_question, or_tail_or_or, and_tail_and_and, comparison_tail_equal_equal, comparison_tail_not_equal, comparison_tail_less, comparison_tail_less_equal, comparison_tail_greater, comparison_tail_greater_equal, range_tail_dot_dot, total_tail_plus, total_tail_minus, product_tail_star, product_tail_slash, product_tail_percent, operand_name, operand_unnamed, unnamed_literal, unnamed_left_brace, unnamed_min, unnamed_max, unnamed_minus, unnamed_exclamation, unnamed_sum, unnamed_all, unnamed_and, unnamed_or, unnamed_set_of, unnamed_arg_min, unnamed_arg_max, pair_first_name, pair_unnamed, pair_named_in, pair_named_called, literal_number, literal_true, literal_false, literal_left_parenthesis, literal_left_bracket, extreme_min, extreme_max, postfix_name, postfix_literal, postfix_left_brace, postfix_extreme, called_left_parenthesis, suffixes_left_bracket, suffixes_dot, second_comma, arguments_listed, listed_argument, arguments_tail_comma, argument_expression, argument_string}
 
@@ -22,7 +22,7 @@ alternatives block = block_left_brace ∷ []
 alternatives statements = [] ∷ statements_statement ∷ []
 alternatives statement = statement_block ∷ statement_semicolon ∷ statement_declaration ∷ statement_simple ∷ statement_return ∷ statement_if ∷ statement_while ∷ statement_for ∷ statement_for_all ∷ statement_select ∷ statement_select_min ∷ statement_select_max ∷ statement_neighbor ∷ statement_whenever ∷ statement_with ∷ statement_parall ∷ []
 alternatives otherwise = [] ∷ otherwise_else ∷ []
-alternatives value = [] ∷ value_expression ∷ []
+alternatives optional_value = [] ∷ optional_value_expression ∷ []
 alternatives for_start = [] ∷ for_start_int ∷ []
 alternatives for_step = [] ∷ for_step_simple ∷ []
 alternatives events = [] ∷ events_int ∷ []

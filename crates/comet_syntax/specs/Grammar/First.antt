@@ -3,7 +3,7 @@
 use Rattle.std.specs.Prelude.{List, [], ◌∷◌, ◌++◌}
 use Rattle.comet_syntax.specs.declared.token.Word.TheVariants as words
 use Rattle.comet_syntax.specs.Grammar.Kinds.{Kind, a_name, a_number, a_string, a_word}
-use Rattle.comet_syntax.specs.Grammar.Symbols.{Part, program, top, result_kind, parameters, parameters_tail, parameter, parameter_kind, brackets, template, class_name, block, statements, statement, otherwise, value, for_start, for_step, events, with_mode, generators, generators_tail, condition, generator, declaration, int_rest, start_value, variable_rest, domain, variable_start, maker, dimensions, dimensions_tail, dimension, dimension_rest, simple, named_simple, new_value, write, first_name, item, items_tail, expression, branches, or_tail, and_tail, comparison_tail, range_tail, total_tail, product_tail, operand, unnamed, pair, pair_named, literal, extreme, postfix, called, suffixes, second, arguments, listed, arguments_tail, argument}
+use Rattle.comet_syntax.specs.Grammar.Symbols.{Part, program, top, result_kind, parameters, parameters_tail, parameter, parameter_kind, brackets, template, class_name, block, statements, statement, otherwise, optional_value, for_start, for_step, events, with_mode, generators, generators_tail, condition, generator, declaration, int_rest, start_value, variable_rest, domain, variable_start, maker, dimensions, dimensions_tail, dimension, dimension_rest, simple, named_simple, new_value, write, first_name, item, items_tail, expression, branches, or_tail, and_tail, comparison_tail, range_tail, total_tail, product_tail, operand, unnamed, pair, pair_named, literal, extreme, postfix, called, suffixes, second, arguments, listed, arguments_tail, argument}
 
 abbrev pub first_literal : List Kind
 first_literal = a_number ∷ a_word words.True ∷ a_word words.False ∷ a_word words.LeftParenthesis ∷ a_word words.LeftBracket ∷ []
@@ -50,7 +50,7 @@ first block = a_word words.LeftBrace ∷ []
 first statements = first_statement
 first statement = first_statement
 first otherwise = a_word words.Else ∷ []
-first value = first_expression
+first optional_value = first_expression
 first for_start = a_word words.Int ∷ []
 first for_step = first_simple
 first events = a_word words.Int ∷ []

@@ -2,7 +2,7 @@
 -- A rule of the language.
 use Rattle.std.specs.Prelude.{List, [], ◌∷◌}
 use Rattle.comet_syntax.specs.declared.token.Word.TheVariants as words
-use Rattle.comet_syntax.specs.Grammar.Symbols.{Symbol, arguments, block, called, class_name, condition, declaration, deeper, events, expression, extreme, first_name, for_start, for_step, generator, generators, generators_tail, item, items_tail, literal, mark, named, named_simple, new_value, onward_deeper, otherwise, postfix, quoted, same, simple, statement, statements, suffixes, value, with_mode, word, write}
+use Rattle.comet_syntax.specs.Grammar.Symbols.{Symbol, arguments, block, called, class_name, condition, declaration, deeper, events, expression, extreme, first_name, for_start, for_step, generator, generators, generators_tail, item, items_tail, literal, mark, named, named_simple, new_value, onward_deeper, optional_value, otherwise, postfix, quoted, same, simple, statement, statements, suffixes, with_mode, word, write}
 
 abbrev pub block_left_brace : List Symbol
 block_left_brace = mark words.LeftBrace ∷ same statements ∷ word words.RightBrace ∷ []
@@ -19,13 +19,13 @@ statement_declaration = same declaration ∷ word words.Semicolon ∷ []
 abbrev pub statement_simple : List Symbol
 statement_simple = same simple ∷ word words.Semicolon ∷ []
 abbrev pub statement_return : List Symbol
-statement_return = mark words.Return ∷ same value ∷ word words.Semicolon ∷ []
+statement_return = mark words.Return ∷ same optional_value ∷ word words.Semicolon ∷ []
 abbrev pub statement_if : List Symbol
 statement_if = mark words.If ∷ word words.LeftParenthesis ∷ deeper expression ∷ word words.RightParenthesis ∷ deeper statement ∷ same otherwise ∷ []
 abbrev pub statement_while : List Symbol
 statement_while = mark words.While ∷ word words.LeftParenthesis ∷ deeper expression ∷ word words.RightParenthesis ∷ deeper statement ∷ []
 abbrev pub statement_for : List Symbol
-statement_for = mark words.For ∷ word words.LeftParenthesis ∷ same for_start ∷ word words.Semicolon ∷ same value ∷ word words.Semicolon ∷ same for_step ∷ word words.RightParenthesis ∷ deeper statement ∷ []
+statement_for = mark words.For ∷ word words.LeftParenthesis ∷ same for_start ∷ word words.Semicolon ∷ same optional_value ∷ word words.Semicolon ∷ same for_step ∷ word words.RightParenthesis ∷ deeper statement ∷ []
 abbrev pub statement_for_all : List Symbol
 statement_for_all = mark words.ForAll ∷ word words.LeftParenthesis ∷ same generators ∷ word words.RightParenthesis ∷ deeper statement ∷ []
 abbrev pub statement_select : List Symbol
@@ -46,8 +46,8 @@ statement_parall = mark words.Parall ∷ word words.LeftParenthesis ∷ named �
 abbrev pub otherwise_else : List Symbol
 otherwise_else = word words.Else ∷ deeper statement ∷ []
 
-abbrev pub value_expression : List Symbol
-value_expression = deeper expression ∷ []
+abbrev pub optional_value_expression : List Symbol
+optional_value_expression = deeper expression ∷ []
 
 abbrev pub for_start_int : List Symbol
 for_start_int = word words.Int ∷ named ∷ word words.Equal ∷ deeper expression ∷ []

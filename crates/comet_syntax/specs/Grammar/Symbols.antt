@@ -9,7 +9,7 @@ pub data Part : Type 0 where
   program top result_kind parameters parameters_tail parameter parameter_kind brackets : Part
   template class_name : Part
   -- statements
-  block statements statement otherwise value for_start for_step events : Part
+  block statements statement otherwise optional_value for_start for_step events : Part
   with_mode generators generators_tail condition generator simple named_simple new_value : Part
   write first_name item items_tail : Part
   -- declarations

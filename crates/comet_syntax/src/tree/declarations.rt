@@ -9,9 +9,16 @@ pub enum Incremental {
     Inc,
 }
 
-/// A class, with the name in its angle brackets.
+/// A class. The place is its first token's.
 #[derive(Drop)]
-pub enum Class {
+pub struct Class {
+    pub place: Place,
+    pub kind: ClassKind,
+}
+
+/// Which class it is, with the name in its angle brackets.
+#[derive(Drop)]
+pub enum ClassKind {
     Solver(Name),
     LocalSolver,
     ConstraintSystem(Option<Name>),
@@ -59,7 +66,7 @@ pub enum Maker {
     },
 }
 
-/// A declaration. The place is its first token's.
+/// A declaration. Its place is its first token's; that of an object's declaration is its class's.
 #[derive(Drop)]
 pub enum Declaration {
     /// `int name = start`, or with dimensions
@@ -114,7 +121,6 @@ pub enum Declaration {
     },
     /// `class name(arguments)` or `class name = new made(arguments)`
     Object {
-        place: Place,
         class: Class,
         name: Name,
         maker: Maker,

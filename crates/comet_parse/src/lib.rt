@@ -1,0 +1,11 @@
+//! The parser.
+#![tactic(auto)]
+
+ghost use Rattle.std.specs.Prelude.{◌≡◌};
+
+/// One.
+pub fn one() -> u32
+    ensures { result ≡ 1 }
+{
+    1
+}
