@@ -1,11 +1,5 @@
 //! The parser.
 #![tactic(auto)]
 
-ghost use Rattle.std.specs.Prelude.{◌≡◌};
-
-/// One.
-pub fn one() -> u32
-    ensures { result ≡ 1 }
-{
-    1
-}
+mod stop;
+mod tokens;
