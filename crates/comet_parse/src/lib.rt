@@ -3,3 +3,4 @@
 
 mod stop;
 mod tokens;
+mod types;
