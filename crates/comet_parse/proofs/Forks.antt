@@ -1,10 +1,10 @@
 -- Where the next token is none of several kinds, or goes on with one of the forms of a part.
-use Rattle.std.specs.Prelude.{ℕ, Bool, true, false, List, [], ◌∷◌, ◌++◌, ◌≡◌, refl, map, ◌||◌}
-use Rattle.std.proofs.Common.{ap, ◌∙◌, sym}
+use Rattle.std.specs.Prelude.{ℕ, Bool, true, false, List, [], ◌∷◌, ◌++◌, ◌≡◌, refl, ◌||◌}
+use Rattle.std.proofs.Common.{ap, ◌∙◌}
 use Rattle.comet_syntax.specs.declared.token.Token.{Token}
 use Rattle.comet_syntax.specs.Grammar.Kinds.{Kind, kind, kind_eq, one_of, next_in}
 use Rattle.comet_syntax.specs.Grammar.Symbols.{Part, Symbol, same, default}
-use Rattle.comet_syntax.specs.Written.Shown.{Grows, each}
+use Rattle.comet_syntax.specs.Written.Shown.{Grows}
 use Rattle.comet_parse.specs.declared.stop.Stop.{Stop}
 use Rattle.comet_parse.specs.Promise.{Reads, Fails, halts, no_memory}
 use Rattle.comet_parse.proofs.Steps.{skips}
@@ -34,15 +34,6 @@ reads_as_default h = record { leads = h.leads }
 pub fails_as_default : {limit d : ℕ} {n : Part} {body : List Symbol} {ts : List Token} {s : Stop} → Fails limit (same n ∷ body) d ts s → Fails limit (default false n ∷ body) d ts s
 fails_as_default (halts h) = halts h
 fails_as_default no_memory = no_memory
-
--- one more of a list
-pub each_push : {A : Type 0} (f : A → Grows) (xs : List A) (x : A) → each f (xs ++ (x ∷ [])) ≡ (λ behind. each f xs (f x behind))
-each_push f [] x = refl
-each_push f (y ∷ xs) x = ap (λ g. λ behind. f y (g behind)) (each_push f xs x)
-
-pub map_push : {A B : Type 0} (f : A → B) (xs : List A) (x : A) → map f (xs ++ (x ∷ [])) ≡ map f xs ++ (f x ∷ [])
-map_push f [] x = refl
-map_push f (y ∷ xs) x = ap (λ z. f y ∷ z) (map_push f xs x)
 
 -- one of some kinds, or one of others
 or_assoc : (a b c : Bool) → (a || (b || c)) ≡ ((a || b) || c)

@@ -24,6 +24,7 @@ use Rattle.comet_syntax.specs.declared.tree.expressions.Argument.TheVariants as 
 use Rattle.comet_syntax.specs.declared.tree.expressions.Suffix.TheVariants as suffixes_as
 use Rattle.comet_syntax.specs.Written.Shown.{Grows}
 use Rattle.comet_syntax.specs.Written.Expressions.{Writing, GeneratorText, GeneratorsText, LinkText, argument_text, expression_text, suffix_text, generator_layer, generators_layer, link_layer, written, written_argument, written_suffix, written_generator, written_generators, written_link, conditional, chain, comparison, range_of, unary, aggregate, postfix_by, number, truth, name_alone, call_of, extreme_of, parentheses, list_of, set_of, option_value, link}
+use Rattle.comet_parse.specs.Levels.{method_text}
 
 pub written_conditional : (a : Box Expression Global) (b : Box Expression Global) (c : Box Expression Global) → written (trees.Conditional a b c) ≡ conditional (written a.value) (written b.value) (written c.value)
 unfolding written written_argument written_suffix written_generator written_generators written_link
@@ -101,3 +102,20 @@ pub written_suffix_cell : (p : Place) (a : Expression) (b : Expression) → writ
 unfolding written written_argument written_suffix written_generator written_generators written_link
 written_suffix_cell p a b = ap written_suffix (sym (suffixes_as.rolls-Cell p a b)) ∙ fold-roll-Suffix Grows Writing Grows GeneratorText GeneratorsText LinkText argument_text expression_text suffix_text generator_layer generators_layer link_layer (layers.Cell p a b)
 
+
+pub generators_none : (f : Vec Generator Global) → written_generators (roll-Generators (record { generators = f; condition = None })) ≡ record { all = map written_generator f.items; only = None }
+unfolding written written_argument written_suffix written_generator written_generators written_link
+generators_none f = fold-roll-Generators Grows Writing Grows GeneratorText GeneratorsText LinkText argument_text expression_text suffix_text generator_layer generators_layer link_layer (record { generators = f; condition = None })
+
+pub generators_some : (f : Vec Generator Global) (e : Box Expression Global)
+  → written_generators (roll-Generators (record { generators = f; condition = Some e })) ≡ record { all = map written_generator f.items; only = Some (written e.value) }
+unfolding written written_argument written_suffix written_generator written_generators written_link
+generators_some f e = fold-roll-Generators Grows Writing Grows GeneratorText GeneratorsText LinkText argument_text expression_text suffix_text generator_layer generators_layer link_layer (record { generators = f; condition = Some e })
+
+pub generator_of : (n : Name) (e : Expression) → written_generator (roll-Generator (record { name = n; domain = e })) ≡ record { bound = n; domain = written e }
+unfolding written written_argument written_suffix written_generator written_generators written_link
+generator_of n e = fold-roll-Generator Grows Writing Grows GeneratorText GeneratorsText LinkText argument_text expression_text suffix_text generator_layer generators_layer link_layer (record { name = n; domain = e })
+
+pub method_of : (n : Name) (a : Vec Argument Global) → written_suffix (suffixes_as.Method n a) ≡ method_text n (map written_argument a.items)
+unfolding written written_argument written_suffix written_generator written_generators written_link
+method_of n a = ap written_suffix (sym (suffixes_as.rolls-Method n a)) ∙ fold-roll-Suffix Grows Writing Grows GeneratorText GeneratorsText LinkText argument_text expression_text suffix_text generator_layer generators_layer link_layer (layers.Method n a)
