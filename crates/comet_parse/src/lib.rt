@@ -7,6 +7,7 @@
 #![tactic(auto)]
 
 mod make;
+mod make_statements;
 mod operators;
 mod stop;
 mod tokens;
