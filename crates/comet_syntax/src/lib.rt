@@ -27,6 +27,7 @@ mod term;
 #[cfg(test)]
 mod tests;
 mod token;
+pub mod tree;
 mod variables;
 mod word;
 

@@ -1,0 +1,14 @@
+//! The parser of programs: a list of tokens, read from the left with no way back.
+//!
+//! It knows nothing of texts, of types, or of what a program means. What stands here so far are the
+//! generic theorem that what is read for sure is the beginning of every derivation (in `proofs/`), what
+//! each reading function promises, the functions over the next token, and those that make the nodes of
+//! expressions.
+#![tactic(auto)]
+
+mod make;
+mod make_statements;
+mod operators;
+mod stop;
+mod tokens;
+mod types;

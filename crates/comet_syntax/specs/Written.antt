@@ -1,0 +1,5 @@
+pub mod Declarations
+pub mod Expressions
+pub mod Programs
+pub mod Shown
+pub mod Statements
