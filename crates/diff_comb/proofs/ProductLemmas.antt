@@ -1,19 +1,19 @@
 -- The products of members and weights, as a member or a weight changes.
-use Rattle.std.proofs.Common.{◌≡◌, ◌≢◌, ℕ, zero, suc, ◌+◌, ◌-◌, ◌*◌, ◌<◌, ◌≤◌, ◌^◌, ℤ, pos, negsuc, neg_ℤ, ◌+ℤ◌, ◌-ℤ◌, ◌*ℤ◌, ◌≤ℤ◌, Bool, true, false, cond, ◌&&◌, nat_lt, inl, inr, List, [], ◌∷◌, ◌++◌, length, get_or, set, map, Result, Ok, Err, refl, ap, sym, ◌∙◌, subst, arith}
+use Rattle.std.proofs.Common.{◌≡◌, ◌≢◌, ℕ, zero, suc, ◌+◌, ◌-◌, ◌*◌, ◌<◌, ◌≤◌, ◌^◌, ℤ, pos, negsuc, neg_ℤ, ◌+ℤ◌, ◌-ℤ◌, ◌*ℤ◌, ◌≤ℤ◌, Bool, true, false, nat_lt, inl, inr, List, [], ◌∷◌, ◌++◌, length, get_or, set, map, Result, Ok, Err, refl, ap, sym, ◌∙◌, subst, arith}
 use Rattle.std.specs.Prelude.{sum_by, if◌then◌else◌}
 use Rattle.std.specs.List.{list_all, range_with_len}
 use Rattle.std.proofs.Math.IntN.{*ℤ_comm}
 use Rattle.std.proofs.lemmas.Bool.{cases_Bool, cond-true, cond-false}
 use Rattle.std.proofs.lemmas.Bool.Decides.{nat_tests}
 use Rattle.std.proofs.lemmas.Int.{ints}
-use Rattle.std.proofs.lemmas.List.{map-set, length-map, length-set, get_or-set_same, get_or-set_other}
+use Rattle.std.proofs.lemmas.List.{map-set, length-map, get_or-set_same, get_or-set_other}
 use Rattle.std.proofs.lemmas.List.Sums.{sum_by-set, sum_by-cons, sum_by-append}
 use Rattle.cbl_base.specs.Arithmetic.{exact, fits_64}
 use Rattle.cbl_base.specs.Totals.{total, total_by}
 use Rattle.cbl_base.specs.declared.faults.RunFault.{RunFault}
 use Rattle.cbl_base.specs.declared.faults.RunFault.TheVariants.{Overflow}
 use Rattle.cbl_base.proofs.TotalLemmas.{total-set, total_by-append}
-use Rattle.cbl_violations.specs.Fitting.{where_all_fit, each_below}
+use Rattle.cbl_violations.specs.Fitting.{each_below}
 use Rattle.cbl_violations.specs.Violations.WeightedTotal.{weighted_member, weighted_total_value}
 use Rattle.node_base.specs.NumberChanges.{IsNumberChange, after_number_change, after_number_changes}
 use Rattle.node_base.specs.declared.number_change.NumberChange.{NumberChange}

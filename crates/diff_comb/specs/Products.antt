@@ -1,6 +1,6 @@
 -- The products of members and weights, where those that fit 64 bits are added up and the others are
 -- counted. A rule of this project.
-use Rattle.std.specs.Prelude.{◌≡◌, ℕ, ℤ, pos, neg_ℤ, ◌≤ℤ◌, ◌^◌, ◌+◌, ◌-◌, ◌*ℤ◌, List, Result, Ok, Err, nat_lt, if◌then◌else◌, sum_by}
+use Rattle.std.specs.Prelude.{◌≡◌, ℕ, ℤ, pos, neg_ℤ, ◌≤ℤ◌, ◌^◌, ◌+◌, ◌-◌, List, Result, Ok, Err, nat_lt, if◌then◌else◌, sum_by}
 use Rattle.std.specs.Result.{result_unwrap_or}
 use Rattle.cbl_base.specs.Arithmetic.{exact}
 use Rattle.cbl_base.specs.Totals.{total_by}

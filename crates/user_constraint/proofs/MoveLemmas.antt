@@ -1,9 +1,8 @@
 -- Changes of numbers, as moves.
-use Rattle.std.proofs.Common.{zero, suc, ℕ, ℤ, pos, ◌≡◌, ◌∙◌, ◌<◌, List, [], ◌∷◌, length, get_or, slice_get, slice_set, Result, Ok, Some, subst, sym, ap, refl, arith}
+use Rattle.std.proofs.Common.{ℕ, ℤ, ◌≡◌, ◌∙◌, List, [], ◌∷◌, length, get_or, slice_set, ap, refl, arith}
 use Rattle.std.proofs.lemmas.List.{length-set}
 use Rattle.std.proofs.lemmas.Option.{slice_get_within}
-use Rattle.cbl_base.specs.declared.faults.RunFault.{RunFault}
-use Rattle.node_base.specs.NumberChanges.{after_number_changes, NoNumberAt, AreNumberChanges}
+use Rattle.node_base.specs.NumberChanges.{NoNumberAt, AreNumberChanges}
 use Rattle.node_base.specs.declared.number_change.NumberChange.{NumberChange}
 use Rattle.user_constraint.specs.Moves.{NoMoveAt, AreMoves, after_moves, move_of, moves_of}
 

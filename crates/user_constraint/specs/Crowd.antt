@@ -1,5 +1,5 @@
 -- The rule of the tests' constraint: each number is one too many.
-use Rattle.std.specs.Prelude.{ℕ, ℤ, ◌^◌, List, length, min}
+use Rattle.std.specs.Prelude.{◌^◌, length, min}
 use Rattle.std.proofs.Math.Nat.{min-le_right}
 use Rattle.user_constraint.specs.UserRule.{UserRule}
 

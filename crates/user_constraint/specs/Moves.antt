@@ -1,5 +1,5 @@
 -- A move is a place of a list and the number that comes to stand there. A rule of this project.
-use Rattle.std.specs.Prelude.{◌≡◌, ◌≢◌, ℕ, ℤ, ◌<◌, List, [], ◌∷◌, fold, map, slice_set}
+use Rattle.std.specs.Prelude.{◌≢◌, ℕ, ℤ, ◌<◌, List, [], ◌∷◌, fold, map, slice_set}
 use Rattle.node_base.specs.declared.number_change.NumberChange.{NumberChange}
 
 -- the numbers after a move, and after each of several

@@ -1,4 +1,4 @@
-use Rattle.std.proofs.Common.{◌<◌, ◌+◌, ◌^◌, ℤ, pos, length, get_or, arith, rules, w64}
+use Rattle.std.proofs.Common.{◌<◌, ◌+◌, ◌^◌, pos, get_or, arith, rules, w64}
 use Rattle.std.specs.Prelude.{FitsSigned}
 use Rattle.std.proofs.lemmas.Int.{to_z-of_z}
 use Rattle.cbl_violations.specs.Violations.WeightedTotal.{weighted_member}

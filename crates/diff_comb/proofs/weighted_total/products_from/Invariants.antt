@@ -1,4 +1,3 @@
-use Rattle.std.proofs.Common.{◌≤◌}
 use Rattle.cbl_violations.specs.Fitting.{each_below}
 use Rattle.cbl_violations.specs.Violations.WeightedTotal.{weighted_member}
 use Rattle.diff_comb.specs.Products.{AreTotals}

@@ -1,4 +1,4 @@
-use Rattle.std.proofs.Common.{◌≡◌, ◌<◌, ◌+◌, ◌^◌, ◌∙◌, ℕ, ℤ, length, get_or, take, ap, sym, subst, rules, arith, w64}
+use Rattle.std.proofs.Common.{◌<◌, ◌^◌, ◌∙◌, length, get_or, take, sym, subst, rules, arith, w64}
 use Rattle.std.specs.Prelude.{FitsSigned}
 use Rattle.std.proofs.lemmas.Int.{to_z-of_z}
 use Rattle.node_base.specs.NumberChanges.{after_number_changes}

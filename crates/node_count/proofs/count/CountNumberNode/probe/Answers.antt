@@ -1,4 +1,4 @@
-use Rattle.std.proofs.Common.{◌≡◌, ℤ, ◌<◌, ◌^◌, pos, List, [], ◌∷◌, ◌++◌, get_or, take, ap, sym, ◌∙◌, subst, rules, arith, w64, to_z, of_z}
+use Rattle.std.proofs.Common.{◌<◌, ◌^◌, pos, [], ◌∷◌, ◌++◌, get_or, take, ap, sym, ◌∙◌, subst, rules, arith, w64, to_z, of_z}
 use Rattle.std.specs.Prelude.{FitsSigned}
 use Rattle.std.proofs.lemmas.Int.{to_z-of_z, to_z_pos}
 use Rattle.std.proofs.lemmas.List.{take_all}

@@ -1,7 +1,6 @@
-use Rattle.std.proofs.Common.{◌≡◌, ◌<◌, ◌^◌, sym, subst, arith, rules, w64}
+use Rattle.std.proofs.Common.{◌<◌, ◌^◌, sym, subst, arith, rules, w64}
 use Rattle.std.specs.Prelude.{FitsSigned}
 use Rattle.std.proofs.lemmas.Int.{ints, to_z-of_z, to_z_pos}
-use Rattle.cbl_base.specs.Counts.{count_of}
 use Rattle.node_count.proofs.CountTurns.{counted_now, few_cells}
 use Rattle.node_count.proofs.count.CountNumberNode.value.Goals as goal
 

@@ -1,5 +1,5 @@
-use Rattle.std.proofs.Common.{◌≡◌, ◌∙◌, length, sym}
-use Rattle.user_constraint.specs.Moves.{AreMoves, moves_of}
+use Rattle.std.proofs.Common.{◌≡◌, ◌∙◌}
+use Rattle.user_constraint.specs.Moves.{moves_of}
 use Rattle.user_constraint.proofs.MoveLemmas.{are_moves, one_move, two_moves}
 use Rattle.user_constraint.proofs.node.UserNodeNumberNode.probe.Goals as goal
 use Rattle.user_constraint.proofs.node.UserNodeNumberNode.probe.Goals.{After-as_slice, After-as_slice-in-2}

@@ -1,4 +1,4 @@
-use Rattle.std.proofs.Common.{rules, ◌≡◌, ◌∙◌, ◌^◌, pos, min, w64, sym, ap}
+use Rattle.std.proofs.Common.{rules, ◌∙◌, ◌^◌, pos, min, w64, sym, ap}
 use Rattle.std.specs.Prelude.{FitsSigned}
 use Rattle.std.proofs.lemmas.Int.{to_z-of_z}
 use Rattle.user_constraint.proofs.MoveLemmas.{length_after}
