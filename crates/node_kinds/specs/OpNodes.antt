@@ -3,7 +3,7 @@
 use Rattle.std.specs.Prelude.{ℕ, ℤ, pos, Bool, true, false, List, Option, Some, None, Ok}
 use Rattle.cbl_base.specs.NumberRule.{NumberRule}
 use Rattle.cbl_operations.specs.declared.op.Op.{Op}
-use Rattle.cbl_operations.specs.declared.op.Op.TheVariants.{Add, Sub, Mul, Div, Rem, Neg, Abs, Least, Greatest, Sum, ArgMin, ArgMax, Count, Element, Element2, Eq, Ne, Le, Lt, And, Or, Not, SetOf, Union, Inter, Minus, Card, Member, AllDifferent, User}
+use Rattle.cbl_operations.specs.declared.op.Op.TheVariants.{Add, Sub, Mul, Div, Rem, Neg, Abs, Least, Greatest, Sum, ArgMin, ArgMax, Count, Element, Element2, Eq, Ne, Le, Lt, And, Or, Not, SetOf, Union, Inter, Minus, Card, Member, ViolEq, ViolNe, ViolLe, ViolLt, AllDifferent, AtMost, AtLeast, Exactly, Knapsack, MultiKnapsack, Sequence, AllOf, AnyOf, NotHeld, User}
 use Rattle.user_constraint.specs.UserRule.{UserRule, rule_of_user}
 
 -- whether it is a user's constraint
@@ -37,7 +37,21 @@ has_node Inter = true
 has_node Minus = true
 has_node Card = true
 has_node Member = true
+has_node Least = true
+has_node ViolEq = true
+has_node ViolNe = true
+has_node ViolLe = true
+has_node ViolLt = true
 has_node AllDifferent = true
+has_node (AtMost low bounds) = true
+has_node (AtLeast low bounds) = true
+has_node (Exactly low bounds) = true
+has_node (Knapsack weights capacity) = true
+has_node (MultiKnapsack sizes low capacities) = true
+has_node (Sequence values most window) = true
+has_node AllOf = true
+has_node AnyOf = true
+has_node NotHeld = true
 has_node (User number) = true
 has_node op = false
 

@@ -1,8 +1,9 @@
 //! The node of a constant.
-ghost use Rattle.std.specs.Prelude.{◌≡◌, IfOk};
+ghost use Rattle.std.specs.Prelude.{◌≡◌};
 ghost use Rattle.node_kinds.specs.ConstantRule.{rule_of_constant};
 
-use cbl_base::{Change, Input, IntSet, NoMemory, NodeFault, NodeRule, NodeValue, RunFault};
+use crate::copying::copy_of;
+use cbl_base::{Change, Input, NoMemory, NodeFault, NodeRule, NodeValue, RunFault};
 use std::alloc::Global;
 
 /// A node without inputs, which always has the same value.
@@ -52,18 +53,5 @@ impl NodeRule for Constant {
 
     fn place_violation(&self, _place: u32) -> i64 {
         0
-    }
-}
-
-/// A copy of a value.
-fn copy_of(alloc: Global, value: &NodeValue) -> Result<NodeValue, NoMemory>
-    ensures { IfOk result (λ copy. copy ≡ value.now) }
-{
-    match value {
-        Input::Int(number) => Ok(Input::Int(*number)),
-        Input::Set(set) => {
-            let copy = IntSet::from_slice(alloc, set.as_slice())?;
-            Ok(Input::Set(copy))
-        }
     }
 }
