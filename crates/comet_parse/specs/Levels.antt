@@ -139,7 +139,7 @@ pub record IsNamedAggregate (limit d : ℕ) (ts rest : List Token) (e : Extreme)
   pub is : all ≡ from_operand (by_opening (by_other (extreme_aggregate e place generators body))) (λ behind. behind)
   pub all_is : generators.all ≡ record { bound = bound; domain = domain } ∷ more
   pub reads : Reads limit (same pair_named ∷ []) d ts rest (λ behind. form pair_named pair_named_in ∷ shown_as.word words.In (whole domain (generators_behind more generators.only
-    (shown_as.word words.RightParenthesis (at_product body behind)))))
+      (shown_as.word words.RightParenthesis (at_product body behind)))))
 
 -- the aggregates other than `min` and `max`
 abbrev pub word_of_aggregate : Aggregate → Word

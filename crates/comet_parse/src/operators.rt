@@ -8,11 +8,10 @@ ghost use Rattle.comet_syntax.specs.Written.Expressions.{word_of_comparison};
 ghost use Rattle.comet_parse.specs.Promise.{Sees};
 ghost use Rattle.comet_parse.specs.Levels.{IsMultiplying, IsAdding, IsPlain, first_aggregate, word_of_aggregate, word_of_chain};
 
+use crate::tokens::{at, skip};
 use cbl_base::Place;
 use comet_syntax::tree::{Aggregate, ChainOperator, Comparison};
 use comet_syntax::{Token, Word};
-
-use crate::tokens::{at, skip};
 
 /// `*`, `/` or `%`, its place, and the tokens behind it.
 pub fn skip_multiplying(tokens: &[Token]) -> Option<(ChainOperator, Place, &[Token])>

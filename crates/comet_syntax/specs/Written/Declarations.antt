@@ -103,12 +103,12 @@ int_in_braces behind = word words.LeftBrace (word words.Int (word words.RightBra
 abbrev pub written_declaration : Declaration → Grows
 written_declaration (declarations.Int place n d e) behind = form declaration declaration_int ∷ mark words.Int place (form int_rest int_rest_name ∷ name n (dimensions_text d (start_text e behind)))
 written_declaration (declarations.IntArray place n e) behind = form declaration declaration_int ∷ mark words.Int place (form int_rest int_rest_left_bracket
-  ∷ word words.LeftBracket (word words.RightBracket (name n (word words.Equal (whole_text e behind)))))
+    ∷ word words.LeftBracket (word words.RightBracket (name n (word words.Equal (whole_text e behind)))))
 written_declaration (declarations.Bool place n e) behind = form declaration declaration_bool ∷ mark words.Bool place (name n (start_text e behind))
 written_declaration (declarations.Range place n e) behind = form declaration declaration_range ∷ mark words.Range place (name n (word words.Equal (whole_text e behind)))
 written_declaration (declarations.Set place n e) behind = form declaration declaration_set ∷ mark words.Set place (int_in_braces (name n (start_text e behind)))
 written_declaration (declarations.Variable place w n d s e v) behind = incremental_text w place (form variable_rest variable_rest_int ∷ word words.Int (word words.RightBrace (name n (dimensions_text d
-  (word words.LeftParenthesis (name s (domain_text e (word words.RightParenthesis (variable_start_text v behind)))))))))
+    (word words.LeftParenthesis (name s (domain_text e (word words.RightParenthesis (variable_start_text v behind)))))))))
 written_declaration (declarations.SetVariable place w n d s e) behind = incremental_text w place (form variable_rest variable_rest_set ∷ word words.Set (int_in_braces (word words.RightBrace (name n (dimensions_text d
-  (word words.LeftParenthesis (name s (word words.RightParenthesis (word words.Arrow (whole_text e behind))))))))))
+    (word words.LeftParenthesis (name s (word words.RightParenthesis (word words.Arrow (whole_text e behind))))))))))
 written_declaration (declarations.Object c n m) behind = form declaration declaration_class_name ∷ written_class c (name n (maker_text m behind))

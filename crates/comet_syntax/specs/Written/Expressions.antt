@@ -68,8 +68,19 @@ pub record Writing : Type 0 where
   pub whole_rest : Grows
 
 abbrev pub from_whole : Head → Grows → Writing
-from_whole h r = record { head = h; is_name = false; primary_rest = None; operand_rest = misplaced; product_rest = misplaced; total_rest = misplaced; range_rest = misplaced;
-  comparison_rest = misplaced; conjunction_rest = misplaced; disjunction_rest = misplaced; whole_rest = r }
+from_whole h r = record {
+  head = h;
+  is_name = false;
+  primary_rest = None;
+  operand_rest = misplaced;
+  product_rest = misplaced;
+  total_rest = misplaced;
+  range_rest = misplaced;
+  comparison_rest = misplaced;
+  conjunction_rest = misplaced;
+  disjunction_rest = misplaced;
+  whole_rest = r;
+}
 
 abbrev pub from_disjunction : Head → Grows → Writing
 from_disjunction h r = record (from_whole h (closed branches r)) { disjunction_rest = r }
@@ -125,16 +136,22 @@ operand_head (by_opening o) behind = form operand operand_unnamed ∷ opening o 
 -- as an operand, a product, a total, an end of a range, a side of a comparison, an operand of `&&`, an operand of `||`, and whole
 abbrev pub at_operand : Writing → Grows
 at_operand e behind = operand_head e.head (e.operand_rest behind)
+
 abbrev pub at_product : Writing → Grows
 at_product e behind = operand_head e.head (e.product_rest behind)
+
 abbrev pub at_total : Writing → Grows
 at_total e behind = operand_head e.head (e.total_rest behind)
+
 abbrev pub at_range : Writing → Grows
 at_range e behind = operand_head e.head (e.range_rest behind)
+
 abbrev pub at_comparison : Writing → Grows
 at_comparison e behind = operand_head e.head (e.comparison_rest behind)
+
 abbrev pub at_conjunction : Writing → Grows
 at_conjunction e behind = operand_head e.head (e.conjunction_rest behind)
+
 abbrev pub whole : Writing → Grows
 whole e behind = form expression expression_operand ∷ operand_head e.head (e.whole_rest behind)
 
@@ -267,7 +284,7 @@ generators_text g = all_generators g.all g.only
 abbrev pub pair_generators : List GeneratorText → Option Writing → Grows
 pair_generators [] only behind = misplaced behind
 pair_generators (g ∷ more) only behind = form pair pair_first_name ∷ form first_name first_name_name ∷ name g.bound (form pair_named pair_named_in ∷ word words.In (whole g.domain
-  (generators_behind more only behind)))
+    (generators_behind more only behind)))
 
 -- aggregates
 abbrev pub plain_aggregate : List Symbol → Word → Place → GeneratorsText → Writing → Grows
@@ -275,7 +292,7 @@ plain_aggregate f w place g body behind = form unnamed f ∷ mark w place (word 
 
 abbrev pub extreme_aggregate : Extreme → Place → GeneratorsText → Writing → Grows
 extreme_aggregate e place g body behind = form unnamed (unnamed_extreme e) ∷ mark (word_of_extreme e) place (word words.LeftParenthesis (pair_generators g.all g.only
-  (word words.RightParenthesis (at_product body behind))))
+    (word words.RightParenthesis (at_product body behind))))
 
 abbrev pub aggregate_text : Aggregate → Place → GeneratorsText → Writing → Grows
 aggregate_text aggregates.Sum place g body = plain_aggregate unnamed_sum words.Sum place g body
@@ -337,7 +354,7 @@ set_of place a = from_primary (by_opening (by_brace place (λ behind. listed_tex
 abbrev pub suffix_text : layers.Suffix-F Grows Writing Grows GeneratorText GeneratorsText LinkText → Grows
 suffix_text (layers.Index place index) behind = form suffixes suffixes_left_bracket ∷ mark words.LeftBracket place (whole index (form second [] ∷ word words.RightBracket behind))
 suffix_text (layers.Cell place a b) behind = form suffixes suffixes_left_bracket ∷ mark words.LeftBracket place (whole a (form second second_comma ∷ word words.Comma (whole b
-  (word words.RightBracket behind))))
+    (word words.RightBracket behind))))
 suffix_text (layers.Method n a) behind = form suffixes suffixes_dot ∷ word words.Dot (name n (parenthesized a.items behind))
 
 abbrev pub postfix_by : Option Grows → Head → List Grows → Writing

@@ -61,7 +61,7 @@ parameters_text (p ∷ more) behind = form parameters parameters_parameter ∷ w
 
 abbrev pub written_function : Function → Grows
 written_function f behind = form top top_function ∷ mark words.Function f.place (result_text f.result (name f.name (word words.LeftParenthesis (parameters_text f.parameters.items
-  (word words.RightParenthesis (written_block f.body behind))))))
+    (word words.RightParenthesis (written_block f.body behind))))))
 
 abbrev pub written_top : TopPart → Grows
 written_top (tops.Import n) behind = form top top_import ∷ word words.Import (name n (word words.Semicolon behind))

@@ -139,7 +139,7 @@ while_text place test body behind = statement_by statement_while words.While pla
 
 abbrev pub for_text : Place → Grows → Grows → Grows → Grows → Grows
 for_text place begin test step body behind = statement_by statement_for words.For place (word words.LeftParenthesis (begin (word words.Semicolon (test (word words.Semicolon (step
-  (word words.RightParenthesis (body behind))))))))
+    (word words.RightParenthesis (body behind))))))))
 
 abbrev pub over_text : List Symbol → Word → Place → Grows → Grows → Grows
 over_text f w place all body behind = statement_by f w place (in_parentheses all (body behind))
