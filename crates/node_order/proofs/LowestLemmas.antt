@@ -1,5 +1,5 @@
 -- The least of a list after changes, by how often each number stands there.
-use Rattle.std.proofs.Common.{◌≡◌, ◌≢◌, ℕ, zero, suc, ◌+◌, ◌<◌, ◌≤◌, ℤ, pos, ◌+ℤ◌, ◌<ℤ◌, ◌≤ℤ◌, Bool, true, false, cond, nat_lt, ◌⊎◌, inl, inr, List, [], ◌∷◌, length, get_or, set, fold, Option, Some, None, Result, Ok, refl, ap, sym, ◌∙◌, subst, arith}
+use Rattle.std.proofs.Common.{◌≡◌, ℕ, zero, suc, ◌+◌, ◌<◌, ◌≤◌, ℤ, pos, ◌+ℤ◌, ◌<ℤ◌, ◌≤ℤ◌, true, false, cond, nat_lt, ◌⊎◌, inl, inr, List, [], ◌∷◌, set, Option, Some, None, Result, Ok, refl, ap, sym, ◌∙◌, subst, arith}
 use Rattle.std.specs.Prelude.{unwrap_or, int_lt, slice_get}
 use Rattle.std.specs.Int.{int_min}
 use Rattle.std.specs.Map.{lookup, keys_of}
@@ -8,7 +8,7 @@ use Rattle.std.specs.BTreeMap.{BTreeMap, IsOrdered, is_at}
 use Rattle.std.specs.List.{AllByRecursion}
 use Rattle.std.specs.List.Sorted.{IsStrictlySortedBy}
 use Rattle.std.specs.declared.cmp.Ordering.TheVariants.{Less}
-use Rattle.std.proofs.lemmas.Bool.{both_ways, cases_Bool, cond-true, cond-false}
+use Rattle.std.proofs.lemmas.Bool.{cases_Bool, cond-true, cond-false}
 use Rattle.std.proofs.lemmas.Bool.Decides.{nat_tests}
 use Rattle.std.proofs.lemmas.Int.{ints, clamps}
 use Rattle.std.proofs.lemmas.List.Sums.{sum_by-cons}
@@ -19,7 +19,7 @@ use Rattle.cbl_base.proofs.CountLemmas.{one_at, count_of-cons, count_of-set}
 use Rattle.cbl_base.proofs.PlaceLemmas.{others_stay}
 use Rattle.cbl_base.proofs.SetLemmas.{int_eq-itself, int_eq-true, int_eq-false}
 use Rattle.cbl_operations.specs.Operations.Least.{least_of}
-use Rattle.node_base.specs.NumberChanges.{NoNumberAt, IsNumberChange, AreNumberChanges, after_number_change, after_number_changes}
+use Rattle.node_base.specs.NumberChanges.{NoNumberAt, IsNumberChange, AreNumberChanges, after_number_changes}
 use Rattle.node_base.specs.declared.number_change.NumberChange.{NumberChange}
 use Rattle.node_base.proofs.ChangeLemmas.{number_within, number_read}
 use Rattle.node_order.specs.Lowering.{times_old, first_left, lower, lowest_with, lowest}

@@ -1,6 +1,6 @@
 -- The least number of a list after changes: the least that stands at a place that isn't changed, or the
 -- least new number. A rule of this project.
-use Rattle.std.specs.Prelude.{ℕ, ℤ, pos, true, Bool, List, [], ◌∷◌, Option, Some, None, Ok, nat_lt, fold, count_by, if◌then◌else◌}
+use Rattle.std.specs.Prelude.{ℕ, ℤ, pos, true, List, [], ◌∷◌, Option, Some, None, Ok, nat_lt, fold, count_by, if◌then◌else◌}
 use Rattle.std.specs.Int.{int_min}
 use Rattle.std.specs.Ordering.{int_eq}
 use Rattle.cbl_base.specs.NumberRule.{NumberRule}

@@ -1,4 +1,4 @@
-//! Nodes of the order of numbers: the least of two or many.
+//! Nodes of the order of numbers: the least and the greatest of two or many.
 //!
 //! It knows nothing of terms, solvers or programs, and of no other node. The layers above use that each
 //! type is a `NumberNode` with exactly its rule. It keeps how often each number stands there, in order. A
@@ -7,8 +7,10 @@
 #![tactic(auto)]
 
 mod counts;
+mod greatest;
 mod least;
 mod lowest;
 
+pub use greatest::Greatest;
 pub use least::Least;
 pub use lowest::Lowest;

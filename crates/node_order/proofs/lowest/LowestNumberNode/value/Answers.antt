@@ -1,4 +1,4 @@
-use Rattle.std.proofs.Common.{◌≡◌, ◌∙◌, ℤ, [], Result, Ok, ap, sym, rules, refl, w64}
+use Rattle.std.proofs.Common.{◌∙◌, ℤ, [], Result, Ok, ap, sym, rules, refl, w64}
 use Rattle.std.specs.Prelude.{FitsSigned}
 use Rattle.std.proofs.lemmas.Int.{to_z-of_z}
 use Rattle.cbl_base.specs.declared.faults.RunFault.{RunFault}
