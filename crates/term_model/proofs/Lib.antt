@@ -10,3 +10,4 @@ pub mod PartLaws
 pub mod SameWholes
 pub mod TotalSteps
 pub mod DeltaLaws
+pub mod ClosedLaws

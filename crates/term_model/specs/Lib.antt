@@ -1,3 +1,4 @@
+pub mod Closed
 pub mod Definitions
 pub mod Delta
 pub mod Depth
