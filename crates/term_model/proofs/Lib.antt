@@ -11,3 +11,4 @@ pub mod SameWholes
 pub mod TotalSteps
 pub mod DeltaLaws
 pub mod ClosedLaws
+pub mod MarkLaws

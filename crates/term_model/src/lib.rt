@@ -10,6 +10,7 @@
 
 mod definitions;
 mod deltas;
+mod dependence;
 mod evaluation;
 mod fresh_values;
 mod laws;
