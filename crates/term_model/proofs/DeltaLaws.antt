@@ -5,6 +5,8 @@ use Rattle.cbl_base.specs.NumberRule.{NumberRule}
 use Rattle.cbl_base.specs.declared.place.Place.{Place}
 use Rattle.cbl_base.specs.declared.faults.RunFault.TheVariants.{DefinedVariable}
 use Rattle.term_model.specs.Delta.{moves_defined, moved, difference, value_of, delta_of, IsDelta}
+use Rattle.term_model.specs.VarOutcomes.{outcome_of_var}
+use Rattle.term_model.specs.Wholes.{outcome_of_whole, place_of}
 use Rattle.term_model.specs.declared.deltas.DeltaStop.{DeltaStop}
 use Rattle.term_model.specs.declared.deltas.DeltaStop.TheVariants.{Run}
 use Rattle.term_model.specs.declared.deltas.Move.{Move}
@@ -13,8 +15,12 @@ use Rattle.term_model.specs.declared.outcome.Failure.{Failure}
 use Rattle.term_model.specs.declared.wholes.Whole.{Whole}
 
 pub delta_from : (users : ℕ → NumberRule) (M : Model) (a : List ℤ) (whole : Whole) (place : Place) (move : Move) (numbers : List ℤ) (after now : Result ℤ Failure) (result : Result ℤ DeltaStop) →
-    moves_defined M move ≡ false → numbers ≡ moved a move → after ≡ value_of users M numbers whole place → now ≡ value_of users M a whole place → IsDelta (difference after now) result → IsDelta (delta_of users M a whole place move) result
-delta_from users M a whole place move numbers after now result free is h i d =
-    let whole' : difference after now ≡ difference (value_of users M (moved a move) whole place) (value_of users M a whole place) =
-    ap (λ r. difference r now) (h ∙ ap (λ b. value_of users M b whole place) is) ∙ ap (difference (value_of users M (moved a move) whole place)) i in
-    subst (λ e. IsDelta e result) (whole' ∙ sym (ap (λ b. if b then Err (Run DefinedVariable) else difference (value_of users M (moved a move) whole place) (value_of users M a whole place)) free)) d
+    moves_defined M move ≡ false → place ≡ place_of M whole → numbers ≡ moved a move →
+    after ≡ outcome_of_whole users M (outcome_of_var users M numbers) whole place → now ≡ outcome_of_whole users M (outcome_of_var users M a) whole place →
+    IsDelta (difference after now) result → IsDelta (delta_of users M a whole move) result
+delta_from users M a whole place move numbers after now result free at is h i d =
+    let after' : after ≡ value_of users M (moved a move) whole = h ∙ ap (outcome_of_whole users M (outcome_of_var users M numbers) whole) at ∙ ap (λ b. value_of users M b whole) is in
+    let now' : now ≡ value_of users M a whole = i ∙ ap (outcome_of_whole users M (outcome_of_var users M a) whole) at in
+    let whole' : difference after now ≡ difference (value_of users M (moved a move) whole) (value_of users M a whole) =
+    ap (λ r. difference r now) after' ∙ ap (difference (value_of users M (moved a move) whole)) now' in
+    subst (λ e. IsDelta e result) (whole' ∙ sym (ap (λ b. if b then Err (Run DefinedVariable) else difference (value_of users M (moved a move) whole) (value_of users M a whole)) free)) d

@@ -10,3 +10,5 @@ pub mod PartLaws
 pub mod SameWholes
 pub mod TotalSteps
 pub mod DeltaLaws
+pub mod ClosedLaws
+pub mod MarkLaws

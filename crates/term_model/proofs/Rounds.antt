@@ -71,7 +71,7 @@ module _ (M : Model) (formed : IsWellFormed M) where
       (names_kinded (kinds_in M.vars.items) found.0.term (definition_kinded M formed i lt entry found.0 e found.1))
 
   -- a variable depends on the model's own
-  names_within : (i d : ℕ) → i < length M.vars.items → DependsOn M i d → d < length M.vars.items
+  pub names_within : (i d : ℕ) → i < length M.vars.items → DependsOn M i d → d < length M.vars.items
   names_within i d lt in' =
       some_within M.vars.items d (All-contains (IsKinded (kinds_in M.vars.items)) (named_by M.defs.items (definition_of M i)) d (names_of i (definition_of M i) refl lt) in')
 

@@ -63,7 +63,7 @@ module _ (users : ℕ → NumberRule) (M : Model) (a : List ℤ) (acyclic : IsAc
   same_by_term env other turn (Some term) agree = same_outcome users env other turn term agree
   same_by_term env other turn None agree = refl
 
-  same_by : (env other : ℕ → Outcome) (i : ℕ) (entry : Option Defined) → ((d : ℕ) → Contains (named_by M.defs.items entry) d → env d ≡ other d) → outcome_by users M a env i entry ≡ outcome_by users M a other i entry
+  pub same_by : (env other : ℕ → Outcome) (i : ℕ) (entry : Option Defined) → ((d : ℕ) → Contains (named_by M.defs.items entry) d → env d ≡ other d) → outcome_by users M a env i entry ≡ outcome_by users M a other i entry
   same_by env other i (Some entry) agree = same_by_term env other entry.turn (term_of M.defs.items entry) agree
   same_by env other i None agree = refl
 

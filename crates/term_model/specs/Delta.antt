@@ -10,7 +10,7 @@ use Rattle.cbl_base.specs.declared.faults.RunFault.TheVariants.{DefinedVariable}
 use Rattle.cbl_base.specs.declared.place.Place.{Place}
 use Rattle.term_model.specs.Definitions.{definition_of}
 use Rattle.term_model.specs.VarOutcomes.{outcome_of_var}
-use Rattle.term_model.specs.Wholes.{outcome_of_whole}
+use Rattle.term_model.specs.Wholes.{outcome_of_whole, place_of}
 use Rattle.term_model.specs.declared.deltas.DeltaStop.{DeltaStop}
 use Rattle.term_model.specs.declared.deltas.DeltaStop.TheVariants.{Run, Fault, NoMemory}
 use Rattle.term_model.specs.declared.deltas.Move.{Move}
@@ -43,14 +43,14 @@ difference (Ok after) (Ok now) = as_delta (exact (after -ℤ now))
 difference (Ok after) (Err f) = Err (Fault f.place f.fault)
 difference (Err f) now = Err (Fault f.place f.fault)
 
--- the value of a system or objective that was declared at this place
-abbrev pub value_of : (ℕ → NumberRule) → Model → List ℤ → Whole → Place → Result ℤ Failure
-value_of users M a whole place = outcome_of_whole users M (outcome_of_var users M a) whole place
+-- the value of a system or objective
+abbrev pub value_of : (ℕ → NumberRule) → Model → List ℤ → Whole → Result ℤ Failure
+value_of users M a whole = outcome_of_whole users M (outcome_of_var users M a) whole (place_of M whole)
 
 -- the delta of a move
-abbrev pub delta_of : (ℕ → NumberRule) → Model → List ℤ → Whole → Place → Move → Result ℤ DeltaStop
-delta_of users M a whole place move =
-    if moves_defined M move then Err (Run DefinedVariable) else difference (value_of users M (moved a move) whole place) (value_of users M a whole place)
+abbrev pub delta_of : (ℕ → NumberRule) → Model → List ℤ → Whole → Move → Result ℤ DeltaStop
+delta_of users M a whole move =
+    if moves_defined M move then Err (Run DefinedVariable) else difference (value_of users M (moved a move) whole) (value_of users M a whole)
 
 -- the answer is this delta or its fault, or there was no memory
 abbrev pub IsDelta : Result ℤ DeltaStop → Result ℤ DeltaStop → Type 0

@@ -1,5 +1,7 @@
+pub mod Closed
 pub mod Definitions
 pub mod Delta
+pub mod Dependence
 pub mod Depth
 pub mod Fresh
 pub mod Kinds

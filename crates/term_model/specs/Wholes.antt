@@ -2,8 +2,8 @@
 -- posting; or the failure of the least numbered subterm on which it stands. Its own total is numbered behind
 -- all that was posted. A rule of this project.
 use Rattle.std.specs.declared.alloc.Global.{Global}
-use Rattle.std.specs.Prelude.{◌≡◌, Vec, ℕ, ℤ, List, [], ◌∷◌, ◌++◌, fold, length, nat_eq, Option, Some, None, Result, Ok, Err, slice_get, if◌then◌else◌}
-use Rattle.std.specs.Option.{option_and_then}
+use Rattle.std.specs.Prelude.{◌≡◌, Vec, ℕ, ℤ, List, [], ◌∷◌, ◌++◌, fold, length, nat_eq, Option, Some, None, Result, Ok, Err, slice_get, unwrap_or, ◌<◌, if◌then◌else◌}
+use Rattle.std.specs.Option.{option_and_then, option_map}
 use Rattle.std.specs.List.{enumerate_from}
 use Rattle.cbl_base.specs.NumberRule.{NumberRule}
 use Rattle.cbl_base.specs.Inputs.{number_of}
@@ -62,9 +62,18 @@ no_parts = record { numbers = Ok []; weights = [] }
 abbrev pub parts_in : (ℕ → NumberRule) → (ℕ → Outcome) → Model → Whole → List (ℕ × Posted) → Parts
 parts_in users env M whole posted = fold (add_posted users env M whole) no_parts posted
 
--- where the system or objective was declared
-abbrev pub place_in : List Total → ℕ → Option Place
-place_in totals k = option_and_then (λ total. Some total.place) (slice_get totals k)
+-- where a system or objective was declared, and line 0 of one that the model doesn't have
+abbrev pub place_in : List Total → ℕ → Place
+place_in totals k = unwrap_or (option_map (λ total. total.place) (slice_get totals k)) (record { line = 0; col = 0 })
+
+abbrev pub place_of : Model → Whole → Place
+place_of M (System s) = place_in M.systems.items s
+place_of M (Objective o) = place_in M.objectives.items o
+
+-- the model has this system or objective
+abbrev pub IsOf : Model → Whole → Type 0
+IsOf M (System s) = s < length M.systems.items
+IsOf M (Objective o) = o < length M.objectives.items
 
 abbrev pub total_at : ℕ → Place → Result ℤ RunFault → Result ℤ Failure
 total_at turn place (Ok z) = Ok z

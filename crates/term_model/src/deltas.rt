@@ -5,7 +5,7 @@ ghost use Rattle.term_model.specs.Delta.{AreOwn, moves_defined, moved, differenc
 ghost use Rattle.term_model.specs.Users.{user_rules};
 ghost use Rattle.term_model.specs.VarOutcomes.{outcome_of_var};
 ghost use Rattle.term_model.specs.Wellformed.{IsWellFormed, HasDefinedSets};
-ghost use Rattle.term_model.specs.Wholes.{outcome_of_whole};
+ghost use Rattle.term_model.specs.Wholes.{outcome_of_whole, place_of, IsOf};
 
 use crate::definitions::{definitions_of, dependencies_of};
 use crate::evaluation::Setting;
@@ -79,6 +79,17 @@ pub(crate) fn outcome_in<U: UserValues>(
     whole_outcome(&setting, whole, place)
 }
 
+/// Where a system or an objective was declared.
+pub(crate) fn place_of(model: &Model, whole: Whole) -> Place
+    requires { IsOf model.now whole }
+    ensures { result ≡ place_of model.now whole }
+{
+    match whole {
+        Whole::System(s) => model.systems[s].place,
+        Whole::Objective(o) => model.objectives[o].place,
+    }
+}
+
 /// Whether a variable has a definition.
 fn is_defined(alloc: Global, model: &Model, var: u32) -> Result<bool, NoMemory>
     requires { var < length model.now.vars.items }
@@ -144,7 +155,7 @@ fn difference(after: Result<i64, Failure>, now: Result<i64, Failure>) -> Result<
     }
 }
 
-/// The delta of a system or an objective that was declared at this place: its value after the move less its
+/// The delta of a system or an objective: its value after the move less its
 /// value now.
 ///
 /// `Run(DefinedVariable)` comes exactly where a moved variable has a definition; else `Fault` exactly where
@@ -156,19 +167,20 @@ pub fn delta<U: UserValues>(
     assignment: &[i64],
     users: &U,
     whole: Whole,
-    place: Place,
     change: Move,
 ) -> Result<i64, DeltaStop>
     requires well_formed { IsWellFormed model.now }
     requires sets { HasDefinedSets model.now }
     requires acyclic { IsAcyclic model.now }
     requires assigned { length assignment.now ≡ length model.now.vars.items }
+    requires whole { IsOf model.now whole }
     requires own { AreOwn model.now change }
-    ensures { IsDelta (delta_of (user_rules (U.viol_of users.now) (U.viol_at users.now)) model.now assignment.now whole place change) result }
+    ensures { IsDelta (delta_of (user_rules (U.viol_of users.now) (U.viol_at users.now)) model.now assignment.now whole change) result }
 {
     if moves_defined(alloc, model, change)? {
         return Err(DeltaStop::Run(RunFault::DefinedVariable));
     }
+    let place = place_of(model, whole);
     let numbers = moved(alloc, model, assignment, change)?;
     let after = outcome_in(alloc, model, numbers.as_slice(), users, whole, place)?;
     let now = outcome_in(alloc, model, assignment, users, whole, place)?;

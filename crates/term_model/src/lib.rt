@@ -10,8 +10,10 @@
 
 mod definitions;
 mod deltas;
+mod dependence;
 mod evaluation;
 mod fresh_values;
+mod laws;
 mod model;
 mod operation;
 mod order;
@@ -21,8 +23,10 @@ mod term;
 mod users;
 mod wholes;
 
+pub use cbl_operations::Op;
 pub use deltas::{DeltaStop, Move, delta};
 pub use fresh_values::{ModelStop, Values, fresh, fresh_with};
+pub use laws::closed_model_law;
 pub use model::{Definition, Member, Model, Posted, Total, VarDecl, VarKind};
 pub use term::Term;
 pub use users::UserValues;
