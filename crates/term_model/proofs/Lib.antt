@@ -2,6 +2,7 @@ pub mod KeyedValues
 pub mod SetCopies
 pub mod Kinded
 pub mod Layers
+pub mod KindSteps
 pub mod Noted
 pub mod Congruence
 pub mod VarLaws
@@ -10,3 +11,4 @@ pub mod PartLaws
 pub mod SameWholes
 pub mod TotalSteps
 pub mod DeltaLaws
+pub mod UsableLaws

@@ -1,3 +1,4 @@
+pub mod Checks
 pub mod Definitions
 pub mod Delta
 pub mod Depth
