@@ -21,7 +21,7 @@ use Rattle.term_model.specs.declared.term.Term.TheVariants.{rolls-Node}
 use Rattle.term_model.specs.declared.term.Term.TheFolds.{fold-roll-Term}
 use Rattle.term_model.proofs.Kinded.{args_kinded, takes_args, kind_of_operated, kinds_gather}
 
-kind_of_layer : (kinds : ℕ → Option InputKind) (t : Term) (op : Op) (args : Vec Term Global) (place : Place) → t ≡ Node op args place → kind_of_term kinds t ≡ node_kind op (all_kinds (map (kind_of_term kinds) args.items))
+pub kind_of_layer : (kinds : ℕ → Option InputKind) (t : Term) (op : Op) (args : Vec Term Global) (place : Place) → t ≡ Node op args place → kind_of_term kinds t ≡ node_kind op (all_kinds (map (kind_of_term kinds) args.items))
 kind_of_layer kinds t op args place e =
     ap (kind_of_term kinds) (e ∙ sym (rolls-Node op args place)) ∙ fold-roll-Term (Option InputKind) (kind_step kinds) (Term-F.Node op args place)
 
@@ -49,7 +49,7 @@ kind_of_outcome viol_of viol_at kinds t op args place items inputs turn outcome 
 
 -- ---- the arguments one after another
 module _ {Y Z : Type 0} (step : Z → Y → Z) (start : Z) (f : Term → Y) where
-  one_more : (items : List Term) (i : ℕ) (item : Term) → i < length items → item ≡ get_or items i item → fold step start (map f (take (i + 1) items)) ≡ step (fold step start (map f (take i items))) (f item)
+  pub one_more : (items : List Term) (i : ℕ) (item : Term) → i < length items → item ≡ get_or items i item → fold step start (map f (take (i + 1) items)) ≡ step (fold step start (map f (take i items))) (f item)
   one_more items i item lt is =
       ap (fold step start) (map_more f items i item lt) ∙ fold-append step start (map f (take i items)) (f (get_or items i item) ∷ [])
       ∙ ap (λ u. step (fold step start (map f (take i items))) (f u)) (sym is)

@@ -2,6 +2,7 @@ pub mod KeyedValues
 pub mod SetCopies
 pub mod Kinded
 pub mod Layers
+pub mod KindSteps
 pub mod Noted
 pub mod Congruence
 pub mod VarLaws
@@ -12,3 +13,4 @@ pub mod TotalSteps
 pub mod DeltaLaws
 pub mod ClosedLaws
 pub mod MarkLaws
+pub mod UsableLaws

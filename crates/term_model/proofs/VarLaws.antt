@@ -127,7 +127,7 @@ pub definition_kinded : (M : Model) → IsWellFormed M → (i : ℕ) → i < len
 definition_kinded M formed i lt entry def e there = subst IsSome (sym (kind_of_definition M formed i entry def e there)) (kind_within M.vars.items i lt)
 
 -- ---- one outcome more
-set_same : {X : Type 0} (xs : List X) (i : ℕ) (v : X) → i < length xs → slice_get (set xs i v) i ≡ Some v
+pub set_same : {X : Type 0} (xs : List X) (i : ℕ) (v : X) → i < length xs → slice_get (set xs i v) i ≡ Some v
 set_same [] i v lt = absurd (omega arith)
 set_same (x ∷ xs) zero v lt = refl
 set_same (x ∷ xs) (suc i) v lt = set_same xs i v (omega arith)
@@ -171,7 +171,7 @@ right_set users M a cells after i o right lt is kind e =
     subst (IsRight users M a) (sym e) (right_here users M a cells i o right (subst (λ n. i < n) (sym right.count) lt) is kind)
 
 -- ---- which variables a variable waits for
-named_at : (f : Option Defined → List ℕ) (entries : List (Option Defined)) (i : ℕ) (entry : Option Defined) → slice_get entries i ≡ Some entry → slice_get (map f entries) i ≡ Some (f entry)
+pub named_at : (f : Option Defined → List ℕ) (entries : List (Option Defined)) (i : ℕ) (entry : Option Defined) → slice_get entries i ≡ Some entry → slice_get (map f entries) i ≡ Some (f entry)
 named_at f [] i entry e = let c : None ≡ Some entry = e in cc
 named_at f (x ∷ entries) zero entry e = ap (λ o. option_map f o) e
 named_at f (x ∷ entries) (suc i) entry e = named_at f entries i entry e

@@ -1,4 +1,5 @@
 pub mod Closed
+pub mod Checks
 pub mod Definitions
 pub mod Delta
 pub mod Dependence

@@ -152,7 +152,7 @@ pub(crate) enum Side {
 }
 
 /// The systems or the objectives of a model.
-fn totals_by(model: &Model, side: Side) -> &[Total]
+pub(crate) fn totals_by(model: &Model, side: Side) -> &[Total]
     ensures { result.now ≡ totals_by model.now side }
 {
     match side {

@@ -1,0 +1,6 @@
+use Rattle.std.proofs.Common.{take}
+use Rattle.term_model.specs.Checks.{AreCounts}
+use Rattle.term_model.proofs.usable.are_posted_in_order.Given as goal
+
+abbrev pub invariant-loop-turn : goal.invariant-loop-turn
+invariant-loop-turn l = AreCounts l.side (take l.turn l.model.posted.items) l.counts.items

@@ -1,0 +1,21 @@
+use Rattle.std.proofs.Common.{rules, ◌≡◌, ℕ, true, All, subst}
+use Rattle.std.proofs.lemmas.Bool.{OnTrue_at}
+use Rattle.term_model.specs.Checks.{IsOwned, IsTotal}
+use Rattle.term_model.proofs.UsableLaws.{well_formed_from}
+use Rattle.term_model.proofs.usable.is_well_formed.Goals as goal
+
+pub returns : goal.returns
+returns c =
+    let definitions : c.in_ok-are_definitions.field-0 ≡ true = search rules in
+    let systems : c.in_ok-are_totals.field-0 ≡ true = search rules in
+    let objectives : c.in_ok-are_totals-2.field-0 ≡ true = search rules in
+    let constraints : c.in_ok-are_posted_in_order.field-0 ≡ true = search rules in
+    let parts : c.in_ok-are_posted_in_order-2.field-0 ≡ true = search rules in
+    well_formed_from c.args.model.now c.deref.result.now
+    (OnTrue_at definitions c.in_ok-are_definitions.ensures)
+    (subst (λ ds. (d : ℕ) → IsOwned c.deref.result.now ds d) c.deref-2.ensures.value (OnTrue_at c.if-not-are_owned.false c.are_owned.ensures))
+    (subst (All (IsTotal c.args.model.now)) c.deref-3.ensures.value (OnTrue_at systems c.in_ok-are_totals.ensures))
+    (subst (All (IsTotal c.args.model.now)) c.deref-4.ensures.value (OnTrue_at objectives c.in_ok-are_totals-2.ensures))
+    (OnTrue_at c.if-not-are_defined_in_order.false c.are_defined_in_order.ensures)
+    (OnTrue_at constraints c.in_ok-are_posted_in_order.ensures)
+    (OnTrue_at parts c.in_ok-are_posted_in_order-2.ensures)
