@@ -20,13 +20,13 @@ use Rattle.comet_syntax.specs.Grammar.Alternatives.{alternatives}
 use Rattle.comet_syntax.specs.Grammar.First.{first}
 use Rattle.comet_syntax.specs.Derivation.{OneOf, here, there, part, push}
 use Rattle.comet_syntax.specs.Written.Shown.{Shown, form, plain, Grows, each}
-use Rattle.comet_syntax.specs.Written.Expressions.{Head, Writing, written, written_suffix, written_argument, written_generator, from_primary, from_operand, closed, name_alone, postfix_by, more_argument, listed_text, arguments_text, more_generator, GeneratorText, GeneratorsText, aggregate_text, generators_text, at_product, condition_text}
+use Rattle.comet_syntax.specs.Written.Expressions.{Head, Opening, by_opening, opening, Writing, written, written_suffix, written_argument, written_generator, from_primary, from_operand, closed, name_alone, postfix_by, more_argument, listed_text, arguments_text, more_generator, GeneratorText, GeneratorsText, aggregate_text, generators_text, at_product, condition_text}
 use Rattle.comet_parse.specs.declared.stop.Stop.{Stop}
 use Rattle.comet_parse.specs.Promise.{Sees, Reads, Reaches, Fails, halts, no_memory, Continues, settles}
-use Rattle.comet_parse.specs.Levels.{IsPrimary, IsOperand, primary_text, behind_first, IsPlain, word_of_aggregate, IsAfter, after_text}
+use Rattle.comet_parse.specs.Levels.{IsPrimary, IsOperand, primary_text, behind_first, IsPlain, word_of_aggregate, IsUnnamed, suffixed, closed_suffixes, IsAfter, after_text}
 use Rattle.comet_parse.proofs.Machine.{alone}
 use Rattle.comet_parse.proofs.Steps.{reads_all, reads_on, reads_none, reads_same, reads_deeper, reads_plain, reads_placed, reads_picked, fails_plain, fails_placed, fails_picked, fails_same, fails_at_same, fails_within, more_reads, reaches_level, sees, at_level}
-use Rattle.comet_parse.proofs.Chains.{each_push, map_push, none_of, some_of}
+use Rattle.comet_parse.proofs.Chains.{each_push, map_push, none_of, some_of, is_operand}
 
 pub is_primary : {e : Writing} (h : Head) (r : Grows) → e ≡ from_primary h r → IsPrimary e
 is_primary h r p = rw p (record { operand = record { product = record { total = record { range = record { comparison = record { conjunction = record { disjunction = record { alone = refl }; alone = refl }; alone = refl }; alone = refl }; alone = refl }; alone = refl }; alone = refl }; rest = r; some = refl; alone = refl })
@@ -35,11 +35,11 @@ pub is_named : {e : Writing} (n : Name) → e ≡ name_alone n → IsPrimary e
 is_named n p = rw p (record { operand = record { product = record { total = record { range = record { comparison = record { conjunction = record { disjunction = record { alone = refl }; alone = refl }; alone = refl }; alone = refl }; alone = refl }; alone = refl }; alone = refl }; rest = _; some = refl; alone = refl })
 
 pub primary_reads : {d : ℕ} {body : List Symbol} {ts mid rest : List Token} {pr : Option Grows} {to : Grows} (behind_head : Grows) → pr ≡ Some behind_head → Reads 200 body d ts mid behind_head
-  → Continues 200 (same suffixes ∷ []) d mid rest (primary_text pr) to → Reads 200 (body ++ (same suffixes ∷ [])) d ts rest to
+    → Continues 200 (same suffixes ∷ []) d mid rest (primary_text pr) to → Reads 200 (body ++ (same suffixes ∷ [])) d ts rest to
 primary_reads {body = body} behind_head e g k = at_level (sym (k.is ∙ ap (λ z. λ behind. primary_text z (k.tree behind)) e)) (reads_all body g k.reads)
 
 pub suffix_reads : {d : ℕ} {mid rest : List Token} {pr : Option Grows} {to : Grows} → pr ≡ Some (λ behind. behind)
-  → Continues 200 (same suffixes ∷ []) d mid rest (primary_text pr) to → Reads 200 (same suffixes ∷ []) d mid rest to
+    → Continues 200 (same suffixes ∷ []) d mid rest (primary_text pr) to → Reads 200 (same suffixes ∷ []) d mid rest to
 suffix_reads e k = at_level (sym (k.is ∙ ap (λ z. λ behind. primary_text z (k.tree behind)) e)) k.reads
 
 abbrev pub suffix_texts : List Suffix → Grows
@@ -49,23 +49,29 @@ pub suffixes_push : (ls : List Suffix) (x : Suffix) → suffix_texts (ls ++ (x �
 suffixes_push ls x = ap (each (λ y. y)) (map_push written_suffix ls x) ∙ each_push (λ y. y) (map written_suffix ls) (written_suffix x)
 
 pub suffixes_none : {d : ℕ} {ts rest : List Token} {e : Writing} (ls : List Suffix) → true ≡ (length ls == 0) → Reaches 200 (same suffixes ∷ []) (same suffixes ∷ []) d ts rest (suffix_texts ls) → d ≤ 200
-  → next_in (first suffixes) rest ≡ false → IsPrimary e → Continues 200 (same suffixes ∷ []) d ts rest (primary_text e.primary_rest) e.operand_rest
-suffixes_none {e = e} ls h g le f p = record { tree = λ behind. suffix_texts ls (form suffixes [] ∷ behind); reads = reads_on g (reads_none suffixes le here f);
-  is = (p.alone ∙ ap (λ z. closed suffixes (primary_text z)) (sym p.some)) ∙ ap (λ z. λ behind. primary_text e.primary_rest (suffix_texts z (form suffixes [] ∷ behind))) (sym (none_of ls h)) }
+    → next_in (first suffixes) rest ≡ false → IsPrimary e → Continues 200 (same suffixes ∷ []) d ts rest (primary_text e.primary_rest) e.operand_rest
+suffixes_none {e = e} ls h g le f p = record {
+  tree = λ behind. suffix_texts ls (form suffixes [] ∷ behind);
+  reads = reads_on g (reads_none suffixes le here f);
+  is = (p.alone ∙ ap (λ z. closed suffixes (primary_text z)) (sym p.some)) ∙ ap (λ z. λ behind. primary_text e.primary_rest (suffix_texts z (form suffixes [] ∷ behind))) (sym (none_of ls h));
+}
 
 postfix_is : (pr : Option Grows) (r : Grows) (h : Head) (ls : List Grows) → pr ≡ Some r → 0 < length ls → postfix_by pr h ls ≡ from_operand h (λ behind. r (each (λ x. x) ls (form suffixes [] ∷ behind)))
 postfix_is pr r h [] e l = absurd (omega arith)
 postfix_is pr r h (s ∷ more) e l = ap (λ z. postfix_by z h (s ∷ more)) e
 
 pub suffixes_some : {all e : Writing} (ls : List Suffix) → false ≡ (length ls == 0) → (p : IsPrimary e) → all ≡ postfix_by e.primary_rest e.head (map written_suffix ls)
-  → all ≡ from_operand e.head (λ behind. p.rest (suffix_texts ls (form suffixes [] ∷ behind)))
+    → all ≡ from_operand e.head (λ behind. p.rest (suffix_texts ls (form suffixes [] ∷ behind)))
 suffixes_some {e = e} ls h p q = q ∙ postfix_is e.primary_rest p.rest e.head (map written_suffix ls) p.some (simp length-map (some_of ls h))
 
 pub suffixes_end : {d : ℕ} {ts rest : List Token} {all e : Writing} (ls : List Suffix) (p : IsPrimary e) → all ≡ from_operand e.head (λ behind. p.rest (suffix_texts ls (form suffixes [] ∷ behind)))
-  → Reaches 200 (same suffixes ∷ []) (same suffixes ∷ []) d ts rest (suffix_texts ls) → d ≤ 200 → next_in (first suffixes) rest ≡ false
-  → Continues 200 (same suffixes ∷ []) d ts rest (primary_text e.primary_rest) all.operand_rest
-suffixes_end ls p q g le f = record { tree = λ behind. suffix_texts ls (form suffixes [] ∷ behind); reads = reads_on g (reads_none suffixes le here f);
-  is = ap (λ z. z.operand_rest) q ∙ ap (λ z. λ behind. primary_text z (suffix_texts ls (form suffixes [] ∷ behind))) (sym p.some) }
+    → Reaches 200 (same suffixes ∷ []) (same suffixes ∷ []) d ts rest (suffix_texts ls) → d ≤ 200 → next_in (first suffixes) rest ≡ false
+    → Continues 200 (same suffixes ∷ []) d ts rest (primary_text e.primary_rest) all.operand_rest
+suffixes_end ls p q g le f = record {
+  tree = λ behind. suffix_texts ls (form suffixes [] ∷ behind);
+  reads = reads_on g (reads_none suffixes le here f);
+  is = ap (λ z. z.operand_rest) q ∙ ap (λ z. λ behind. primary_text z (suffix_texts ls (form suffixes [] ∷ behind))) (sym p.some);
+}
 
 pub not_both : (b : Bool) → b ≡ true → b ≡ false → ⊥
 not_both true p q = cc
@@ -106,8 +112,8 @@ some_still (g ∷ ls) h = omega arith
 
 -- aggregates that begin with a word of their own
 pub plain_reads : {d : ℕ} {ts mid rest : List Token} {place : Place} (g : GeneratorsText) (body : Writing) (a : Aggregate) → IsPlain a → d ≤ 200 → Sees ts (kinds.Word (word_of_aggregate a)) place mid
-  → Reads 200 (word words.LeftParenthesis ∷ same generators ∷ word words.RightParenthesis ∷ deeper operand ∷ deeper product_tail ∷ []) d mid rest (λ behind. plain (kinds.Word words.LeftParenthesis) ∷ generators_text g (plain (kinds.Word words.RightParenthesis) ∷ at_product body behind))
-  → Reads 200 (same unnamed ∷ []) d ts rest (aggregate_text a place g body)
+    → Reads 200 (word words.LeftParenthesis ∷ same generators ∷ word words.RightParenthesis ∷ deeper operand ∷ deeper product_tail ∷ []) d mid rest (λ behind. plain (kinds.Word words.LeftParenthesis) ∷ generators_text g (plain (kinds.Word words.RightParenthesis) ∷ at_product body behind))
+    → Reads 200 (same unnamed ∷ []) d ts rest (aggregate_text a place g body)
 plain_reads g body aggregates.Sum p le s r = reads_picked unnamed unnamed_sum le (there (there (there (there (there (there here)))))) (sees _ s) (reads_placed s r)
 plain_reads g body aggregates.All p le s r = reads_picked unnamed unnamed_all le (there (there (there (there (there (there (there here))))))) (sees _ s) (reads_placed s r)
 plain_reads g body aggregates.And p le s r = reads_picked unnamed unnamed_and le (there (there (there (there (there (there (there (there here)))))))) (sees _ s) (reads_placed s r)
@@ -119,7 +125,7 @@ plain_reads g body aggregates.Min p le s r = absurd p
 plain_reads g body aggregates.Max p le s r = absurd p
 
 pub plain_fails : {d : ℕ} {ts mid : List Token} {place : Place} {stop : Stop} (a : Aggregate) → IsPlain a → d ≤ 200 → Sees ts (kinds.Word (word_of_aggregate a)) place mid
-  → Fails 200 (word words.LeftParenthesis ∷ same generators ∷ word words.RightParenthesis ∷ deeper operand ∷ deeper product_tail ∷ []) d mid stop → Fails 200 (same unnamed ∷ []) d ts stop
+    → Fails 200 (word words.LeftParenthesis ∷ same generators ∷ word words.RightParenthesis ∷ deeper operand ∷ deeper product_tail ∷ []) d mid stop → Fails 200 (same unnamed ∷ []) d ts stop
 plain_fails aggregates.Sum p le s r = fails_picked unnamed unnamed_sum le (there (there (there (there (there (there here)))))) (sees _ s) (fails_placed s r)
 plain_fails aggregates.All p le s r = fails_picked unnamed unnamed_all le (there (there (there (there (there (there (there here))))))) (sees _ s) (fails_placed s r)
 plain_fails aggregates.And p le s r = fails_picked unnamed unnamed_and le (there (there (there (there (there (there (there (there here)))))))) (sees _ s) (fails_placed s r)
@@ -152,11 +158,11 @@ other_suffix (t ∷ ts) h g = second_of (kind_eq (a_word words.LeftBracket) (kin
 
 -- a word and an expression, or nothing
 pub fails_after_word : {d : ℕ} {ts : List Token} {stop : Stop} {w : Word} (n : Part) → IsAfter n w → d ≤ 200 → next_in (a_word w ∷ []) ts ≡ true
-  → Fails 200 (token false (a_word w) ∷ deeper expression ∷ []) d ts stop → Fails 200 (same n ∷ []) d ts stop
+    → Fails 200 (token false (a_word w) ∷ deeper expression ∷ []) d ts stop → Fails 200 (same n ∷ []) d ts stop
 fails_after_word {w = w} n after le h f = fails_picked n (token false (a_word w) ∷ deeper expression ∷ []) le (subst (λ z. OneOf z (token false (a_word w) ∷ deeper expression ∷ [])) (sym after.forms) (there here)) h f
 
 pub reads_after_word : {d : ℕ} {ts rest : List Token} {tree : Grows} {w : Word} (n : Part) → IsAfter n w → d ≤ 200 → next_in (a_word w ∷ []) ts ≡ true
-  → Reads 200 (token false (a_word w) ∷ deeper expression ∷ []) d ts rest tree → Reads 200 (same n ∷ []) d ts rest (λ behind. form n (token false (a_word w) ∷ deeper expression ∷ []) ∷ tree behind)
+    → Reads 200 (token false (a_word w) ∷ deeper expression ∷ []) d ts rest tree → Reads 200 (same n ∷ []) d ts rest (λ behind. form n (token false (a_word w) ∷ deeper expression ∷ []) ∷ tree behind)
 reads_after_word {w = w} n after le h f = reads_picked n (token false (a_word w) ∷ deeper expression ∷ []) le (subst (λ z. OneOf z (token false (a_word w) ∷ deeper expression ∷ [])) (sym after.forms) (there here)) h f
 
 pub reads_no_word : {d : ℕ} {ts : List Token} {w : Word} (n : Part) → IsAfter n w → d ≤ 200 → next_in (a_word w ∷ []) ts ≡ false → Reads 200 (same n ∷ []) d ts ts (λ behind. form n [] ∷ behind)
@@ -168,8 +174,8 @@ at_condition (Some e) h = h
 
 -- the first member of a list
 pub list_begins : {d : ℕ} {n x tail : Part} {ts mid : List Token} {tree : Grows} → d ≤ 200 → alternatives n ≡ (same x ∷ same tail ∷ []) ∷ []
-  → OneOf (alternatives n) (same x ∷ same tail ∷ []) → Reads 200 (same x ∷ []) d ts mid tree
-  → Reaches 200 (same n ∷ []) (same tail ∷ []) d ts mid (λ behind. form n (same x ∷ same tail ∷ []) ∷ tree behind)
+    → OneOf (alternatives n) (same x ∷ same tail ∷ []) → Reads 200 (same x ∷ []) d ts mid tree
+    → Reaches 200 (same n ∷ []) (same tail ∷ []) d ts mid (λ behind. form n (same x ∷ same tail ∷ []) ∷ tree behind)
 list_begins {d = d} {n = n} {tail = tail} {ts = ts} le e o h = record { reaches = λ K K' r behind l. settles _ le o tt (alone n _ ts e) (h.leads (part tail d ∷ K) K' r behind l) }
 
 -- in front of other symbols
@@ -190,14 +196,48 @@ tails = same product_tail ∷ same total_tail ∷ same range_tail ∷ same compa
 abbrev pub deeper_tails : List Symbol
 deeper_tails = deeper product_tail ∷ deeper total_tail ∷ deeper range_tail ∷ deeper comparison_tail ∷ deeper and_tail ∷ deeper or_tail ∷ deeper branches ∷ []
 
-pub continues_deeper : {d : ℕ} {ts rest : List Token} {from to : Grows} → Continues 200 tails (d + 1) ts rest from to → Continues 200 deeper_tails d ts rest from to
+abbrev pub continues_deeper : {d : ℕ} {ts rest : List Token} {from to : Grows} → Continues 200 tails (d + 1) ts rest from to → Continues 200 deeper_tails d ts rest from to
 continues_deeper k = record { tree = k.tree; reads = record { leads = k.reads.leads }; is = k.is }
 
 pub fails_tails_deeper : {d : ℕ} {ts : List Token} {stop : Stop} → Fails 200 tails (d + 1) ts stop → Fails 200 deeper_tails d ts stop
 fails_tails_deeper (halts h) = halts h
 fails_tails_deeper no_memory = no_memory
 
+-- from the same tokens
+pub fails_here : {d : ℕ} {body : List Symbol} {ts here : List Token} {stop : Stop} → ts ≡ here → Fails 200 body d here stop → Fails 200 body d ts stop
+fails_here {d = d} {body = body} {stop = stop} e f = subst (λ z. Fails 200 body d z stop) (sym e) f
+
+pub reaches_here : {d : ℕ} {body : List Symbol} {ts here rest : List Token} {tree : Grows} → ts ≡ here → Reaches 200 body body d here rest tree → Reaches 200 body body d ts rest tree
+reaches_here {d = d} {body = body} {rest = rest} {tree = tree} e f = subst (λ z. Reaches 200 body body d z rest tree) (sym e) f
+
+-- what finish_primary gives
+pub suffix_goes : {d : ℕ} {ts rest : List Token} {all : Writing} (e : Writing) (ls : List Suffix) → IsPrimary e → Reads 200 (same suffixes ∷ []) d ts rest (closed_suffixes ls)
+    → all ≡ suffixed e (map written_suffix ls) → Continues 200 (same suffixes ∷ []) d ts rest (primary_text e.primary_rest) all.operand_rest
+suffix_goes e [] p g h = record { tree = λ behind. form suffixes [] ∷ behind; reads = g; is = ap (λ z. z.operand_rest) h ∙ (p.alone ∙ ap (λ z. closed suffixes (primary_text z)) (sym p.some)) }
+suffix_goes e (l ∷ ls) p g h = record {
+  tree = closed_suffixes (l ∷ ls);
+  reads = g;
+  is = ap (λ z. z.operand_rest) (h ∙ postfix_is e.primary_rest p.rest e.head (map written_suffix (l ∷ ls)) p.some (omega arith)) ∙ ap (λ z. λ behind. primary_text z (closed_suffixes (l ∷ ls) behind)) (sym p.some);
+}
+
+pub suffix_head : {all : Writing} (e : Writing) (ls : List Suffix) → IsPrimary e → all ≡ suffixed e (map written_suffix ls) → all.head ≡ e.head
+suffix_head e [] p h = ap (λ z. z.head) h
+suffix_head e (l ∷ ls) p h = ap (λ z. z.head) (h ∙ postfix_is e.primary_rest p.rest e.head (map written_suffix (l ∷ ls)) p.some (omega arith))
+
+pub suffix_level : {all : Writing} (e : Writing) (ls : List Suffix) → IsPrimary e → all ≡ suffixed e (map written_suffix ls) → IsOperand all
+suffix_level e [] p h = subst IsOperand (sym h) p.operand
+suffix_level e (l ∷ ls) p h = is_operand _ _ (h ∙ postfix_is e.primary_rest p.rest e.head (map written_suffix (l ∷ ls)) p.some (omega arith))
+
+pub suffix_alone : {all : Writing} {ts rest : List Token} (e : Writing) (ls : List Suffix) → IsPrimary e → all ≡ suffixed e (map written_suffix ls) → (ls ≡ [] → rest ≡ ts)
+    → all.is_name ≡ true → (rest ≡ ts) × (e.is_name ≡ true)
+suffix_alone e [] p h none n = (none refl, sym (ap (λ z. z.is_name) h) ∙ n)
+suffix_alone e (l ∷ ls) p h none n = absurd (not_both _ n (ap (λ z. z.is_name) (h ∙ postfix_is e.primary_rest p.rest e.head (map written_suffix (l ∷ ls)) p.some (omega arith))))
+
+-- an operand that is no postfix form
+pub by_operand : {d : ℕ} {ts rest : List Token} {e : Writing} (o : Opening) → e ≡ from_operand (by_opening o) (λ behind. behind) → Reads 200 (same unnamed ∷ []) d ts rest (opening o) → IsUnnamed 200 d ts rest e
+by_operand o e r = record { by = o; head_is = ap (λ z. z.head) e; reads = at_level (sym (ap (λ z. λ behind. opening o (z.operand_rest behind)) e)) r }
+
 -- several symbols are read, and what is written grows
 pub reads_continues : {d : ℕ} {body' : List Symbol} {ts mid rest : List Token} {from to : Grows} (body : List Symbol) → Reads 200 body d ts mid from → Continues 200 body' d mid rest from to
-  → Reads 200 (body ++ body') d ts rest to
+    → Reads 200 (body ++ body') d ts rest to
 reads_continues body g k = at_level (sym k.is) (reads_all body g k.reads)

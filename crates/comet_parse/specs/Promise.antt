@@ -25,10 +25,10 @@ pub record Sees (ts : List Token) (k : TokenKind) (place : Place) (rest : List T
 pub data Carries (limit : ℕ) : List Item → List Token → List Shown → List Item → List Token → Type 0 where
   waits : {K : List Item} {ts : List Token} → Carries limit K ts [] K ts
   gains : {m : Bool} {k : Kind} {K K' : List Item} {t : Token} {ts rest : List Token} {tree : List Shown} → kind t ≡ k
-    → Carries limit K ts tree K' rest → Carries limit (want m k ∷ K) (t ∷ ts) (shown m t ∷ tree) K' rest
+      → Carries limit K ts tree K' rest → Carries limit (want m k ∷ K) (t ∷ ts) (shown m t ∷ tree) K' rest
   settles : {n : Part} {d : ℕ} {K K' : List Item} {ts rest : List Token} {tree : List Shown} (body : List Symbol) → d ≤ limit
-    → OneOf (alternatives n) body → MayTake n body ts → MustTake n body ts
-    → Carries limit (push body d K) ts tree K' rest → Carries limit (part n d ∷ K) ts (form n body ∷ tree) K' rest
+      → OneOf (alternatives n) body → MayTake n body ts → MustTake n body ts
+      → Carries limit (push body d K) ts tree K' rest → Carries limit (part n d ∷ K) ts (form n body ∷ tree) K' rest
 
 -- The symbols at this depth are read from these tokens, and those are left. They are written in front of what comes behind.
 pub record Reads (limit : ℕ) (body : List Symbol) (d : ℕ) (ts rest : List Token) (tree : Grows) : Type 0 where

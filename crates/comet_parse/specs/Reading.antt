@@ -26,10 +26,10 @@ MustTake n body ts = (other : List Symbol) → OneOf (alternatives n) other → 
 pub data Leads (limit : ℕ) : List Item → List Token → List Event → List Item → List Token → Type 0 where
   stays : {K : List Item} {ts : List Token} → Leads limit K ts [] K ts
   gets : {m : Bool} {k : Kind} {K K' : List Item} {t : Token} {ts rest : List Token} {tree : List Event} → kind t ≡ k
-    → Leads limit K ts tree K' rest → Leads limit (want m k ∷ K) (t ∷ ts) (read m t ∷ tree) K' rest
+      → Leads limit K ts tree K' rest → Leads limit (want m k ∷ K) (t ∷ ts) (read m t ∷ tree) K' rest
   picks : {n : Part} {d : ℕ} {K K' : List Item} {ts rest : List Token} {tree : List Event} (body : List Symbol) → d ≤ limit
-    → OneOf (alternatives n) body → MayTake n body ts → MustTake n body ts
-    → Leads limit (push body d K) ts tree K' rest → Leads limit (part n d ∷ K) ts (chose n body ∷ tree) K' rest
+      → OneOf (alternatives n) body → MayTake n body ts → MustTake n body ts
+      → Leads limit (push body d K) ts tree K' rest → Leads limit (part n d ∷ K) ts (chose n body ∷ tree) K' rest
 
 abbrev pub cause_at : List Token → FormCause
 cause_at [] = UnexpectedEnd

@@ -2,16 +2,15 @@
 ghost use Rattle.std.specs.Prelude.{◌≡◌, IfOk, IfErr, map};
 ghost use Rattle.comet_syntax.specs.Written.Expressions.{written, written_link, written_suffix, written_generators, chain, comparison, range_of, conditional, unary, aggregate, postfix_by, extreme_of, parentheses, written_generator, option_value, Writing, GeneratorsText, aggregate_text, extreme_aggregate};
 ghost use Rattle.cbl_base.specs.declared.place.Place.{Place};
-ghost use Rattle.comet_parse.specs.Levels.{index_text};
+ghost use Rattle.comet_parse.specs.Levels.{index_text, chained, suffixed};
 ghost use Rattle.comet_parse.specs.declared.stop.Stop.TheVariants as stops;
 
+use crate::stop::Stop;
 use cbl_base::Place;
 use comet_syntax::tree::{
     Aggregate, Comparison, Expression, Extreme, Generator, Generators, Link, Suffix, UnaryOperator,
 };
 use std::alloc::Global;
-
-use crate::stop::Stop;
 
 /// A chain of operands.
 pub fn make_chain(alloc: Global, first: Expression, links: Vec<Link>) -> Result<Expression, Stop>
@@ -23,7 +22,13 @@ pub fn make_chain(alloc: Global, first: Expression, links: Vec<Link>) -> Result<
 }
 
 /// A comparison.
-pub fn make_comparison(alloc: Global, left: Expression, by: Comparison, place: Place, right: Expression) -> Result<Expression, Stop>
+pub fn make_comparison(
+    alloc: Global,
+    left: Expression,
+    by: Comparison,
+    place: Place,
+    right: Expression,
+) -> Result<Expression, Stop>
     ensures ok { IfOk result (λ e. written e ≡ comparison (written left) by place (written right)) }
     ensures err { IfErr result (λ s. s ≡ stops.NoMemory) }
 {
@@ -38,7 +43,12 @@ pub fn make_comparison(alloc: Global, left: Expression, by: Comparison, place: P
 }
 
 /// A range.
-pub fn make_range(alloc: Global, low: Expression, place: Place, high: Expression) -> Result<Expression, Stop>
+pub fn make_range(
+    alloc: Global,
+    low: Expression,
+    place: Place,
+    high: Expression,
+) -> Result<Expression, Stop>
     ensures ok { IfOk result (λ e. written e ≡ range_of (written low) place (written high)) }
     ensures err { IfErr result (λ s. s ≡ stops.NoMemory) }
 {
@@ -48,7 +58,12 @@ pub fn make_range(alloc: Global, low: Expression, place: Place, high: Expression
 }
 
 /// A conditional.
-pub fn make_conditional(alloc: Global, test: Expression, then: Expression, otherwise: Expression) -> Result<Expression, Stop>
+pub fn make_conditional(
+    alloc: Global,
+    test: Expression,
+    then: Expression,
+    otherwise: Expression,
+) -> Result<Expression, Stop>
     ensures ok { IfOk result (λ e. written e ≡ conditional (written test) (written then) (written otherwise)) }
     ensures err { IfErr result (λ s. s ≡ stops.NoMemory) }
 {
@@ -63,7 +78,12 @@ pub fn make_conditional(alloc: Global, test: Expression, then: Expression, other
 }
 
 /// A sign before its operand.
-pub fn make_unary(alloc: Global, operator: UnaryOperator, place: Place, operand: Expression) -> Result<Expression, Stop>
+pub fn make_unary(
+    alloc: Global,
+    operator: UnaryOperator,
+    place: Place,
+    operand: Expression,
+) -> Result<Expression, Stop>
     ensures ok { IfOk result (λ e. written e ≡ unary operator place (written operand)) }
     ensures err { IfErr result (λ s. s ≡ stops.NoMemory) }
 {
@@ -76,7 +96,13 @@ pub fn make_unary(alloc: Global, operator: UnaryOperator, place: Place, operand:
 }
 
 /// An aggregate.
-pub fn make_aggregate(alloc: Global, kind: Aggregate, place: Place, generators: Generators, body: Expression) -> Result<Expression, Stop>
+pub fn make_aggregate(
+    alloc: Global,
+    kind: Aggregate,
+    place: Place,
+    generators: Generators,
+    body: Expression,
+) -> Result<Expression, Stop>
     ensures ok { IfOk result (λ e. written e ≡ aggregate kind place (written_generators generators) (written body)) }
     ensures err { IfErr result (λ s. s ≡ stops.NoMemory) }
 {
@@ -90,7 +116,11 @@ pub fn make_aggregate(alloc: Global, kind: Aggregate, place: Place, generators: 
 }
 
 /// A primary with suffixes.
-pub fn make_postfix(alloc: Global, primary: Expression, suffixes: Vec<Suffix>) -> Result<Expression, Stop>
+pub fn make_postfix(
+    alloc: Global,
+    primary: Expression,
+    suffixes: Vec<Suffix>,
+) -> Result<Expression, Stop>
     ensures ok { IfOk result (λ e. written e ≡ postfix_by (written primary).primary_rest (written primary).head (map written_suffix suffixes.items)) }
     ensures err { IfErr result (λ s. s ≡ stops.NoMemory) }
 {
@@ -99,7 +129,13 @@ pub fn make_postfix(alloc: Global, primary: Expression, suffixes: Vec<Suffix>) -
 }
 
 /// `min` or `max` of two expressions.
-pub fn make_extreme(alloc: Global, extreme: Extreme, place: Place, left: Expression, right: Expression) -> Result<Expression, Stop>
+pub fn make_extreme(
+    alloc: Global,
+    extreme: Extreme,
+    place: Place,
+    left: Expression,
+    right: Expression,
+) -> Result<Expression, Stop>
     ensures ok { IfOk result (λ e. written e ≡ extreme_of extreme place (written left) (written right)) }
     ensures err { IfErr result (λ s. s ≡ stops.NoMemory) }
 {
@@ -137,7 +173,11 @@ pub fn make_index(place: Place, index: Expression, second: Option<Expression>) -
 }
 
 /// Generators with their condition.
-pub fn make_generators(alloc: Global, found: Vec<Generator>, only: Option<Expression>) -> Result<Generators, Stop>
+pub fn make_generators(
+    alloc: Global,
+    found: Vec<Generator>,
+    only: Option<Expression>,
+) -> Result<Generators, Stop>
     ensures all { IfOk result (λ g. (written_generators g).all ≡ map written_generator found.items) }
     ensures only { IfOk result (λ g. (written_generators g).only ≡ option_value written only) }
     ensures err { IfErr result (λ s. s ≡ stops.NoMemory) }
@@ -164,5 +204,37 @@ pub fn aggregate_of(extreme: Extreme) -> Aggregate
     match extreme {
         Extreme::Min => Aggregate::Min,
         Extreme::Max => Aggregate::Max,
+    }
+}
+
+/// A first operand with its links, or alone.
+pub fn chain_up(alloc: Global, head: Expression, links: Vec<Link>) -> Result<Expression, Stop>
+    ensures ok { IfOk result (λ e. written e ≡ chained (written head) (map written_link links.items)) }
+    ensures err { IfErr result (λ s. s ≡ stops.NoMemory) }
+{
+    match links.first() {
+        None => Ok(head),
+        Some(_) => {
+            let all = make_chain(alloc, head, links)?;
+            Ok(all)
+        }
+    }
+}
+
+/// A primary with its suffixes, or alone.
+pub fn suffix_up(
+    alloc: Global,
+    primary: Expression,
+    suffixes: Vec<Suffix>,
+) -> Result<Expression, Stop>
+    ensures ok { IfOk result (λ e. written e ≡ suffixed (written primary) (map written_suffix suffixes.items)) }
+    ensures err { IfErr result (λ s. s ≡ stops.NoMemory) }
+{
+    match suffixes.first() {
+        None => Ok(primary),
+        Some(_) => {
+            let all = make_postfix(alloc, primary, suffixes)?;
+            Ok(all)
+        }
     }
 }

@@ -8,11 +8,10 @@ ghost use Rattle.comet_syntax.specs.Written.Expressions.{word_of_comparison};
 ghost use Rattle.comet_parse.specs.Promise.{Sees};
 ghost use Rattle.comet_parse.specs.Levels.{IsMultiplying, IsAdding, IsPlain, first_aggregate, word_of_aggregate, word_of_chain};
 
+use crate::tokens::{at, skip};
 use cbl_base::Place;
 use comet_syntax::tree::{Aggregate, ChainOperator, Comparison};
 use comet_syntax::{Token, Word};
-
-use crate::tokens::{at, skip};
 
 /// `*`, `/` or `%`, its place, and the tokens behind it.
 pub fn skip_multiplying(tokens: &[Token]) -> Option<(ChainOperator, Place, &[Token])>
@@ -86,9 +85,13 @@ pub fn skip_aggregate(tokens: &[Token]) -> Option<(Aggregate, Place, &[Token])>
     }
 }
 
-/// Whether a suffix of a postfix form begins here.
-pub fn begins_suffix(tokens: &[Token]) -> bool
-    ensures { result ≡ next_in (first suffixes) tokens.now }
+/// The tokens from here, where a suffix of a postfix form begins.
+pub fn at_suffix(tokens: &[Token]) -> Option<&[Token]>
+    ensures { MatchOption result (next_in (first suffixes) tokens.now ≡ false) (λ here. (tokens.now ≡ here.now) × (next_in (first suffixes) here.now ≡ true)) }
 {
-    at(tokens, Word::LeftBracket) || at(tokens, Word::Dot)
+    if at(tokens, Word::LeftBracket) || at(tokens, Word::Dot) {
+        Some(tokens)
+    } else {
+        None
+    }
 }
