@@ -6,6 +6,7 @@
 //! expressions.
 #![tactic(auto)]
 
+mod declarations;
 mod make;
 mod make_statements;
 mod operators;
