@@ -6,8 +6,11 @@
 //! tokens `parse_expression` reads an expression as it is written, or stops where each derivation stops.
 #![tactic(auto)]
 
+mod declarations;
 mod expressions;
 mod make;
+mod make_statements;
 mod operators;
 mod stop;
 mod tokens;
+mod types;

@@ -202,8 +202,8 @@ fn is_among(word: Word, words: &[Word]) -> bool
     words.contains(&word)
 }
 
-// Whether the next token is one of these words.
-fn at_one_of(tokens: &[Token], words: &[Word]) -> bool
+/// Whether the next token is one of these words.
+pub fn at_one_of(tokens: &[Token], words: &[Word]) -> bool
     ensures { result ≡ next_in (map a_word words.now) tokens.now }
 {
     match tokens.split_first() {
