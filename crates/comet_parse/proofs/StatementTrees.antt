@@ -84,7 +84,7 @@ unfolding written_statement written_block
 written_parall p n e b = ap written_statement (sym (trees.rolls-Parall p n e b)) ∙ fold-roll-Statement Grows Grows statement_text block_layer (layers.Parall p n e b)
 
 pub written_if : (p : Place) (e : Expression) (s : Box Statement Global) (o : Option (Box Statement Global)) → written_statement (trees.If p e s o)
-  ≡ if_text p (whole_text e) (written_statement s.value) (option_text (λ b. written_statement b.value) o)
+    ≡ if_text p (whole_text e) (written_statement s.value) (option_text (λ b. written_statement b.value) o)
 unfolding written_statement written_block
 written_if p e s None = ap written_statement (sym (trees.rolls-If p e s None)) ∙ fold-roll-Statement Grows Grows statement_text block_layer (layers.If p e s None)
 written_if p e s (Some o) = ap written_statement (sym (trees.rolls-If p e s (Some o))) ∙ fold-roll-Statement Grows Grows statement_text block_layer (layers.If p e s (Some o))

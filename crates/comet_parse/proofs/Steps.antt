@@ -35,64 +35,64 @@ pub reads_end : {limit d : ℕ} {ts : List Token} → Reads limit [] d ts ts (λ
 reads_end = record { leads = λ K K' r behind l. l }
 
 gains_next : {limit : ℕ} {K K' : List Item} {ts rest r : List Token} {tree : List Shown} (m : Bool) (k : TokenKind) (place : Place) (s : Sees ts k place rest)
-  → Carries limit K rest tree K' r → Carries limit (want m (kind_of k) ∷ K) ts (shown m s.next ∷ tree) K' r
+    → Carries limit K rest tree K' r → Carries limit (want m (kind_of k) ∷ K) ts (shown m s.next ∷ tree) K' r
 gains_next {limit = limit} {K = K} {K' = K'} {r = r} {tree = tree} m k place s l =
-  subst (λ z. Carries limit (want m (kind_of k) ∷ K) z (shown m s.next ∷ tree) K' r) (sym s.is) (gains (ap kind_of s.kind_is) l)
+    subst (λ z. Carries limit (want m (kind_of k) ∷ K) z (shown m s.next ∷ tree) K' r) (sym s.is) (gains (ap kind_of s.kind_is) l)
 
 carries_plain : {limit : ℕ} {K K' : List Item} {ts rest r : List Token} {tree : List Shown} {k : TokenKind} {place : Place} → Sees ts k place rest
-  → Carries limit K rest tree K' r → Carries limit (want false (kind_of k) ∷ K) ts (plain k ∷ tree) K' r
+    → Carries limit K rest tree K' r → Carries limit (want false (kind_of k) ∷ K) ts (plain k ∷ tree) K' r
 carries_plain {limit = limit} {K = K} {K' = K'} {ts = ts} {r = r} {tree = tree} {k = k} {place = place} s l =
-  subst (λ z. Carries limit (want false (kind_of k) ∷ K) ts (plain z ∷ tree) K' r) s.kind_is (gains_next false k place s l)
+    subst (λ z. Carries limit (want false (kind_of k) ∷ K) ts (plain z ∷ tree) K' r) s.kind_is (gains_next false k place s l)
 
 carries_placed : {limit : ℕ} {K K' : List Item} {ts rest r : List Token} {tree : List Shown} {k : TokenKind} {place : Place} → Sees ts k place rest
-  → Carries limit K rest tree K' r → Carries limit (want true (kind_of k) ∷ K) ts (placed k place ∷ tree) K' r
+    → Carries limit K rest tree K' r → Carries limit (want true (kind_of k) ∷ K) ts (placed k place ∷ tree) K' r
 carries_placed {limit = limit} {K = K} {K' = K'} {ts = ts} {r = r} {tree = tree} {k = k} {place = place} s l =
-  subst (λ z. Carries limit (want true (kind_of k) ∷ K) ts (placed k z ∷ tree) K' r) s.place_is
+    subst (λ z. Carries limit (want true (kind_of k) ∷ K) ts (placed k z ∷ tree) K' r) s.place_is
     (subst (λ z. Carries limit (want true (kind_of k) ∷ K) ts (placed z s.next.place ∷ tree) K' r) s.kind_is (gains_next true k place s l))
 
 pub reads_plain : {limit d : ℕ} {body : List Symbol} {k : TokenKind} {place : Place} {ts rest rest' : List Token} {tree : Grows}
-  → Sees ts k place rest → Reads limit body d rest rest' tree → Reads limit (token false (kind_of k) ∷ body) d ts rest' (λ behind. plain k ∷ tree behind)
+    → Sees ts k place rest → Reads limit body d rest rest' tree → Reads limit (token false (kind_of k) ∷ body) d ts rest' (λ behind. plain k ∷ tree behind)
 reads_plain s h = record { leads = λ K K' r behind l. carries_plain s (h.leads K K' r behind l) }
 
 pub reads_placed : {limit d : ℕ} {body : List Symbol} {k : TokenKind} {place : Place} {ts rest rest' : List Token} {tree : Grows}
-  → Sees ts k place rest → Reads limit body d rest rest' tree → Reads limit (token true (kind_of k) ∷ body) d ts rest' (λ behind. placed k place ∷ tree behind)
+    → Sees ts k place rest → Reads limit body d rest rest' tree → Reads limit (token true (kind_of k) ∷ body) d ts rest' (λ behind. placed k place ∷ tree behind)
 reads_placed s h = record { leads = λ K K' r behind l. carries_placed s (h.leads K K' r behind l) }
 
 pub reads_same : {limit d : ℕ} {n : Part} {body : List Symbol} {ts mid rest : List Token} {tree tree' : Grows}
-  → Reads limit (same n ∷ []) d ts mid tree → Reads limit body d mid rest tree' → Reads limit (same n ∷ body) d ts rest (λ behind. tree (tree' behind))
+    → Reads limit (same n ∷ []) d ts mid tree → Reads limit body d mid rest tree' → Reads limit (same n ∷ body) d ts rest (λ behind. tree (tree' behind))
 reads_same {d = d} {body = body} {tree' = tree'} g h = record { leads = λ K K' r behind l. g.leads (push body d K) K' r (tree' behind) (h.leads K K' r behind l) }
 
 pub reads_deeper : {limit d : ℕ} {n : Part} {body : List Symbol} {ts mid rest : List Token} {tree tree' : Grows}
-  → Reads limit (same n ∷ []) (d + 1) ts mid tree → Reads limit body d mid rest tree' → Reads limit (deeper n ∷ body) d ts rest (λ behind. tree (tree' behind))
+    → Reads limit (same n ∷ []) (d + 1) ts mid tree → Reads limit body d mid rest tree' → Reads limit (deeper n ∷ body) d ts rest (λ behind. tree (tree' behind))
 reads_deeper {d = d} {body = body} {tree' = tree'} g h = record { leads = λ K K' r behind l. g.leads (push body d K) K' r (tree' behind) (h.leads K K' r behind l) }
 
 pub reads_onward : {limit d : ℕ} {n : Part} {body : List Symbol} {ts mid rest : List Token} {tree tree' : Grows} (b : Bool)
-  → Reads limit (same n ∷ []) (depth_in b d) ts mid tree → Reads limit body d mid rest tree' → Reads limit (default b n ∷ body) d ts rest (λ behind. tree (tree' behind))
+    → Reads limit (same n ∷ []) (depth_in b d) ts mid tree → Reads limit body d mid rest tree' → Reads limit (default b n ∷ body) d ts rest (λ behind. tree (tree' behind))
 reads_onward {d = d} {body = body} {tree' = tree'} b g h = record { leads = λ K K' r behind l. g.leads (push body d K) K' r (tree' behind) (h.leads K K' r behind l) }
 
 -- a stop at the next items is one at these, if these lead there
 along : {limit : ℕ} {K K' : List Item} {ts mid : List Token} {left : ℕ} {c : FormCause} (grow : Grows)
-  → ((tree : List Shown) (items : List Item) (rest : List Token) → Carries limit K' mid tree items rest → Carries limit K ts (grow tree) items rest)
-  → Halts limit K' mid left c → Halts limit K ts left c
+    → ((tree : List Shown) (items : List Item) (rest : List Token) → Carries limit K' mid tree items rest → Carries limit K ts (grow tree) items rest)
+    → Halts limit K' mid left c → Halts limit K ts left c
 along grow l f = record { tree = grow f.tree; items = f.items; rest = f.rest; leads = l f.tree f.items f.rest f.leads; stops = f.stops; left_is = f.left_is }
 
 pub fails_plain : {limit d : ℕ} {body : List Symbol} {k : TokenKind} {place : Place} {ts rest : List Token} {s : Stop}
-  → Sees ts k place rest → Fails limit body d rest s → Fails limit (token false (kind_of k) ∷ body) d ts s
+    → Sees ts k place rest → Fails limit body d rest s → Fails limit (token false (kind_of k) ∷ body) d ts s
 fails_plain {k = k} n (halts h) = halts (λ K. along (λ z. plain k ∷ z) (λ tree items rest l. carries_plain n l) (h K))
 fails_plain n no_memory = no_memory
 
 pub fails_placed : {limit d : ℕ} {body : List Symbol} {k : TokenKind} {place : Place} {ts rest : List Token} {s : Stop}
-  → Sees ts k place rest → Fails limit body d rest s → Fails limit (token true (kind_of k) ∷ body) d ts s
+    → Sees ts k place rest → Fails limit body d rest s → Fails limit (token true (kind_of k) ∷ body) d ts s
 fails_placed {k = k} {place = place} n (halts h) = halts (λ K. along (λ z. placed k place ∷ z) (λ tree items rest l. carries_placed n l) (h K))
 fails_placed n no_memory = no_memory
 
 pub fails_same : {limit d : ℕ} {n : Part} {body : List Symbol} {ts mid : List Token} {tree : Grows} {s : Stop}
-  → Reads limit (same n ∷ []) d ts mid tree → Fails limit body d mid s → Fails limit (same n ∷ body) d ts s
+    → Reads limit (same n ∷ []) d ts mid tree → Fails limit body d mid s → Fails limit (same n ∷ body) d ts s
 fails_same {d = d} {body = body} {tree = tree} g (halts h) = halts (λ K. along tree (λ t i r l. g.leads (push body d K) i r t l) (h K))
 fails_same g no_memory = no_memory
 
 pub fails_deeper : {limit d : ℕ} {n : Part} {body : List Symbol} {ts mid : List Token} {tree : Grows} {s : Stop}
-  → Reads limit (same n ∷ []) (d + 1) ts mid tree → Fails limit body d mid s → Fails limit (deeper n ∷ body) d ts s
+    → Reads limit (same n ∷ []) (d + 1) ts mid tree → Fails limit body d mid s → Fails limit (deeper n ∷ body) d ts s
 fails_deeper {d = d} {body = body} {tree = tree} g (halts h) = halts (λ K. along tree (λ t i r l. g.leads (push body d K) i r t l) (h K))
 fails_deeper g no_memory = no_memory
 
@@ -111,16 +111,16 @@ fails_at_deeper no_memory = no_memory
 
 -- several symbols are read, or lead to others, in front of what else there is
 pub reads_on : {limit d : ℕ} {body body' : List Symbol} {ts mid rest : List Token} {tree tree' : Grows} → Reaches limit body body' d ts mid tree
-  → Reads limit body' d mid rest tree' → Reads limit body d ts rest (λ behind. tree (tree' behind))
+    → Reads limit body' d mid rest tree' → Reads limit body d ts rest (λ behind. tree (tree' behind))
 reads_on {tree' = tree'} g h = record { leads = λ K K' r behind l. g.reaches K K' r (tree' behind) (h.leads K K' r behind l) }
 
 pub fails_on : {limit d : ℕ} {body body' : List Symbol} {ts mid : List Token} {tree : Grows} {s : Stop} → Reaches limit body body' d ts mid tree
-  → Fails limit body' d mid s → Fails limit body d ts s
+    → Fails limit body' d mid s → Fails limit body d ts s
 fails_on g no_memory = no_memory
 fails_on {tree = tree} g (halts h) = halts (λ K. along tree (λ t i r l. g.reaches K i r t l) (h K))
 
 pub reaches_on : {limit d : ℕ} {body body' body'' : List Symbol} {ts mid rest : List Token} {tree tree' : Grows} → Reaches limit body body' d ts mid tree
-  → Reaches limit body' body'' d mid rest tree' → Reaches limit body body'' d ts rest (λ behind. tree (tree' behind))
+    → Reaches limit body' body'' d mid rest tree' → Reaches limit body body'' d ts rest (λ behind. tree (tree' behind))
 reaches_on {tree' = tree'} g h = record { reaches = λ K K' r behind l. g.reaches K K' r (tree' behind) (h.reaches K K' r behind l) }
 
 -- nothing is read yet
@@ -136,15 +136,17 @@ push_append (default g n ∷ a) b d K = ap (λ z. part n (depth_in g d) ∷ z) (
 
 -- several symbols, and then others
 pub reads_all : {limit d : ℕ} {body' : List Symbol} {ts mid rest : List Token} {tree tree' : Grows} (body : List Symbol) → Reads limit body d ts mid tree → Reads limit body' d mid rest tree'
-  → Reads limit (body ++ body') d ts rest (λ behind. tree (tree' behind))
-reads_all {limit = limit} {d = d} {body' = body'} {ts = ts} {tree = tree} {tree' = tree'} body g h = record { leads = λ K K' r behind l.
-  subst (λ z. Carries limit z ts (tree (tree' behind)) K' r) (sym (push_append body body' d K)) (g.leads (push body' d K) K' r (tree' behind) (h.leads K K' r behind l)) }
+    → Reads limit (body ++ body') d ts rest (λ behind. tree (tree' behind))
+reads_all {limit = limit} {d = d} {body' = body'} {ts = ts} {tree = tree} {tree' = tree'} body g h = record {
+  leads = λ K K' r behind l.
+      subst (λ z. Carries limit z ts (tree (tree' behind)) K' r) (sym (push_append body body' d K)) (g.leads (push body' d K) K' r (tree' behind) (h.leads K K' r behind l));
+}
 
 pub fails_after : {limit d : ℕ} {body' : List Symbol} {ts mid : List Token} {tree : Grows} {s : Stop} (body : List Symbol) → Reads limit body d ts mid tree → Fails limit body' d mid s
-  → Fails limit (body ++ body') d ts s
+    → Fails limit (body ++ body') d ts s
 fails_after body g no_memory = no_memory
 fails_after {limit = limit} {d = d} {body' = body'} {ts = ts} {tree = tree} body g (halts h) = halts (λ K. along tree
-  (λ t i r l. subst (λ z. Carries limit z ts (tree t) i r) (sym (push_append body body' d K)) (g.leads (push body' d K) i r t l)) (h K))
+    (λ t i r l. subst (λ z. Carries limit z ts (tree t) i r) (sym (push_append body body' d K)) (g.leads (push body' d K) i r t l)) (h K))
 
 pub fails_within : {limit d : ℕ} {ts : List Token} {s : Stop} (body body' : List Symbol) → Fails limit body d ts s → Fails limit (body ++ body') d ts s
 fails_within body body' no_memory = no_memory
@@ -152,11 +154,11 @@ fails_within {limit = limit} {d = d} {ts = ts} body body' (halts {left = left} {
 
 -- a part has this form
 pub reads_form : {limit d : ℕ} {ts rest : List Token} {tree : Grows} (n : Part) (body : List Symbol)
-  → d ≤ limit → OneOf (alternatives n) body → MayTake n body ts → MustTake n body ts → Reads limit body d ts rest tree → Reads limit (same n ∷ []) d ts rest (λ behind. form n body ∷ tree behind)
+    → d ≤ limit → OneOf (alternatives n) body → MayTake n body ts → MustTake n body ts → Reads limit body d ts rest tree → Reads limit (same n ∷ []) d ts rest (λ behind. form n body ∷ tree behind)
 reads_form n body le o may must h = record { leads = λ K K' r behind l. settles body le o may must (h.leads K K' r behind l) }
 
 pub fails_form : {limit d : ℕ} {ts : List Token} {s : Stop} (n : Part) (body : List Symbol)
-  → d ≤ limit → OneOf (alternatives n) body → MayTake n body ts → MustTake n body ts → Fails limit body d ts s → Fails limit (same n ∷ []) d ts s
+    → d ≤ limit → OneOf (alternatives n) body → MayTake n body ts → MustTake n body ts → Fails limit body d ts s → Fails limit (same n ∷ []) d ts s
 fails_form n body le o may must (halts h) = halts (λ K. along (λ z. form n body ∷ z) (λ t i r l. settles body le o may must l) (h K))
 fails_form n body le o may must no_memory = no_memory
 
@@ -186,21 +188,21 @@ may_take n (default b l ∷ body) (t ∷ ts) h = cc
 
 -- A form that the next token picks.
 pub reads_picked : {limit d : ℕ} {ts rest : List Token} {tree : Grows} (n : Part) (body : List Symbol)
-  → d ≤ limit → OneOf (alternatives n) body → next_in (heads body) ts ≡ true → Reads limit body d ts rest tree → Reads limit (same n ∷ []) d ts rest (λ behind. form n body ∷ tree behind)
+    → d ≤ limit → OneOf (alternatives n) body → next_in (heads body) ts ≡ true → Reads limit body d ts rest tree → Reads limit (same n ∷ []) d ts rest (λ behind. form n body ∷ tree behind)
 reads_picked {ts = ts} n body le o h = reads_form n body le o (may_take n body ts h) (picked n body ts o h)
 
 pub fails_picked : {limit d : ℕ} {ts : List Token} {s : Stop} (n : Part) (body : List Symbol)
-  → d ≤ limit → OneOf (alternatives n) body → next_in (heads body) ts ≡ true → Fails limit body d ts s → Fails limit (same n ∷ []) d ts s
+    → d ≤ limit → OneOf (alternatives n) body → next_in (heads body) ts ≡ true → Fails limit body d ts s → Fails limit (same n ∷ []) d ts s
 fails_picked {ts = ts} n body le o h = fails_form n body le o (may_take n body ts h) (picked n body ts o h)
 
 -- The form that a part has where the next token begins no other one.
 pub reads_default : {limit d : ℕ} {ts rest : List Token} {tree : Grows} (n : Part) (b : Bool) (m : Part) (body : List Symbol)
-  → d ≤ limit → OneOf (alternatives n) (default b m ∷ body) → next_in (first n) ts ≡ false → Reads limit (default b m ∷ body) d ts rest tree
-  → Reads limit (same n ∷ []) d ts rest (λ behind. form n (default b m ∷ body) ∷ tree behind)
+    → d ≤ limit → OneOf (alternatives n) (default b m ∷ body) → next_in (first n) ts ≡ false → Reads limit (default b m ∷ body) d ts rest tree
+    → Reads limit (same n ∷ []) d ts rest (λ behind. form n (default b m ∷ body) ∷ tree behind)
 reads_default {ts = ts} n b m body le o h = reads_form n (default b m ∷ body) le o h (by_default n (default b m ∷ body) ts o refl h)
 
 pub fails_default : {limit d : ℕ} {ts : List Token} {s : Stop} (n : Part) (b : Bool) (m : Part) (body : List Symbol)
-  → d ≤ limit → OneOf (alternatives n) (default b m ∷ body) → next_in (first n) ts ≡ false → Fails limit (default b m ∷ body) d ts s → Fails limit (same n ∷ []) d ts s
+    → d ≤ limit → OneOf (alternatives n) (default b m ∷ body) → next_in (first n) ts ≡ false → Fails limit (default b m ∷ body) d ts s → Fails limit (same n ∷ []) d ts s
 fails_default {ts = ts} n b m body le o h = fails_form n (default b m ∷ body) le o h (by_default n (default b m ∷ body) ts o refl h)
 
 -- a part is left out
@@ -209,30 +211,32 @@ reads_none {ts = ts} n le o h = reads_form n [] le o h (by_default n [] ts o ref
 
 -- the only form of a part
 pub reads_only : {limit d : ℕ} {ts rest : List Token} {tree : Grows} (n : Part) (body : List Symbol)
-  → d ≤ limit → alternatives n ≡ body ∷ [] → OneOf (alternatives n) body → MayTake n body ts → Reads limit body d ts rest tree → Reads limit (same n ∷ []) d ts rest (λ behind. form n body ∷ tree behind)
+    → d ≤ limit → alternatives n ≡ body ∷ [] → OneOf (alternatives n) body → MayTake n body ts → Reads limit body d ts rest tree → Reads limit (same n ∷ []) d ts rest (λ behind. form n body ∷ tree behind)
 reads_only {ts = ts} n body le e o may = reads_form n body le o may (alone n body ts e)
 
 pub fails_only : {limit d : ℕ} {ts : List Token} {s : Stop} (n : Part) (body : List Symbol)
-  → d ≤ limit → alternatives n ≡ body ∷ [] → OneOf (alternatives n) body → MayTake n body ts → Fails limit body d ts s → Fails limit (same n ∷ []) d ts s
+    → d ≤ limit → alternatives n ≡ body ∷ [] → OneOf (alternatives n) body → MayTake n body ts → Fails limit body d ts s → Fails limit (same n ∷ []) d ts s
 fails_only {ts = ts} n body le e o may = fails_form n body le o may (alone n body ts e)
 
 -- one more member of a list or a chain
 pub more_reads : {limit d : ℕ} {tail : Part} {body : List Symbol} {ts rest : List Token} {tree : Grows} → d ≤ limit → OneOf (alternatives tail) (body ++ (same tail ∷ []))
-  → next_in (heads (body ++ (same tail ∷ []))) ts ≡ true → Reads limit body d ts rest tree
-  → Reaches limit (same tail ∷ []) (same tail ∷ []) d ts rest (λ behind. form tail (body ++ (same tail ∷ [])) ∷ tree behind)
-more_reads {limit = limit} {d = d} {tail = tail} {body = body} {ts = ts} {tree = tree} le o h g = record { reaches = λ K K' r behind l.
-  settles (body ++ (same tail ∷ [])) le o (may_take tail (body ++ (same tail ∷ [])) ts h) (picked tail (body ++ (same tail ∷ [])) ts o h)
-    (subst (λ z. Carries limit z ts (tree behind) K' r) (sym (push_append body (same tail ∷ []) d K)) (g.leads (part tail d ∷ K) K' r behind l)) }
+    → next_in (heads (body ++ (same tail ∷ []))) ts ≡ true → Reads limit body d ts rest tree
+    → Reaches limit (same tail ∷ []) (same tail ∷ []) d ts rest (λ behind. form tail (body ++ (same tail ∷ [])) ∷ tree behind)
+more_reads {limit = limit} {d = d} {tail = tail} {body = body} {ts = ts} {tree = tree} le o h g = record {
+  reaches = λ K K' r behind l.
+      settles (body ++ (same tail ∷ [])) le o (may_take tail (body ++ (same tail ∷ [])) ts h) (picked tail (body ++ (same tail ∷ [])) ts o h)
+      (subst (λ z. Carries limit z ts (tree behind) K' r) (sym (push_append body (same tail ∷ []) d K)) (g.leads (part tail d ∷ K) K' r behind l));
+}
 
 -- the exit of a `?` passes a stop on
 pub passes : {T : Type 0} {limit d : ℕ} {body : List Symbol} {ts : List Token} (r : Result T Stop) (s : Stop) → IsErrAnd r (λ e. e ≡ s) → Fails limit body d ts s
-  → IfErr r (λ e. Fails limit body d ts e)
+    → IfErr r (λ e. Fails limit body d ts e)
 passes {limit = limit} {d = d} {body = body} {ts = ts} r s h f =
-  let p = err_from_is_err_and r h in rw p.1 (subst (λ z. Fails limit body d ts z) (sym p.2) f)
+    let p = err_from_is_err_and r h in rw p.1 (subst (λ z. Fails limit body d ts z) (sym p.2) f)
 
 -- memory has run out
 pub gives_up : {T : Type 0} (limit d : ℕ) (body : List Symbol) (ts : List Token) (r : Result T Stop) (s : Stop) → IsErrAnd r (λ e. e ≡ s) → s ≡ NoMemory
-  → IfErr r (λ e. Fails limit body d ts e)
+    → IfErr r (λ e. Fails limit body d ts e)
 gives_up limit d body ts r s h e = passes r s h (subst (λ z. Fails limit body d ts z) (sym e) no_memory)
 
 -- none of a part's tokens comes
@@ -260,7 +264,7 @@ pub at_level : {limit d : ℕ} {body : List Symbol} {ts rest : List Token} {tree
 at_level {limit = limit} {d = d} {body = body} {ts = ts} {rest = rest} e h = subst (λ z. Reads limit body d ts rest z) e h
 
 pub reaches_level : {limit d : ℕ} {body body' : List Symbol} {ts rest : List Token} {tree tree' : Grows} → tree ≡ tree' → Reaches limit body body' d ts rest tree
-  → Reaches limit body body' d ts rest tree'
+    → Reaches limit body body' d ts rest tree'
 reaches_level {limit = limit} {d = d} {body = body} {body' = body'} {ts = ts} {rest = rest} e h = subst (λ z. Reaches limit body body' d ts rest z) e h
 
 -- the exit of a `?` for want of memory, where a fact of every stop is promised

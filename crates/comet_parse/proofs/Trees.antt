@@ -102,13 +102,12 @@ pub written_suffix_cell : (p : Place) (a : Expression) (b : Expression) → writ
 unfolding written written_argument written_suffix written_generator written_generators written_link
 written_suffix_cell p a b = ap written_suffix (sym (suffixes_as.rolls-Cell p a b)) ∙ fold-roll-Suffix Grows Writing Grows GeneratorText GeneratorsText LinkText argument_text expression_text suffix_text generator_layer generators_layer link_layer (layers.Cell p a b)
 
-
 pub generators_none : (f : Vec Generator Global) → written_generators (roll-Generators (record { generators = f; condition = None })) ≡ record { all = map written_generator f.items; only = None }
 unfolding written written_argument written_suffix written_generator written_generators written_link
 generators_none f = fold-roll-Generators Grows Writing Grows GeneratorText GeneratorsText LinkText argument_text expression_text suffix_text generator_layer generators_layer link_layer (record { generators = f; condition = None })
 
 pub generators_some : (f : Vec Generator Global) (e : Box Expression Global)
-  → written_generators (roll-Generators (record { generators = f; condition = Some e })) ≡ record { all = map written_generator f.items; only = Some (written e.value) }
+    → written_generators (roll-Generators (record { generators = f; condition = Some e })) ≡ record { all = map written_generator f.items; only = Some (written e.value) }
 unfolding written written_argument written_suffix written_generator written_generators written_link
 generators_some f e = fold-roll-Generators Grows Writing Grows GeneratorText GeneratorsText LinkText argument_text expression_text suffix_text generator_layer generators_layer link_layer (record { generators = f; condition = Some e })
 

@@ -7,23 +7,22 @@ ghost use Rattle.comet_syntax.specs.Written.Declarations.{written_declaration, w
 ghost use Rattle.comet_parse.specs.Promise.{Reads, Fails, Continues};
 ghost use Rattle.comet_parse.specs.Behind.{bool_rest, range_rest, set_rest, before_bool, before_range, before_set, before_int, before_dimension};
 
+use crate::expressions::{
+    MOST_DEPTH, finish_expression, finish_name, parse_after, parse_arguments, parse_expression,
+    parse_unnamed,
+};
+use crate::stop::Stop;
+use crate::tokens::{
+    at_name, at_one_of, begins_expression, begins_unnamed, expect, expect_name, refuse,
+    refuse_depth, skip,
+};
+use crate::types::{begins_class, parse_class};
 use cbl_base::Place;
 use comet_syntax::tree::{
     Declaration, Dimension, Dimensions, Incremental, Maker, Name, VariableStart,
 };
 use comet_syntax::{Token, Word};
 use std::alloc::Global;
-
-use crate::expressions::{
-    finish_expression, finish_name, parse_after, parse_arguments, parse_expression, parse_unnamed,
-    MOST_DEPTH,
-};
-use crate::stop::Stop;
-use crate::tokens::{
-    at_name, at_one_of, begins_expression, begins_unnamed, expect, expect_name, refuse, refuse_depth,
-    skip,
-};
-use crate::types::{begins_class, parse_class};
 
 // What a declaration begins with, but for a class.
 const WORDS: [Word; 6] = [
@@ -43,7 +42,11 @@ pub fn begins_declaration(tokens: &[Token]) -> bool
 }
 
 /// A declaration.
-pub fn parse_declaration(alloc: Global, tokens: &[Token], depth: usize) -> Result<(Declaration, &[Token]), Stop>
+pub fn parse_declaration(
+    alloc: Global,
+    tokens: &[Token],
+    depth: usize,
+) -> Result<(Declaration, &[Token]), Stop>
     requires { depth ≤ 200 }
     ensures ok { IfOk result (λ x. Reads 200 (same declaration ∷ []) depth tokens.now x.1.now (written_declaration x.0)) }
     ensures shorter { IfOk result (λ x. length x.1.now < length tokens.now) }
@@ -80,7 +83,12 @@ pub fn parse_declaration(alloc: Global, tokens: &[Token], depth: usize) -> Resul
 }
 
 /// Behind `int`: an array of integers, or one integer or more.
-fn finish_int(alloc: Global, place: Place, tokens: &[Token], depth: usize) -> Result<(Declaration, &[Token]), Stop>
+fn finish_int(
+    alloc: Global,
+    place: Place,
+    tokens: &[Token],
+    depth: usize,
+) -> Result<(Declaration, &[Token]), Stop>
     requires { depth ≤ 200 }
     ensures ok { IfOk result (λ x. Continues 200 (same int_rest ∷ []) depth tokens.now x.1.now (before_int place) (written_declaration x.0)) }
     ensures shorter { IfOk result (λ x. length x.1.now < length tokens.now) }
@@ -109,7 +117,12 @@ fn finish_int(alloc: Global, place: Place, tokens: &[Token], depth: usize) -> Re
 }
 
 /// Behind `bool`: a name, and perhaps a value.
-fn finish_bool(alloc: Global, place: Place, tokens: &[Token], depth: usize) -> Result<(Declaration, &[Token]), Stop>
+fn finish_bool(
+    alloc: Global,
+    place: Place,
+    tokens: &[Token],
+    depth: usize,
+) -> Result<(Declaration, &[Token]), Stop>
     requires { depth ≤ 200 }
     ensures ok { IfOk result (λ x. Continues 200 bool_rest depth tokens.now x.1.now (before_bool place) (written_declaration x.0)) }
     ensures shorter { IfOk result (λ x. length x.1.now < length tokens.now) }
@@ -121,7 +134,12 @@ fn finish_bool(alloc: Global, place: Place, tokens: &[Token], depth: usize) -> R
 }
 
 /// Behind `range`: a name and a value.
-fn finish_range(alloc: Global, place: Place, tokens: &[Token], depth: usize) -> Result<(Declaration, &[Token]), Stop>
+fn finish_range(
+    alloc: Global,
+    place: Place,
+    tokens: &[Token],
+    depth: usize,
+) -> Result<(Declaration, &[Token]), Stop>
     requires { depth ≤ 200 }
     ensures ok { IfOk result (λ x. Continues 200 range_rest depth tokens.now x.1.now (before_range place) (written_declaration x.0)) }
     ensures shorter { IfOk result (λ x. length x.1.now < length tokens.now) }
@@ -134,7 +152,12 @@ fn finish_range(alloc: Global, place: Place, tokens: &[Token], depth: usize) -> 
 }
 
 /// Behind `set`: `{int}`, a name, and perhaps a value.
-fn finish_set(alloc: Global, place: Place, tokens: &[Token], depth: usize) -> Result<(Declaration, &[Token]), Stop>
+fn finish_set(
+    alloc: Global,
+    place: Place,
+    tokens: &[Token],
+    depth: usize,
+) -> Result<(Declaration, &[Token]), Stop>
     requires { depth ≤ 200 }
     ensures ok { IfOk result (λ x. Continues 200 set_rest depth tokens.now x.1.now (before_set place) (written_declaration x.0)) }
     ensures shorter { IfOk result (λ x. length x.1.now < length tokens.now) }
@@ -149,7 +172,13 @@ fn finish_set(alloc: Global, place: Place, tokens: &[Token], depth: usize) -> Re
 }
 
 /// Behind `var{` or `inc{`: a variable of integers, or of sets.
-fn finish_variable(alloc: Global, place: Place, word: Incremental, tokens: &[Token], depth: usize) -> Result<(Declaration, &[Token]), Stop>
+fn finish_variable(
+    alloc: Global,
+    place: Place,
+    word: Incremental,
+    tokens: &[Token],
+    depth: usize,
+) -> Result<(Declaration, &[Token]), Stop>
     requires { depth ≤ 200 }
     ensures ok { IfOk result (λ x. Continues 200 (same variable_rest ∷ []) depth tokens.now x.1.now (incremental_text word place) (written_declaration x.0)) }
     ensures shorter { IfOk result (λ x. length x.1.now < length tokens.now) }
@@ -201,7 +230,11 @@ fn finish_variable(alloc: Global, place: Place, word: Incremental, tokens: &[Tok
 }
 
 /// What a variable starts with: `:= value`, `<- term`, or nothing.
-fn parse_variable_start(alloc: Global, tokens: &[Token], depth: usize) -> Result<(Option<VariableStart>, &[Token]), Stop>
+fn parse_variable_start(
+    alloc: Global,
+    tokens: &[Token],
+    depth: usize,
+) -> Result<(Option<VariableStart>, &[Token]), Stop>
     requires { depth ≤ 200 }
     ensures ok { IfOk result (λ x. Reads 200 (same variable_start ∷ []) depth tokens.now x.1.now (variable_start_text x.0)) }
     ensures shorter { IfOk result (λ x. length x.1.now ≤ length tokens.now) }
@@ -242,7 +275,11 @@ fn parse_maker(alloc: Global, tokens: &[Token], depth: usize) -> Result<(Maker, 
 }
 
 /// `[dimension]`, `[dimension, dimension]`, or nothing.
-fn parse_dimensions(alloc: Global, tokens: &[Token], depth: usize) -> Result<(Option<Dimensions>, &[Token]), Stop>
+fn parse_dimensions(
+    alloc: Global,
+    tokens: &[Token],
+    depth: usize,
+) -> Result<(Option<Dimensions>, &[Token]), Stop>
     requires { depth ≤ 200 }
     ensures ok { IfOk result (λ x. Reads 200 (same dimensions ∷ []) depth tokens.now x.1.now (dimensions_text x.0)) }
     ensures shorter { IfOk result (λ x. length x.1.now ≤ length tokens.now) }
@@ -259,7 +296,11 @@ fn parse_dimensions(alloc: Global, tokens: &[Token], depth: usize) -> Result<(Op
 }
 
 /// `, dimension`, or nothing.
-fn parse_second_dimension(alloc: Global, tokens: &[Token], depth: usize) -> Result<(Option<Dimension>, &[Token]), Stop>
+fn parse_second_dimension(
+    alloc: Global,
+    tokens: &[Token],
+    depth: usize,
+) -> Result<(Option<Dimension>, &[Token]), Stop>
     requires { depth ≤ 200 }
     ensures ok { IfOk result (λ x. Reads 200 (same dimensions_tail ∷ []) depth tokens.now x.1.now (second_dimension x.0)) }
     ensures shorter { IfOk result (λ x. length x.1.now ≤ length tokens.now) }
@@ -274,7 +315,11 @@ fn parse_second_dimension(alloc: Global, tokens: &[Token], depth: usize) -> Resu
 }
 
 /// A dimension: a range, perhaps with a name before it.
-fn parse_dimension(alloc: Global, tokens: &[Token], depth: usize) -> Result<(Dimension, &[Token]), Stop>
+fn parse_dimension(
+    alloc: Global,
+    tokens: &[Token],
+    depth: usize,
+) -> Result<(Dimension, &[Token]), Stop>
     requires { depth ≤ 201 }
     ensures ok { IfOk result (λ x. Reads 200 (same dimension ∷ []) depth tokens.now x.1.now (written_dimension x.0)) }
     ensures shorter { IfOk result (λ x. length x.1.now < length tokens.now) }
@@ -297,7 +342,12 @@ fn parse_dimension(alloc: Global, tokens: &[Token], depth: usize) -> Result<(Dim
 }
 
 /// Behind the name that a dimension begins with: `in` and a range, or the rest of a range that begins with the name.
-fn finish_dimension(alloc: Global, name: Name, tokens: &[Token], depth: usize) -> Result<(Dimension, &[Token]), Stop>
+fn finish_dimension(
+    alloc: Global,
+    name: Name,
+    tokens: &[Token],
+    depth: usize,
+) -> Result<(Dimension, &[Token]), Stop>
     requires { depth ≤ 200 }
     ensures ok { IfOk result (λ x. Continues 200 (same dimension_rest ∷ []) depth tokens.now x.1.now (before_dimension name) (written_dimension x.0)) }
     ensures shorter { IfOk result (λ x. length x.1.now ≤ length tokens.now) }

@@ -9,12 +9,11 @@ ghost use Rattle.comet_parse.specs.Reading.{cause_at, IsSolid};
 ghost use Rattle.comet_parse.specs.Promise.{Sees, Fails};
 ghost use Rattle.comet_parse.specs.declared.stop.Stop.TheVariants as stops;
 
+use crate::stop::Stop;
 use cbl_base::{Place, Text};
 use comet_syntax::tree::Name;
 use comet_syntax::{FormCause, Token, TokenKind, Word};
 use std::alloc::Global;
-
-use crate::stop::Stop;
 
 // What an operand begins with beside a name, a number and what a literal begins with.
 const OPENERS: [Word; 12] = [

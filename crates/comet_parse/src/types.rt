@@ -6,12 +6,11 @@ ghost use Rattle.comet_syntax.specs.Grammar.First.{first_class};
 ghost use Rattle.comet_syntax.specs.Written.Declarations.{template_text, written_class};
 ghost use Rattle.comet_parse.specs.Promise.{Reads, Fails};
 
+use crate::stop::Stop;
+use crate::tokens::{at_one_of, expect, expect_name, refuse, skip};
 use comet_syntax::tree::{Class, ClassKind, Name};
 use comet_syntax::{Token, Word};
 use std::alloc::Global;
-
-use crate::stop::Stop;
-use crate::tokens::{at_one_of, expect, expect_name, refuse, skip};
 
 // What a class begins with.
 const CLASSES: [Word; 10] = [
@@ -35,7 +34,11 @@ pub fn begins_class(tokens: &[Token]) -> bool
 }
 
 /// `<name>`, or nothing.
-pub fn parse_template(alloc: Global, tokens: &[Token], depth: usize) -> Result<(Option<Name>, &[Token]), Stop>
+pub fn parse_template(
+    alloc: Global,
+    tokens: &[Token],
+    depth: usize,
+) -> Result<(Option<Name>, &[Token]), Stop>
     requires { depth ≤ 200 }
     ensures ok { IfOk result (λ x. Reads 200 (same template ∷ []) depth tokens.now x.1.now (template_text x.0)) }
     ensures shorter { IfOk result (λ x. length x.1.now ≤ length tokens.now) }

@@ -5,4 +5,4 @@ use Rattle.comet_parse.proofs.make.make_chain.Goals as goal
 
 pub returns-clause-ok : goal.returns-clause-ok
 returns-clause-ok c = written_chain c.in_ok-first.first c.args.links
-  ∙ ap (λ x. chain (written x) (map written_link c.args.links.items)) c.in_ok-first.ensures.ok
+    ∙ ap (λ x. chain (written x) (map written_link c.args.links.items)) c.in_ok-first.ensures.ok

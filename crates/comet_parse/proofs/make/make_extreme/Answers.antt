@@ -5,5 +5,5 @@ use Rattle.comet_parse.proofs.make.make_extreme.Goals as goal
 
 pub returns-clause-ok : goal.returns-clause-ok
 returns-clause-ok c = written_extreme c.args.extreme c.args.place c.in_ok-left.left c.in_ok-right.right
-  ∙ (ap (λ x. extreme_of c.args.extreme c.args.place (written x) (written c.in_ok-right.right.value)) c.in_ok-left.ensures.ok
-  ∙ ap (λ x. extreme_of c.args.extreme c.args.place (written c.args.left) (written x)) c.in_ok-right.ensures.ok)
+    ∙ (ap (λ x. extreme_of c.args.extreme c.args.place (written x) (written c.in_ok-right.right.value)) c.in_ok-left.ensures.ok
+    ∙ ap (λ x. extreme_of c.args.extreme c.args.place (written c.args.left) (written x)) c.in_ok-right.ensures.ok)

@@ -5,4 +5,4 @@ use Rattle.comet_parse.proofs.make.make_parentheses.Goals as goal
 
 pub returns-clause-ok : goal.returns-clause-ok
 returns-clause-ok c = written_parentheses c.args.place c.in_ok-inner.inner
-  ∙ ap (λ x. parentheses c.args.place (written x)) c.in_ok-inner.ensures.ok
+    ∙ ap (λ x. parentheses c.args.place (written x)) c.in_ok-inner.ensures.ok

@@ -5,4 +5,4 @@ use Rattle.comet_parse.proofs.make.make_unary.Goals as goal
 
 pub returns-clause-ok : goal.returns-clause-ok
 returns-clause-ok c = written_unary c.args.operator c.args.place c.in_ok-operand.operand
-  ∙ ap (λ x. unary c.args.operator c.args.place (written x)) c.in_ok-operand.ensures.ok
+    ∙ ap (λ x. unary c.args.operator c.args.place (written x)) c.in_ok-operand.ensures.ok

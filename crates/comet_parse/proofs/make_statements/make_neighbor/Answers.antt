@@ -6,4 +6,4 @@ use Rattle.comet_parse.proofs.make_statements.make_neighbor.Goals as goal
 
 pub returns-clause-ok : goal.returns-clause-ok
 returns-clause-ok c = written_neighbor c.args.place c.args.key c.args.selector c.in_ok-body.body
-  ∙ ap (λ z. neighbor_text c.args.place (whole_text c.args.key) c.args.selector (written_statement z)) c.in_ok-body.ensures.ok
+    ∙ ap (λ z. neighbor_text c.args.place (whole_text c.args.key) c.args.selector (written_statement z)) c.in_ok-body.ensures.ok

@@ -6,4 +6,4 @@ use Rattle.comet_parse.proofs.make_statements.make_parall.Goals as goal
 
 pub returns-clause-ok : goal.returns-clause-ok
 returns-clause-ok c = written_parall c.args.place c.args.name c.args.domain c.in_ok-body.body
-  ∙ ap (λ z. parall_text c.args.place c.args.name (whole_text c.args.domain) (written_statement z)) c.in_ok-body.ensures.ok
+    ∙ ap (λ z. parall_text c.args.place c.args.name (whole_text c.args.domain) (written_statement z)) c.in_ok-body.ensures.ok

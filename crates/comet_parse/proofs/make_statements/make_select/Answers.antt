@@ -8,4 +8,4 @@ use Rattle.comet_parse.proofs.make_statements.make_select.Goals as goal
 
 pub returns-clause-ok : goal.returns-clause-ok
 returns-clause-ok c = written_select c.args.place c.args.generators c.in_ok-body.body
-  ∙ ap (λ z. over_text statement_select words.Select c.args.place (generators_text (written_generators c.args.generators)) (written_statement z)) c.in_ok-body.ensures.ok
+    ∙ ap (λ z. over_text statement_select words.Select c.args.place (generators_text (written_generators c.args.generators)) (written_statement z)) c.in_ok-body.ensures.ok

@@ -7,4 +7,4 @@ use Rattle.comet_parse.proofs.make_statements.make_select_by.Goals as goal
 
 pub returns-clause-ok : goal.returns-clause-ok
 returns-clause-ok c = written_select_by c.args.place c.args.extreme c.args.generators c.args.key c.in_ok-body.body
-  ∙ ap (λ z. select_by_text c.args.extreme c.args.place (generators_text (written_generators c.args.generators)) (whole_text c.args.key) (written_statement z)) c.in_ok-body.ensures.ok
+    ∙ ap (λ z. select_by_text c.args.extreme c.args.place (generators_text (written_generators c.args.generators)) (whole_text c.args.key) (written_statement z)) c.in_ok-body.ensures.ok

@@ -6,4 +6,4 @@ use Rattle.comet_parse.proofs.make_statements.make_whenever.Goals as goal
 
 pub returns-clause-ok : goal.returns-clause-ok
 returns-clause-ok c = written_whenever c.args.place c.args.variable c.args.event c.args.names c.in_ok-body.body
-  ∙ ap (λ z. whenever_text c.args.place (at_postfix (written c.args.variable)) c.args.event (events_text c.args.names) (written_statement z)) c.in_ok-body.ensures.ok
+    ∙ ap (λ z. whenever_text c.args.place (at_postfix (written c.args.variable)) c.args.event (events_text c.args.names) (written_statement z)) c.in_ok-body.ensures.ok

@@ -6,4 +6,4 @@ use Rattle.comet_parse.proofs.make_statements.make_while.Goals as goal
 
 pub returns-clause-ok : goal.returns-clause-ok
 returns-clause-ok c = written_while c.args.place c.args.test c.in_ok-body.body
-  ∙ ap (λ z. while_text c.args.place (whole_text c.args.test) (written_statement z)) c.in_ok-body.ensures.ok
+    ∙ ap (λ z. while_text c.args.place (whole_text c.args.test) (written_statement z)) c.in_ok-body.ensures.ok
