@@ -23,7 +23,7 @@ use Rattle.comet_syntax.specs.Written.Shown.{Shown, form, Grows, each}
 use Rattle.comet_syntax.specs.Written.Expressions.{Head, Writing, operand_head, at_operand, at_product, at_total, at_range, at_comparison, at_conjunction, link, LinkText, chain, chain_by, from_operand, from_product, from_total, from_conjunction, from_disjunction, from_range, from_comparison, from_whole, closed, compared, word_of_comparison, written, written_link, argument_text, expression_text, suffix_text, generator_layer, generators_layer, link_layer, GeneratorText, GeneratorsText, written_argument, written_suffix, written_generator, written_generators}
 use Rattle.comet_parse.specs.declared.stop.Stop.{Stop}
 use Rattle.comet_parse.specs.Promise.{Sees, Reads, Reaches, Fails, Continues}
-use Rattle.comet_parse.specs.Levels.{IsDisjunction, IsConjunction, IsComparison, IsRange, IsTotal, IsProduct, IsOperand, IsMultiplying, IsAdding, IsConjoining, IsDisjoining, Starts, word_of_chain}
+use Rattle.comet_parse.specs.Levels.{IsDisjunction, IsConjunction, IsComparison, IsRange, IsTotal, IsProduct, IsOperand, IsMultiplying, IsAdding, IsConjoining, IsDisjoining, Starts, chained, closed_texts, word_of_chain}
 use Rattle.comet_parse.proofs.Steps.{reads_all, reads_on, reads_none, reads_placed, reads_picked, reads_same, fails_placed, fails_picked, fails_on, fails_within, more_reads, sees, at_level, reads_end}
 
 pub joined : {d : ℕ} {body' : List Symbol} {ts mid rest : List Token} {from to : Grows} {h h' : Head} (body : List Symbol) → Reads 200 body d ts mid (λ behind. operand_head h (from behind))
@@ -279,6 +279,62 @@ pub disjunction_ends : {d : ℕ} {ts rest : List Token} {all : Writing} (head : 
     → Reaches 200 (same or_tail ∷ []) (same or_tail ∷ []) d ts rest (texts ls) → d ≤ 200 → next_in (first or_tail) rest ≡ false
     → Continues 200 (same or_tail ∷ []) d ts rest head.conjunction_rest all.disjunction_rest
 disjunction_ends head ls e g le f = record { tree = λ behind. texts ls (form or_tail [] ∷ behind); reads = reads_on g (reads_none or_tail le here f); is = ap (λ z. z.disjunction_rest) e }
+
+-- what finish_product gives
+pub product_goes : {d : ℕ} {ts rest : List Token} {all : Writing} (head : Writing) (ls : List Link) → IsOperand head → Reads 200 (same product_tail ∷ []) d ts rest (closed_texts product_tail ls)
+    → all ≡ chained head (map written_link ls) → Starts IsMultiplying (map written_link ls) → Continues 200 (same product_tail ∷ []) d ts rest head.operand_rest all.product_rest
+product_goes head [] h g e s = record { tree = λ behind. form product_tail [] ∷ behind; reads = g; is = ap (λ z. z.product_rest) e ∙ h.alone }
+product_goes head (l ∷ ls) h g e s = record { tree = closed_texts product_tail (l ∷ ls); reads = g; is = ap (λ z. z.product_rest) (e ∙ product_chain head (map written_link (l ∷ ls)) s (omega arith)) }
+
+pub product_head : {all : Writing} (head : Writing) (ls : List Link) → all ≡ chained head (map written_link ls) → Starts IsMultiplying (map written_link ls) → all.head ≡ head.head
+product_head head [] e s = ap (λ z. z.head) e
+product_head head (l ∷ ls) e s = ap (λ z. z.head) (e ∙ product_chain head (map written_link (l ∷ ls)) s (omega arith))
+
+pub product_level : {all : Writing} (head : Writing) (ls : List Link) → IsOperand head → all ≡ chained head (map written_link ls) → Starts IsMultiplying (map written_link ls) → IsProduct all
+product_level head [] h e s = subst IsProduct (sym e) h.product
+product_level head (l ∷ ls) h e s = is_product _ _ (e ∙ product_chain head (map written_link (l ∷ ls)) s (omega arith))
+
+-- what finish_total gives
+pub total_goes : {d : ℕ} {ts rest : List Token} {all : Writing} (head : Writing) (ls : List Link) → IsProduct head → Reads 200 (same total_tail ∷ []) d ts rest (closed_texts total_tail ls)
+    → all ≡ chained head (map written_link ls) → Starts IsAdding (map written_link ls) → Continues 200 (same total_tail ∷ []) d ts rest head.product_rest all.total_rest
+total_goes head [] h g e s = record { tree = λ behind. form total_tail [] ∷ behind; reads = g; is = ap (λ z. z.total_rest) e ∙ h.alone }
+total_goes head (l ∷ ls) h g e s = record { tree = closed_texts total_tail (l ∷ ls); reads = g; is = ap (λ z. z.total_rest) (e ∙ total_chain head (map written_link (l ∷ ls)) s (omega arith)) }
+
+pub total_head : {all : Writing} (head : Writing) (ls : List Link) → all ≡ chained head (map written_link ls) → Starts IsAdding (map written_link ls) → all.head ≡ head.head
+total_head head [] e s = ap (λ z. z.head) e
+total_head head (l ∷ ls) e s = ap (λ z. z.head) (e ∙ total_chain head (map written_link (l ∷ ls)) s (omega arith))
+
+pub total_level : {all : Writing} (head : Writing) (ls : List Link) → IsProduct head → all ≡ chained head (map written_link ls) → Starts IsAdding (map written_link ls) → IsTotal all
+total_level head [] h e s = subst IsTotal (sym e) h.total
+total_level head (l ∷ ls) h e s = is_total _ _ (e ∙ total_chain head (map written_link (l ∷ ls)) s (omega arith))
+
+-- what finish_conjunction gives
+pub conjunction_goes : {d : ℕ} {ts rest : List Token} {all : Writing} (head : Writing) (ls : List Link) → IsComparison head → Reads 200 (same and_tail ∷ []) d ts rest (closed_texts and_tail ls)
+    → all ≡ chained head (map written_link ls) → Starts IsConjoining (map written_link ls) → Continues 200 (same and_tail ∷ []) d ts rest head.comparison_rest all.conjunction_rest
+conjunction_goes head [] h g e s = record { tree = λ behind. form and_tail [] ∷ behind; reads = g; is = ap (λ z. z.conjunction_rest) e ∙ h.alone }
+conjunction_goes head (l ∷ ls) h g e s = record { tree = closed_texts and_tail (l ∷ ls); reads = g; is = ap (λ z. z.conjunction_rest) (e ∙ conjunction_chain head (map written_link (l ∷ ls)) s (omega arith)) }
+
+pub conjunction_head : {all : Writing} (head : Writing) (ls : List Link) → all ≡ chained head (map written_link ls) → Starts IsConjoining (map written_link ls) → all.head ≡ head.head
+conjunction_head head [] e s = ap (λ z. z.head) e
+conjunction_head head (l ∷ ls) e s = ap (λ z. z.head) (e ∙ conjunction_chain head (map written_link (l ∷ ls)) s (omega arith))
+
+pub conjunction_level : {all : Writing} (head : Writing) (ls : List Link) → IsComparison head → all ≡ chained head (map written_link ls) → Starts IsConjoining (map written_link ls) → IsConjunction all
+conjunction_level head [] h e s = subst IsConjunction (sym e) h.conjunction
+conjunction_level head (l ∷ ls) h e s = is_conjunction _ _ (e ∙ conjunction_chain head (map written_link (l ∷ ls)) s (omega arith))
+
+-- what finish_disjunction gives
+pub disjunction_goes : {d : ℕ} {ts rest : List Token} {all : Writing} (head : Writing) (ls : List Link) → IsConjunction head → Reads 200 (same or_tail ∷ []) d ts rest (closed_texts or_tail ls)
+    → all ≡ chained head (map written_link ls) → Starts IsDisjoining (map written_link ls) → Continues 200 (same or_tail ∷ []) d ts rest head.conjunction_rest all.disjunction_rest
+disjunction_goes head [] h g e s = record { tree = λ behind. form or_tail [] ∷ behind; reads = g; is = ap (λ z. z.disjunction_rest) e ∙ h.alone }
+disjunction_goes head (l ∷ ls) h g e s = record { tree = closed_texts or_tail (l ∷ ls); reads = g; is = ap (λ z. z.disjunction_rest) (e ∙ disjunction_chain head (map written_link (l ∷ ls)) s (omega arith)) }
+
+pub disjunction_head : {all : Writing} (head : Writing) (ls : List Link) → all ≡ chained head (map written_link ls) → Starts IsDisjoining (map written_link ls) → all.head ≡ head.head
+disjunction_head head [] e s = ap (λ z. z.head) e
+disjunction_head head (l ∷ ls) e s = ap (λ z. z.head) (e ∙ disjunction_chain head (map written_link (l ∷ ls)) s (omega arith))
+
+pub disjunction_level : {all : Writing} (head : Writing) (ls : List Link) → IsConjunction head → all ≡ chained head (map written_link ls) → Starts IsDisjoining (map written_link ls) → IsDisjunction all
+disjunction_level head [] h e s = subst IsDisjunction (sym e) h.disjunction
+disjunction_level head (l ∷ ls) h e s = is_disjunction _ _ (e ∙ disjunction_chain head (map written_link (l ∷ ls)) s (omega arith))
 
 -- comparisons
 pub compared_reads : {d : ℕ} {ts mid rest : List Token} {place : Place} (right : Writing) (o : Comparison) → d ≤ 200 → Sees ts (kinds.Word (word_of_comparison o)) place mid

@@ -20,13 +20,13 @@ use Rattle.comet_syntax.specs.Grammar.Alternatives.{alternatives}
 use Rattle.comet_syntax.specs.Grammar.First.{first}
 use Rattle.comet_syntax.specs.Derivation.{OneOf, here, there, part, push}
 use Rattle.comet_syntax.specs.Written.Shown.{Shown, form, plain, Grows, each}
-use Rattle.comet_syntax.specs.Written.Expressions.{Head, Writing, written, written_suffix, written_argument, written_generator, from_primary, from_operand, closed, name_alone, postfix_by, more_argument, listed_text, arguments_text, more_generator, GeneratorText, GeneratorsText, aggregate_text, generators_text, at_product, condition_text}
+use Rattle.comet_syntax.specs.Written.Expressions.{Head, Opening, by_opening, opening, Writing, written, written_suffix, written_argument, written_generator, from_primary, from_operand, closed, name_alone, postfix_by, more_argument, listed_text, arguments_text, more_generator, GeneratorText, GeneratorsText, aggregate_text, generators_text, at_product, condition_text}
 use Rattle.comet_parse.specs.declared.stop.Stop.{Stop}
 use Rattle.comet_parse.specs.Promise.{Sees, Reads, Reaches, Fails, halts, no_memory, Continues, settles}
-use Rattle.comet_parse.specs.Levels.{IsPrimary, IsOperand, primary_text, behind_first, IsPlain, word_of_aggregate, IsAfter, after_text}
+use Rattle.comet_parse.specs.Levels.{IsPrimary, IsOperand, primary_text, behind_first, IsPlain, word_of_aggregate, IsUnnamed, suffixed, closed_suffixes, IsAfter, after_text}
 use Rattle.comet_parse.proofs.Machine.{alone}
 use Rattle.comet_parse.proofs.Steps.{reads_all, reads_on, reads_none, reads_same, reads_deeper, reads_plain, reads_placed, reads_picked, fails_plain, fails_placed, fails_picked, fails_same, fails_at_same, fails_within, more_reads, reaches_level, sees, at_level}
-use Rattle.comet_parse.proofs.Chains.{each_push, map_push, none_of, some_of}
+use Rattle.comet_parse.proofs.Chains.{each_push, map_push, none_of, some_of, is_operand}
 
 pub is_primary : {e : Writing} (h : Head) (r : Grows) → e ≡ from_primary h r → IsPrimary e
 is_primary h r p = rw p (record { operand = record { product = record { total = record { range = record { comparison = record { conjunction = record { disjunction = record { alone = refl }; alone = refl }; alone = refl }; alone = refl }; alone = refl }; alone = refl }; alone = refl }; rest = r; some = refl; alone = refl })
@@ -196,12 +196,46 @@ tails = same product_tail ∷ same total_tail ∷ same range_tail ∷ same compa
 abbrev pub deeper_tails : List Symbol
 deeper_tails = deeper product_tail ∷ deeper total_tail ∷ deeper range_tail ∷ deeper comparison_tail ∷ deeper and_tail ∷ deeper or_tail ∷ deeper branches ∷ []
 
-pub continues_deeper : {d : ℕ} {ts rest : List Token} {from to : Grows} → Continues 200 tails (d + 1) ts rest from to → Continues 200 deeper_tails d ts rest from to
+abbrev pub continues_deeper : {d : ℕ} {ts rest : List Token} {from to : Grows} → Continues 200 tails (d + 1) ts rest from to → Continues 200 deeper_tails d ts rest from to
 continues_deeper k = record { tree = k.tree; reads = record { leads = k.reads.leads }; is = k.is }
 
 pub fails_tails_deeper : {d : ℕ} {ts : List Token} {stop : Stop} → Fails 200 tails (d + 1) ts stop → Fails 200 deeper_tails d ts stop
 fails_tails_deeper (halts h) = halts h
 fails_tails_deeper no_memory = no_memory
+
+-- from the same tokens
+pub fails_here : {d : ℕ} {body : List Symbol} {ts here : List Token} {stop : Stop} → ts ≡ here → Fails 200 body d here stop → Fails 200 body d ts stop
+fails_here {d = d} {body = body} {stop = stop} e f = subst (λ z. Fails 200 body d z stop) (sym e) f
+
+pub reaches_here : {d : ℕ} {body : List Symbol} {ts here rest : List Token} {tree : Grows} → ts ≡ here → Reaches 200 body body d here rest tree → Reaches 200 body body d ts rest tree
+reaches_here {d = d} {body = body} {rest = rest} {tree = tree} e f = subst (λ z. Reaches 200 body body d z rest tree) (sym e) f
+
+-- what finish_primary gives
+pub suffix_goes : {d : ℕ} {ts rest : List Token} {all : Writing} (e : Writing) (ls : List Suffix) → IsPrimary e → Reads 200 (same suffixes ∷ []) d ts rest (closed_suffixes ls)
+    → all ≡ suffixed e (map written_suffix ls) → Continues 200 (same suffixes ∷ []) d ts rest (primary_text e.primary_rest) all.operand_rest
+suffix_goes e [] p g h = record { tree = λ behind. form suffixes [] ∷ behind; reads = g; is = ap (λ z. z.operand_rest) h ∙ (p.alone ∙ ap (λ z. closed suffixes (primary_text z)) (sym p.some)) }
+suffix_goes e (l ∷ ls) p g h = record {
+  tree = closed_suffixes (l ∷ ls);
+  reads = g;
+  is = ap (λ z. z.operand_rest) (h ∙ postfix_is e.primary_rest p.rest e.head (map written_suffix (l ∷ ls)) p.some (omega arith)) ∙ ap (λ z. λ behind. primary_text z (closed_suffixes (l ∷ ls) behind)) (sym p.some);
+}
+
+pub suffix_head : {all : Writing} (e : Writing) (ls : List Suffix) → IsPrimary e → all ≡ suffixed e (map written_suffix ls) → all.head ≡ e.head
+suffix_head e [] p h = ap (λ z. z.head) h
+suffix_head e (l ∷ ls) p h = ap (λ z. z.head) (h ∙ postfix_is e.primary_rest p.rest e.head (map written_suffix (l ∷ ls)) p.some (omega arith))
+
+pub suffix_level : {all : Writing} (e : Writing) (ls : List Suffix) → IsPrimary e → all ≡ suffixed e (map written_suffix ls) → IsOperand all
+suffix_level e [] p h = subst IsOperand (sym h) p.operand
+suffix_level e (l ∷ ls) p h = is_operand _ _ (h ∙ postfix_is e.primary_rest p.rest e.head (map written_suffix (l ∷ ls)) p.some (omega arith))
+
+pub suffix_alone : {all : Writing} {ts rest : List Token} (e : Writing) (ls : List Suffix) → IsPrimary e → all ≡ suffixed e (map written_suffix ls) → (ls ≡ [] → rest ≡ ts)
+    → all.is_name ≡ true → (rest ≡ ts) × (e.is_name ≡ true)
+suffix_alone e [] p h none n = (none refl, sym (ap (λ z. z.is_name) h) ∙ n)
+suffix_alone e (l ∷ ls) p h none n = absurd (not_both _ n (ap (λ z. z.is_name) (h ∙ postfix_is e.primary_rest p.rest e.head (map written_suffix (l ∷ ls)) p.some (omega arith))))
+
+-- an operand that is no postfix form
+pub by_operand : {d : ℕ} {ts rest : List Token} {e : Writing} (o : Opening) → e ≡ from_operand (by_opening o) (λ behind. behind) → Reads 200 (same unnamed ∷ []) d ts rest (opening o) → IsUnnamed 200 d ts rest e
+by_operand o e r = record { by = o; head_is = ap (λ z. z.head) e; reads = at_level (sym (ap (λ z. λ behind. opening o (z.operand_rest behind)) e)) r }
 
 -- several symbols are read, and what is written grows
 pub reads_continues : {d : ℕ} {body' : List Symbol} {ts mid rest : List Token} {from to : Grows} (body : List Symbol) → Reads 200 body d ts mid from → Continues 200 body' d mid rest from to

@@ -1,6 +1,6 @@
 -- How strongly an expression binds: where it stands alone at the weaker levels, and what is known of an operand without a name before it.
 -- Definitions of this project.
-use Rattle.std.specs.Prelude.{ℕ, Bool, true, false, List, [], ◌∷◌, ◌++◌, Option, None, Some, ◌≡◌, ◌⊎◌}
+use Rattle.std.specs.Prelude.{ℕ, Bool, true, false, List, [], ◌∷◌, ◌++◌, map, Option, None, Some, ◌≡◌, ◌⊎◌}
 use Rattle.comet_syntax.specs.declared.token.Token.{Token}
 use Rattle.comet_syntax.specs.declared.token.Word.{Word}
 use Rattle.comet_syntax.specs.declared.token.Word.TheVariants as words
@@ -14,10 +14,12 @@ use Rattle.comet_syntax.specs.Grammar.Alternatives.{alternatives}
 use Rattle.comet_syntax.specs.Grammar.First.{first, first_literal}
 use Rattle.comet_syntax.specs.Written.Shown.{form, Grows, name, each}
 use Rattle.comet_syntax.specs.Written.Shown as shown_as
-use Rattle.comet_syntax.specs.Written.Expressions.{Writing, Opening, by_opening, by_literal, by_extreme, by_other, opening, GeneratorText, GeneratorsText, generators_behind, at_product, from_primary, from_operand, extreme_of, extreme_aggregate, parenthesized, closed, misplaced, whole, LinkText}
+use Rattle.comet_syntax.specs.Written.Expressions.{Writing, Opening, by_opening, by_literal, by_extreme, by_other, opening, GeneratorText, GeneratorsText, chain, postfix_by, written_link, written_suffix, generators_behind, at_product, from_primary, from_operand, extreme_of, extreme_aggregate, parenthesized, closed, misplaced, whole, LinkText}
 use Rattle.cbl_base.specs.declared.place.Place.{Place}
 use Rattle.comet_syntax.specs.declared.tree.expressions.Name.{Name}
 use Rattle.comet_syntax.specs.declared.tree.expressions.Extreme.{Extreme}
+use Rattle.comet_syntax.specs.declared.tree.expressions.Link.{Link}
+use Rattle.comet_syntax.specs.declared.tree.expressions.Suffix.{Suffix}
 use Rattle.comet_syntax.specs.Grammar.Expressions.{pair_named_in, suffixes_left_bracket, suffixes_dot}
 use Rattle.comet_parse.specs.Promise.{Reads}
 
@@ -176,3 +178,20 @@ first_primary = first_literal ++ (a_word words.LeftBrace ∷ a_word words.Min �
 -- `.name(arguments)`
 abbrev pub method_text : Name → List Grows → Grows
 method_text n a behind = form suffixes suffixes_dot ∷ shown_as.word words.Dot (name n (parenthesized a behind))
+
+-- a first operand with its links, or alone
+abbrev pub chained : Writing → List LinkText → Writing
+chained head [] = head
+chained head (l ∷ more) = chain head (l ∷ more)
+
+-- a primary with its suffixes, or alone
+abbrev pub suffixed : Writing → List Grows → Writing
+suffixed primary [] = primary
+suffixed primary (s ∷ more) = postfix_by primary.primary_rest primary.head (s ∷ more)
+
+-- links and suffixes, and the end of their list
+abbrev pub closed_texts : Part → List Link → Grows
+closed_texts n ls behind = each (λ x. x.text) (map written_link ls) (form n [] ∷ behind)
+
+abbrev pub closed_suffixes : List Suffix → Grows
+closed_suffixes ls behind = each (λ x. x) (map written_suffix ls) (form suffixes [] ∷ behind)

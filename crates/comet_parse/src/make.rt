@@ -2,7 +2,7 @@
 ghost use Rattle.std.specs.Prelude.{◌≡◌, IfOk, IfErr, map};
 ghost use Rattle.comet_syntax.specs.Written.Expressions.{written, written_link, written_suffix, written_generators, chain, comparison, range_of, conditional, unary, aggregate, postfix_by, extreme_of, parentheses, written_generator, option_value, Writing, GeneratorsText, aggregate_text, extreme_aggregate};
 ghost use Rattle.cbl_base.specs.declared.place.Place.{Place};
-ghost use Rattle.comet_parse.specs.Levels.{index_text};
+ghost use Rattle.comet_parse.specs.Levels.{index_text, chained, suffixed};
 ghost use Rattle.comet_parse.specs.declared.stop.Stop.TheVariants as stops;
 
 use crate::stop::Stop;
@@ -204,5 +204,37 @@ pub fn aggregate_of(extreme: Extreme) -> Aggregate
     match extreme {
         Extreme::Min => Aggregate::Min,
         Extreme::Max => Aggregate::Max,
+    }
+}
+
+/// A first operand with its links, or alone.
+pub fn chain_up(alloc: Global, head: Expression, links: Vec<Link>) -> Result<Expression, Stop>
+    ensures ok { IfOk result (λ e. written e ≡ chained (written head) (map written_link links.items)) }
+    ensures err { IfErr result (λ s. s ≡ stops.NoMemory) }
+{
+    match links.first() {
+        None => Ok(head),
+        Some(_) => {
+            let all = make_chain(alloc, head, links)?;
+            Ok(all)
+        }
+    }
+}
+
+/// A primary with its suffixes, or alone.
+pub fn suffix_up(
+    alloc: Global,
+    primary: Expression,
+    suffixes: Vec<Suffix>,
+) -> Result<Expression, Stop>
+    ensures ok { IfOk result (λ e. written e ≡ suffixed (written primary) (map written_suffix suffixes.items)) }
+    ensures err { IfErr result (λ s. s ≡ stops.NoMemory) }
+{
+    match suffixes.first() {
+        None => Ok(primary),
+        Some(_) => {
+            let all = make_postfix(alloc, primary, suffixes)?;
+            Ok(all)
+        }
     }
 }

@@ -85,9 +85,13 @@ pub fn skip_aggregate(tokens: &[Token]) -> Option<(Aggregate, Place, &[Token])>
     }
 }
 
-/// Whether a suffix of a postfix form begins here.
-pub fn begins_suffix(tokens: &[Token]) -> bool
-    ensures { result ≡ next_in (first suffixes) tokens.now }
+/// The tokens from here, where a suffix of a postfix form begins.
+pub fn at_suffix(tokens: &[Token]) -> Option<&[Token]>
+    ensures { MatchOption result (next_in (first suffixes) tokens.now ≡ false) (λ here. (tokens.now ≡ here.now) × (next_in (first suffixes) here.now ≡ true)) }
 {
-    at(tokens, Word::LeftBracket) || at(tokens, Word::Dot)
+    if at(tokens, Word::LeftBracket) || at(tokens, Word::Dot) {
+        Some(tokens)
+    } else {
+        None
+    }
 }
