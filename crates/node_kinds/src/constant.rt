@@ -1,12 +1,15 @@
-//! The node of a constant.
-ghost use Rattle.std.specs.Prelude.{◌≡◌};
+//! The value of a node without inputs.
+ghost use Rattle.std.specs.Prelude.{◌≡◌, [], Ok, IsTrue, OnOk};
+ghost use Rattle.cbl_base.specs.Changes.{AreChanges, after_changes};
+ghost use Rattle.cbl_base.specs.Inputs.{kinds_of};
+ghost use Rattle.cbl_base.specs.NodeLaw.{IsAnswer};
 ghost use Rattle.node_kinds.specs.ConstantRule.{rule_of_constant};
 
 use crate::copying::copy_of;
-use cbl_base::{Change, Input, NoMemory, NodeFault, NodeRule, NodeValue, RunFault};
+use cbl_base::{Change, Input, NoMemory, NodeFault, NodeValue};
 use std::alloc::Global;
 
-/// A node without inputs, which always has the same value.
+/// What a node without inputs keeps: the value that it always has.
 #[derive(Drop)]
 pub struct Constant {
     value: NodeValue,
@@ -14,44 +17,41 @@ pub struct Constant {
 }
 
 impl Constant {
-    /// The node with this value.
-    pub fn new(alloc: Global, value: NodeValue) -> Constant
-        ensures rule { ⟦<Constant as NodeRule>⟧.rule result ≡ rule_of_constant value }
+    /// The constant with this value.
+    pub(crate) fn new(alloc: Global, value: NodeValue) -> Constant
+        ensures { result.value ≡ value }
     {
         Constant { value, alloc }
     }
-}
 
-impl NodeRule for Constant {
-    ghost use Rattle.std.specs.Prelude.{[]};
-    ghost use Rattle.node_kinds.specs.ConstantRule.{rule_of_constant, one_kind_of_constant};
-
-    ghost rule = { λ s. rule_of_constant s.value };
-
-    ghost ready = { λ _. Unit {0} };
-
-    ghost held = { λ _. [] };
-
-    ghost one_kind = { λ s. one_kind_of_constant s.value };
-
-    fn reset(&mut self, _inputs: &[Input]) -> Result<(), NoMemory> {
+    /// Takes the inputs, of which there are none.
+    pub(crate) fn reset(&self, _inputs: &[Input]) -> Result<(), NoMemory>
+        requires { IsTrue ((rule_of_constant self.now.value).takes (kinds_of _inputs.now)) }
+        ensures held { OnOk result ([] ≡ _inputs.now) }
+    {
         Ok(())
     }
 
-    fn apply(&mut self, _changes: &[Change]) -> Result<(), NoMemory> {
+    /// Makes the changes, of which there are none.
+    pub(crate) fn apply(&self, _changes: &[Change]) -> Result<(), NoMemory>
+        requires changes { AreChanges [] _changes.now }
+        ensures held { OnOk result ([] ≡ after_changes [] _changes.now) }
+    {
         Ok(())
     }
 
-    fn probe(&self, _changes: &[Change]) -> Result<NodeValue, NodeFault> {
+    /// A copy of the value.
+    pub(crate) fn probe(&self) -> Result<NodeValue, NodeFault>
+        ensures { IsAnswer (Ok self.now.value) result }
+    {
         let value = copy_of(self.alloc, &self.value)?;
         Ok(value)
     }
 
-    fn value(&self) -> Result<&NodeValue, RunFault> {
-        Ok(&self.value)
-    }
-
-    fn place_violation(&self, _place: u32) -> i64 {
-        0
+    /// The value.
+    pub(crate) fn value(&self) -> &NodeValue
+        ensures { result.now ≡ self.now.value }
+    {
+        &self.value
     }
 }

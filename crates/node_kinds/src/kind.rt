@@ -23,13 +23,15 @@ pub enum KindOf<U: UserConstraint> {
 pub type Kind = KindOf<Box<dyn UserConstraint>>;
 
 impl<U: UserConstraint> NodeRule for KindOf<U> {
+    ghost use Rattle.std.specs.Prelude.{[]};
+    ghost use Rattle.node_kinds.specs.ConstantRule.{rule_of_constant};
     ghost use Rattle.node_kinds.specs.declared.kind.KindOf.TheVariants.{Constant, Operation, Constraint, SetOf, TwoSets, Card, Member};
 
-    ghost rule = { elim [ Constant s ↦ ⟦<Constant as NodeRule>⟧.rule s | Operation s ↦ ⟦<OverNumbers<OperationKind> as NodeRule>⟧.rule s | Constraint s ↦ ⟦<OverNumbers<ConstraintKind<U>> as NodeRule>⟧.rule s | SetOf s ↦ ⟦<SetOf as NodeRule>⟧.rule s | TwoSets s ↦ ⟦<TwoSets as NodeRule>⟧.rule s | Card s ↦ ⟦<Card as NodeRule>⟧.rule s | Member s ↦ ⟦<Member as NodeRule>⟧.rule s ] };
+    ghost rule = { elim [ Constant s ↦ rule_of_constant s.value | Operation s ↦ ⟦<OverNumbers<OperationKind> as NodeRule>⟧.rule s | Constraint s ↦ ⟦<OverNumbers<ConstraintKind<U>> as NodeRule>⟧.rule s | SetOf s ↦ ⟦<SetOf as NodeRule>⟧.rule s | TwoSets s ↦ ⟦<TwoSets as NodeRule>⟧.rule s | Card s ↦ ⟦<Card as NodeRule>⟧.rule s | Member s ↦ ⟦<Member as NodeRule>⟧.rule s ] };
 
-    ghost ready = { elim [ Constant s ↦ ⟦<Constant as NodeRule>⟧.ready s | Operation s ↦ ⟦<OverNumbers<OperationKind> as NodeRule>⟧.ready s | Constraint s ↦ ⟦<OverNumbers<ConstraintKind<U>> as NodeRule>⟧.ready s | SetOf s ↦ ⟦<SetOf as NodeRule>⟧.ready s | TwoSets s ↦ ⟦<TwoSets as NodeRule>⟧.ready s | Card s ↦ ⟦<Card as NodeRule>⟧.ready s | Member s ↦ ⟦<Member as NodeRule>⟧.ready s ] };
+    ghost ready = { elim [ Constant _ ↦ Unit {0} | Operation s ↦ ⟦<OverNumbers<OperationKind> as NodeRule>⟧.ready s | Constraint s ↦ ⟦<OverNumbers<ConstraintKind<U>> as NodeRule>⟧.ready s | SetOf s ↦ ⟦<SetOf as NodeRule>⟧.ready s | TwoSets s ↦ ⟦<TwoSets as NodeRule>⟧.ready s | Card s ↦ ⟦<Card as NodeRule>⟧.ready s | Member s ↦ ⟦<Member as NodeRule>⟧.ready s ] };
 
-    ghost held = { elim [ Constant s ↦ ⟦<Constant as NodeRule>⟧.held s | Operation s ↦ ⟦<OverNumbers<OperationKind> as NodeRule>⟧.held s | Constraint s ↦ ⟦<OverNumbers<ConstraintKind<U>> as NodeRule>⟧.held s | SetOf s ↦ ⟦<SetOf as NodeRule>⟧.held s | TwoSets s ↦ ⟦<TwoSets as NodeRule>⟧.held s | Card s ↦ ⟦<Card as NodeRule>⟧.held s | Member s ↦ ⟦<Member as NodeRule>⟧.held s ] };
+    ghost held = { elim [ Constant _ ↦ [] | Operation s ↦ ⟦<OverNumbers<OperationKind> as NodeRule>⟧.held s | Constraint s ↦ ⟦<OverNumbers<ConstraintKind<U>> as NodeRule>⟧.held s | SetOf s ↦ ⟦<SetOf as NodeRule>⟧.held s | TwoSets s ↦ ⟦<TwoSets as NodeRule>⟧.held s | Card s ↦ ⟦<Card as NodeRule>⟧.held s | Member s ↦ ⟦<Member as NodeRule>⟧.held s ] };
 
     ghost use Rattle.cbl_base.specs.Sets.{set_of};
     ghost use Rattle.cbl_base.specs.NumberRule.{one_kind_of_numbers};
@@ -68,7 +70,7 @@ impl<U: UserConstraint> NodeRule for KindOf<U> {
 
     fn probe(&self, changes: &[Change]) -> Result<NodeValue, NodeFault> {
         match self {
-            KindOf::Constant(node) => node.probe(changes),
+            KindOf::Constant(node) => node.probe(),
             KindOf::Operation(node) => node.probe(changes),
             KindOf::Constraint(node) => node.probe(changes),
             KindOf::SetOf(node) => node.probe(changes),
@@ -80,7 +82,7 @@ impl<U: UserConstraint> NodeRule for KindOf<U> {
 
     fn value(&self) -> Result<&NodeValue, RunFault> {
         match self {
-            KindOf::Constant(node) => node.value(),
+            KindOf::Constant(node) => Ok(node.value()),
             KindOf::Operation(node) => node.value(),
             KindOf::Constraint(node) => node.value(),
             KindOf::SetOf(node) => node.value(),
@@ -92,7 +94,7 @@ impl<U: UserConstraint> NodeRule for KindOf<U> {
 
     fn place_violation(&self, place: u32) -> i64 {
         match self {
-            KindOf::Constant(node) => node.place_violation(place),
+            KindOf::Constant(_) => 0,
             KindOf::Operation(node) => node.place_violation(place),
             KindOf::Constraint(node) => node.place_violation(place),
             KindOf::SetOf(node) => node.place_violation(place),

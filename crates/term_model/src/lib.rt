@@ -13,14 +13,16 @@ mod deltas;
 mod dependence;
 mod evaluation;
 mod fresh_values;
-mod laws;
 mod kinds;
+mod laws;
 mod model;
 mod operation;
 mod order;
 mod outcome;
 mod settling;
 mod term;
+#[cfg(test)]
+mod tests;
 mod usable;
 mod users;
 mod wholes;
