@@ -1,0 +1,4 @@
+pub mod Behind
+pub mod Levels
+pub mod Promise
+pub mod Reading
