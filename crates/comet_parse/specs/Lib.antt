@@ -1,4 +1,0 @@
-pub mod Behind
-pub mod Levels
-pub mod Promise
-pub mod Reading

@@ -1,0 +1,4 @@
+pub mod Forks
+pub mod Machine
+pub mod Steps
+pub mod Table

@@ -1,0 +1,4 @@
+pub mod Chains
+pub mod Pairs
+pub mod Suffixes
+pub mod Trees
