@@ -1,2 +1,1 @@
-pub mod Dimensions
 pub mod StatementTrees

@@ -1,12 +1,7 @@
-//! The reader of classes, declarations and statements.
+//! The reader of statements.
 //!
 //! It knows nothing of texts, of types, or of what a program means. Each function reads its part of the grammar
 //! as it is written, from the left with no way back, or stops where every derivation of the tokens stops.
-//! Statements aren't read yet.
 #![tactic(auto)]
 
-mod declarations;
 mod make_statements;
-mod types;
-
-pub use declarations::{begins_declaration, parse_declaration};
