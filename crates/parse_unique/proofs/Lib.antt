@@ -1,3 +1,4 @@
+pub mod Alike
 pub mod Blocks
 pub mod Declarations
 pub mod Ends
@@ -7,6 +8,8 @@ pub mod Levels
 pub mod Listings
 pub mod Programs
 pub mod Runs
+pub mod Senses
 pub mod Statements
 pub mod Trees
 pub mod Values
+pub mod Writings

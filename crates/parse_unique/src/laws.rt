@@ -13,3 +13,10 @@ pub fn one_tree()
     ensures within { (limit : ℕ) (tokens : List Token) (program : Program) →
         Spells limit program tokens → SpellsAtAnyDepth program tokens }
 {}
+
+/// Programs that are the same spell the same tokens, so nothing that the tokens tell is left out where programs
+/// are compared.
+pub fn same_tokens()
+    ensures { (limit : ℕ) (tokens : List Token) (program other : Program) →
+        SameProgram program other → Spells limit program tokens → Spells limit other tokens }
+{}
