@@ -7,6 +7,7 @@ pub mod Good
 pub mod Levels
 pub mod Listings
 pub mod Programs
+pub mod Refusals
 pub mod Runs
 pub mod Senses
 pub mod Statements

@@ -1,7 +1,9 @@
 //! Laws over the definitions alone.
-ghost use Rattle.std.specs.Prelude.{ℕ, List};
+ghost use Rattle.std.specs.Prelude.{◌≡◌, ℕ, List};
+ghost use Rattle.comet_syntax.specs.declared.stop.FormCause.{FormCause};
 ghost use Rattle.comet_syntax.specs.declared.token.Token.{Token};
 ghost use Rattle.comet_syntax.specs.declared.tree.program.Program.{Program};
+ghost use Rattle.comet_syntax.specs.Refusal.{Refused};
 ghost use Rattle.comet_syntax.specs.Spells.{Spells, SpellsAtAnyDepth};
 ghost use Rattle.parse_unique.specs.Bare.{SameProgram};
 
@@ -19,4 +21,13 @@ pub fn one_tree()
 pub fn same_tokens()
     ensures { (limit : ℕ) (tokens : List Token) (program other : Program) →
         SameProgram program other → Spells limit program tokens → Spells limit other tokens }
+{}
+
+/// Tokens are refused at one place and for one cause, and where they are no program spells them.
+pub fn one_refusal()
+    ensures one { (limit : ℕ) (tokens before rest before' rest' : List Token) (cause cause' : FormCause) →
+        Refused limit tokens before rest cause → Refused limit tokens before' rest' cause' →
+        (before ≡ before') × (rest ≡ rest') × (cause ≡ cause') }
+    ensures none { (limit : ℕ) (tokens before rest : List Token) (cause : FormCause) (program : Program) →
+        Refused limit tokens before rest cause → Spells limit program tokens → ⊥ }
 {}
