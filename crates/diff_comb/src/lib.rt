@@ -9,6 +9,7 @@
 
 mod all_of;
 mod any_of;
+mod new_numbers;
 mod of_one;
 mod relation;
 mod weighted_total;
