@@ -2,7 +2,7 @@
 ghost use Rattle.std.specs.Prelude.{◌≡◌};
 ghost use Rattle.node_order.specs.Lowering.{lower, lowest_with, lowest};
 
-use crate::counts::first_left;
+use crate::counts::{first_left, first_left_by_few};
 use cbl_base::{NoMemory, NodeFault, RunFault};
 use node_base::{NumberChange, NumberNode, OrderedCounts};
 use std::alloc::Global;
@@ -53,13 +53,14 @@ impl NumberNode for Lowest {
     }
 
     fn probe(&self, changes: &[NumberChange]) -> Result<i64, NodeFault> {
-        let least = lowest_with(first_left(&self.counts, changes), changes);
+        let left = first_left(self.alloc, &self.counts, changes)?;
+        let least = lowest_with(left, changes);
         Ok(least.unwrap_or(0))
     }
 
     fn value(&self) -> Result<i64, RunFault> {
         let none: [NumberChange; 0] = [];
-        Ok(first_left(&self.counts, &none).unwrap_or(0))
+        Ok(first_left_by_few(&self.counts, &none).unwrap_or(0))
     }
 
     fn place_violation(&self, _place: usize) -> i64 {

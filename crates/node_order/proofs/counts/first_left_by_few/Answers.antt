@@ -4,7 +4,7 @@ use Rattle.std.specs.Map.Iter.{deref_pair}
 use Rattle.std.proofs.lemmas.Int.{to_z-of_z}
 use Rattle.std.proofs.lemmas.Map.Iter.{rest_more}
 use Rattle.node_order.proofs.LowestLemmas.{walk_found, walk_passed}
-use Rattle.node_order.proofs.counts.first_left.Goals as goal
+use Rattle.node_order.proofs.counts.first_left_by_few.Goals as goal
 
 pub returns-then-times_old-count-clause-first : goal.returns-then-times_old-count-clause-first
 returns-then-times_old-count-clause-first c =
