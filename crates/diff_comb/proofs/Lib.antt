@@ -1,3 +1,4 @@
 pub mod Lowest
+pub mod NewNumberLemmas
 pub mod ProductLemmas
 pub mod Sides

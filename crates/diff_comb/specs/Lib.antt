@@ -1,4 +1,5 @@
 pub mod Combined
+pub mod NewNumbers
 pub mod OneMember
 pub mod Products
 pub mod Related

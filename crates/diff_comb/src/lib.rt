@@ -4,11 +4,12 @@
 //!
 //! It knows nothing of terms, solvers or programs, and of no constraint that counts. The layers above use
 //! that each type is a `NumberNode` with exactly its rule. A change of a total costs the same whatever the
-//! number of members; where several changes of it are probed at once, each costs a pass over those before it.
+//! number of members; where many changes of it are probed at once, each costs the logarithm of their number.
 #![tactic(auto)]
 
 mod all_of;
 mod any_of;
+mod new_numbers;
 mod of_one;
 mod relation;
 mod weighted_total;

@@ -6,9 +6,9 @@ ghost use Rattle.cbl_base.specs.NumberRule.{rule_of_numbers};
 ghost use Rattle.cbl_violations.specs.Violations.WeightedTotal.{weighted_total, weighted_total_value};
 ghost use Rattle.diff_comb.specs.Products.{part, misfit, products_of, other_place, AreTotals, IsSmall};
 
+use crate::new_numbers::NewNumbers;
 use cbl_base::{NoMemory, NodeFault, RunFault, mul};
 use node_base::{NumberChange, NumberNode, probe_answer};
-use node_count::number_after;
 use std::alloc::Global;
 
 /// The total of so many members, each times its weight: it takes the members, and behind them as many
@@ -18,6 +18,7 @@ pub struct WeightedTotal {
     members: u32,
     numbers: Vec<i64>,
     products: Products,
+    alloc: Global,
 }
 
 /// The total of the products that fit 64 bits, and how many don't.
@@ -46,6 +47,7 @@ impl WeightedTotal {
                 fitting: 0,
                 unfit: 0,
             },
+            alloc,
         }
     }
 
@@ -91,12 +93,14 @@ impl NumberNode for WeightedTotal {
     }
 
     fn probe(&self, changes: &[NumberChange]) -> Result<i64, NodeFault> {
+        let mut earlier = NewNumbers::new(self.alloc, changes);
         let mut products = self.products;
         for i in 0..changes.len() {
             let change = changes[i];
             let other = self.other(change.place);
-            let factor = number_after(self.numbers[other], other, &changes[..i]);
+            let factor = earlier.number_at(changes, i, other, self.numbers[other]);
             products = products.replaced(factor, change.old, change.new);
+            earlier.add(changes, i)?;
         }
         probe_answer(products.total())
     }

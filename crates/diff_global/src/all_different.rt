@@ -40,7 +40,7 @@ impl NumberNode for AllDifferent {
     ghost held_numbers = { λ s. s.tally };
 
     fn reset(&mut self, numbers: &[i64]) -> Result<(), NoMemory> {
-        self.tally = Tally::new(self.alloc);
+        self.tally = Tally::for_numbers(self.alloc, numbers)?;
         self.repeats = 0;
         for x in numbers {
             let before = self.tally.push(*x)?;

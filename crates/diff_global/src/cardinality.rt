@@ -232,7 +232,7 @@ impl NumberNode for Cardinality {
     ghost held_numbers = { λ s. s.tally };
 
     fn reset(&mut self, numbers: &[i64]) -> Result<(), NoMemory> {
-        self.tally = Tally::new(self.alloc);
+        self.tally = Tally::for_numbers(self.alloc, numbers)?;
         self.totals = totals_of_none(self.demand, self.bounds.as_slice());
         for x in numbers {
             let before = self.tally.push(*x)?;

@@ -1,4 +1,5 @@
 pub mod ChangeLemmas
 pub mod ListChanges
+pub mod OverlayLemmas
 pub mod TallyLemmas
 pub mod ValueSums

@@ -1,6 +1,6 @@
 -- How often a number stands in a list, before and after a change.
 use Rattle.std.proofs.Common.{◌≡◌, ℕ, ◌+◌, ◌-◌, ◌<◌, ◌≤◌, ◌^◌, ℤ, Bool, true, false, cond, if◌then◌else◌, List, [], ◌∷◌, ◌++◌, length, get_or, refl, ap, ◌∙◌, arith}
-use Rattle.std.specs.Prelude.{Some, unwrap_or}
+use Rattle.std.specs.Prelude.{Some, None, unwrap_or}
 use Rattle.std.specs.List.{remove}
 use Rattle.std.specs.Map.{lookup}
 use Rattle.std.specs.Ordering.{int_eq}
@@ -11,7 +11,7 @@ use Rattle.cbl_base.proofs.SetLemmas.{int_eq-itself, int_eq-true}
 use Rattle.node_base.specs.declared.number_change.NumberChange.{NumberChange}
 use Rattle.node_base.specs.NumberChanges.{after_number_change, IsNumberChange}
 use Rattle.node_base.specs.Counting.{count_elsewhere, count_over, Shows, ShowsChange, IsWritten}
-use Rattle.node_base.specs.KeptCounts.{AreCountsOf}
+use Rattle.node_base.specs.KeptCounts.{place_in_window, count_at, counted, AreCountsOf}
 use Rattle.node_base.proofs.ChangeLemmas.{number_within, number_read}
 
 pub one_at-itself : (v : ℤ) → one_at v v ≡ 1
@@ -45,6 +45,11 @@ module _ (xs : List ℤ) (c : NumberChange) (h : IsNumberChange xs c) where
 
   pub elsewhere-le : (v : ℤ) → count_elsewhere xs c.place v ≤ length xs
   elsewhere-le v = omega (arith, count_before v, count_of-le-length v xs)
+
+-- ---- counts in a list for the numbers of a window
+-- the count of a number outside
+pub counted_off : (low : ℤ) (window : List ℕ) (outside : ℤ → ℕ) (v : ℤ) → place_in_window low (length window) v ≡ None → counted low window outside v ≡ outside v
+counted_off low window outside v at = ap (count_at window outside v) at
 
 -- ---- counts that are kept as a function
 -- one more or less of a number, as an update

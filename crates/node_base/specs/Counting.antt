@@ -1,6 +1,7 @@
 -- How often a number stands in a list: at the places other than one, and as counts that are kept
 -- beside the list say. A rule of this project.
-use Rattle.std.specs.Prelude.{◌≡◌, ℕ, ℤ, List, remove, Some, unwrap_or, if◌then◌else◌}
+use Rattle.std.specs.Prelude.{◌≡◌, ℕ, ℤ, suc, List, [], ◌∷◌, remove, Option, Some, None, unwrap_or, if◌then◌else◌}
+use Rattle.std.specs.Option.{option_map}
 use Rattle.std.specs.Map.{lookup}
 use Rattle.std.specs.Ordering.{int_eq}
 use Rattle.cbl_base.specs.Counts.{count_of}
@@ -20,6 +21,11 @@ pub record IsElsewhere (xs : List ℤ) (c : NumberChange) (e : Elsewhere) : Type
 -- the count of a number: as it is kept, and where none is kept, as in the list
 abbrev pub count_over : List ℤ → List (ℤ × ℕ) → ℤ → ℕ
 count_over xs kept v = unwrap_or (lookup (λ k. int_eq v k) kept) (count_of v xs)
+
+-- the place from 0 of the first count of a number
+abbrev pub place_among : ℤ → List (ℤ × ℕ) → Option ℕ
+place_among v [] = None
+place_among v (e ∷ es) = if int_eq v e.0 then Some 0 else option_map suc (place_among v es)
 
 -- the counts that are kept make those of the list `xs` into those of the list `ys`
 abbrev pub Shows : List ℤ → List (ℤ × ℕ) → List ℤ → Type 0

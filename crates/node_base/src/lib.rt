@@ -12,13 +12,16 @@ mod counts;
 mod lists;
 mod number_change;
 mod number_node;
+mod ordered_counts;
 mod over_numbers;
 mod overlay;
 mod tally;
 
+pub use counts::Counts;
 pub use lists::{changes_between, inputs_of};
 pub use number_change::NumberChange;
 pub use number_node::{NumberNode, probe_answer};
+pub use ordered_counts::OrderedCounts;
 pub use over_numbers::OverNumbers;
 pub use overlay::Overlay;
 pub use tally::{Elsewhere, Tally};

@@ -47,6 +47,28 @@ impl Tally {
         }
     }
 
+    /// The list with no number, made for numbers like these to be pushed, and some changed: where they
+    /// lie near one another, finding a count takes constant time. `NoMemory` where there is none for it.
+    pub fn for_numbers(alloc: Global, numbers: &[i64]) -> Result<Tally, NoMemory>
+        ensures { IfOk result (λ tally. tally ≡ []) }
+    {
+        Ok(Tally {
+            numbers: Vec::with_capacity(alloc, numbers.len())?,
+            counts: Counts::for_numbers(alloc, numbers)?,
+        })
+    }
+
+    /// The list of these numbers, made as by `for_numbers`. `NoMemory` where there is none for it.
+    pub fn of(alloc: Global, numbers: &[i64]) -> Result<Tally, NoMemory>
+        ensures { IfOk result (λ tally. tally ≡ numbers.now) }
+    {
+        let mut tally = Tally::for_numbers(alloc, numbers)?;
+        for number in numbers {
+            tally.push(*number)?;
+        }
+        Ok(tally)
+    }
+
     /// How many numbers it has.
     pub fn len(&self) -> usize
         ensures length { result ≡ length self.now }

@@ -41,10 +41,7 @@ impl NumberNode for Count {
 
     fn reset(&mut self, numbers: &[i64]) -> Result<(), NoMemory> {
         let cells = numbers.len() - 1;
-        self.cells = Tally::new(self.alloc);
-        for place in 0..cells {
-            self.cells.push(numbers[place])?;
-        }
+        self.cells = Tally::of(self.alloc, &numbers[..cells])?;
         self.counted = numbers[cells];
         Ok(())
     }

@@ -1,10 +1,10 @@
 -- The least of a list after changes, by how often each number stands there.
-use Rattle.std.proofs.Common.{◌≡◌, ℕ, zero, suc, ◌+◌, ◌<◌, ◌≤◌, ℤ, pos, ◌+ℤ◌, ◌<ℤ◌, ◌≤ℤ◌, true, false, cond, nat_lt, ◌⊎◌, inl, inr, List, [], ◌∷◌, set, Option, Some, None, Result, Ok, refl, ap, sym, ◌∙◌, subst, arith}
-use Rattle.std.specs.Prelude.{unwrap_or, int_lt, slice_get}
+use Rattle.std.proofs.Common.{◌≡◌, ℕ, zero, suc, ◌+◌, ◌-◌, ◌<◌, ◌≤◌, ℤ, pos, ◌+ℤ◌, ◌<ℤ◌, ◌≤ℤ◌, true, false, cond, nat_lt, ◌⊎◌, inl, inr, List, [], ◌∷◌, set, Option, Some, None, Result, Ok, refl, ap, sym, ◌∙◌, subst, arith}
+use Rattle.std.specs.Prelude.{unwrap_or, int_lt, slice_get, if◌then◌else◌}
 use Rattle.std.specs.Int.{int_min}
 use Rattle.std.specs.Map.{lookup, keys_of}
 use Rattle.std.specs.Ordering.{int_cmp, int_eq, is_eq}
-use Rattle.std.specs.BTreeMap.{BTreeMap, IsOrdered, is_at}
+use Rattle.std.specs.BTreeMap.{is_at}
 use Rattle.std.specs.List.{AllByRecursion}
 use Rattle.std.specs.List.Sorted.{IsStrictlySortedBy}
 use Rattle.std.specs.declared.cmp.Ordering.TheVariants.{Less}
@@ -21,9 +21,12 @@ use Rattle.cbl_base.proofs.SetLemmas.{int_eq-itself, int_eq-true, int_eq-false}
 use Rattle.cbl_operations.specs.Operations.Least.{least_of}
 use Rattle.node_base.specs.NumberChanges.{NoNumberAt, IsNumberChange, AreNumberChanges, after_number_changes}
 use Rattle.node_base.specs.declared.number_change.NumberChange.{NumberChange}
+use Rattle.node_base.specs.KeptCounts.{times_kept}
+use Rattle.node_base.specs.declared.ordered_counts.OrderedCounts.{OrderedCounts}
 use Rattle.node_base.proofs.ChangeLemmas.{number_within, number_read}
+use Rattle.node_base.proofs.TallyLemmas.{counts_changed, old_kept}
 use Rattle.node_order.specs.Lowering.{times_old, first_left, lower, lowest_with, lowest}
-use Rattle.node_order.specs.OrderedCounts.{times_in, one_where, AreCountsOf}
+use Rattle.node_order.specs.OrderedCounts.{AreCountsOf}
 
 -- ---- the numbers that changes take away, and those that they bring
 times_new : ℤ → List NumberChange → ℕ
@@ -254,11 +257,11 @@ unfolding IsStrictlySortedBy
 rising_keys [] h = tt
 rising_keys (x ∷ xs) h = (below_all-from x xs h.0, rising_keys xs h.1)
 
-pub least_after : (counts : BTreeMap ℤ ℕ) (xs : List ℤ) (cs : List NumberChange) (found : Option ℤ) (r : Option ℤ) → AreCountsOf counts xs → IsRising (keys_of counts.entries) → AreNumberChanges xs cs
-    → found ≡ first_left cs counts.entries → r ≡ lowest_with found cs → lowest.value (after_number_changes xs cs) ≡ Ok (unwrap_or r (pos 0))
+pub least_after : (counts : OrderedCounts) (xs : List ℤ) (cs : List NumberChange) (found : Option ℤ) (r : Option ℤ) → AreCountsOf counts xs → IsRising (keys_of counts.by_number.entries) → AreNumberChanges xs cs
+    → found ≡ first_left cs counts.by_number.entries → r ≡ lowest_with found cs → lowest.value (after_number_changes xs cs) ≡ Ok (unwrap_or r (pos 0))
 unfolding count_in
 least_after counts xs cs found r are up h is_found is_r =
-    let es = counts.entries in
+    let es = counts.by_number.entries in
     let first = subst (λ o. FirstIs cs es o) (sym is_found) (first_is cs es up) in
     let last = subst (λ o. LowestIs found cs o) (sym is_r) (lowest_is found cs) in
     ap ok (least_from (after_number_changes xs cs) r
@@ -274,7 +277,7 @@ least_after counts xs cs found r are up h is_found is_r =
     ok : ℤ → Result ℤ RunFault
     ok x = Ok x
 
-    by_new : (v : ℤ) → 0 < count_of v (after_number_changes xs cs) → (n : ℕ) → n ≡ times_new v cs → FirstIs cs counts.entries found → LowestIs found cs r → (m : ℤ) × (r ≡ Some m) × (m ≤ℤ v)
+    by_new : (v : ℤ) → 0 < count_of v (after_number_changes xs cs) → (n : ℕ) → n ≡ times_new v cs → FirstIs cs counts.by_number.entries found → LowestIs found cs r → (m : ℤ) × (r ≡ Some m) × (m ≤ℤ v)
     by_new v some (suc n) is first last = last.low_new v (omega (arith, is))
     by_new v some zero is first last =
         let count = are v in
@@ -285,19 +288,15 @@ least_after counts xs cs found r are up h is_found is_r =
         (end.0, end.1, omega (arith, ints, le, le'))
 
 -- ---- a change of the counts that are kept
-pub stands_old : (xs : List ℤ) (c : NumberChange) → IsNumberChange xs c → 0 < count_of c.old xs
-stands_old xs c h =
-    let gone = old-le c.old xs (c ∷ []) (h, tt, tt) in
-    omega (arith, gone, old-cons c.old c [], one_itself c.old)
+pub counts_turn : (before between after : OrderedCounts) (xs : List ℤ) (c : NumberChange) → AreCountsOf before xs → IsNumberChange xs c
+    → ((v : ℤ) → times_kept between v ≡ (if int_eq c.new v then times_kept before v + 1 else times_kept before v))
+    → ((v : ℤ) → times_kept after v ≡ (if int_eq c.old v then times_kept between v - 1 else times_kept between v)) → AreCountsOf after (set xs c.place c.new)
+counts_turn before between after xs c are h come gone = counts_changed (times_kept before) (times_kept between) (times_kept after) xs c h are come gone
 
-pub counts_turn : (before between after : BTreeMap ℤ ℕ) (xs : List ℤ) (c : NumberChange) → AreCountsOf before xs → IsNumberChange xs c → ((v : ℤ) → times_in between v ≡ times_in before v + one_where c.new v) → ((v : ℤ) → times_in after v + one_where c.old v ≡ times_in between v)
-    → AreCountsOf after (set xs c.place c.new)
-counts_turn before between after xs c are h come gone v =
-    let was = are v in
-    let more = come v in
-    let less = gone v in
-    let turn = at_change v xs c c.new h in
-    omega (arith, was, more, less, turn)
+-- the old number is still counted once the new one is
+pub old_counted : (before between : OrderedCounts) (xs : List ℤ) (c : NumberChange) → AreCountsOf before xs → IsNumberChange xs c
+    → ((v : ℤ) → times_kept between v ≡ (if int_eq c.new v then times_kept before v + 1 else times_kept before v)) → 0 < times_kept between c.old
+old_counted before between xs c are h come = old_kept (times_kept before) (times_kept between) (times_kept between) xs c h are come
 
 -- ---- a walk over the counts
 pub walk_found : (cs : List NumberChange) (left all rest : List (ℤ × ℕ)) (k : ℤ) (n t : ℕ) → left ≡ (k, n) ∷ rest → first_left cs left ≡ first_left cs all → t ≡ times_old k cs → t < n → Some k ≡ first_left cs all

@@ -7,7 +7,10 @@ use Rattle.cbl_base.specs.NumberRule.{NumberRule}
 use Rattle.cbl_operations.specs.Operations.Least.{least_of}
 use Rattle.node_base.specs.declared.number_change.NumberChange.{NumberChange}
 
--- how many changes take the number away
+-- the number that a change takes away, and how many changes take a number away
+abbrev pub old_number : NumberChange → ℤ
+old_number c = c.old
+
 abbrev pub times_old : ℤ → List NumberChange → ℕ
 times_old v changes = count_by (λ c. int_eq c.old v) changes
 

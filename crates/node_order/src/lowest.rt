@@ -2,17 +2,16 @@
 ghost use Rattle.std.specs.Prelude.{◌≡◌};
 ghost use Rattle.node_order.specs.Lowering.{lower, lowest_with, lowest};
 
-use crate::counts::{add, counts_of, first_left, take};
+use crate::counts::{first_left, first_left_by_few};
 use cbl_base::{NoMemory, NodeFault, RunFault};
-use node_base::{NumberChange, NumberNode};
+use node_base::{NumberChange, NumberNode, OrderedCounts};
 use std::alloc::Global;
-use std::collections::BTreeMap;
 
 /// A node that takes any list of numbers: the least of them, 0 for none.
 #[derive(Drop)]
 pub struct Lowest {
     numbers: Vec<i64>,
-    counts: BTreeMap<i64, usize>,
+    counts: OrderedCounts,
     alloc: Global,
 }
 
@@ -23,7 +22,7 @@ impl Lowest {
     {
         Lowest {
             numbers: Vec::new(alloc),
-            counts: BTreeMap::new(alloc),
+            counts: OrderedCounts::new(alloc),
             alloc,
         }
     }
@@ -42,25 +41,26 @@ impl NumberNode for Lowest {
     fn reset(&mut self, numbers: &[i64]) -> Result<(), NoMemory> {
         self.numbers.clear();
         self.numbers.extend_from_slice(numbers)?;
-        self.counts = counts_of(self.alloc, numbers)?;
+        self.counts = OrderedCounts::of(self.alloc, numbers)?;
         Ok(())
     }
 
     fn set(&mut self, change: NumberChange) -> Result<(), NoMemory> {
-        add(&mut self.counts, change.new)?;
-        take(&mut self.counts, change.old);
+        self.counts.add(change.new)?;
+        self.counts.take(change.old);
         self.numbers[change.place] = change.new;
         Ok(())
     }
 
     fn probe(&self, changes: &[NumberChange]) -> Result<i64, NodeFault> {
-        let least = lowest_with(first_left(&self.counts, changes), changes);
+        let left = first_left(self.alloc, &self.counts, changes)?;
+        let least = lowest_with(left, changes);
         Ok(least.unwrap_or(0))
     }
 
     fn value(&self) -> Result<i64, RunFault> {
         let none: [NumberChange; 0] = [];
-        Ok(first_left(&self.counts, &none).unwrap_or(0))
+        Ok(first_left_by_few(&self.counts, &none).unwrap_or(0))
     }
 
     fn place_violation(&self, _place: usize) -> i64 {

@@ -10,7 +10,8 @@ use Rattle.cbl_base.specs.declared.input.Input.{Input}
 use Rattle.cbl_base.specs.declared.input.Input.TheVariants.{Set}
 use Rattle.cbl_base.proofs.CountLemmas.{count_of-absent, count_of-member}
 use Rattle.cbl_base.proofs.SetLemmas.{int_eq-true, is_member-with, is_member-without, is_member-set_of, rising-set_of, rising-with, rising-without, same_set}
-use Rattle.node_set.specs.Bags.{times_in, one_where, IsBagOf, IsChangedBy}
+use Rattle.node_base.specs.KeptCounts.{times_kept}
+use Rattle.node_set.specs.Bags.{one_where, IsBagOf, IsChangedBy}
 use Rattle.node_set.specs.Placing.{placed_in}
 use Rattle.node_set.specs.declared.key_bag.KeyBag.{KeyBag}
 
@@ -41,7 +42,7 @@ more_set key xs ys more =
         let here = more v in
         elim (cases_Bool (int_eq key v)) [ inl e ↦ grind (arith, nat_tests, here, e) | inr e ↦ grind (arith, nat_tests, here, e) ]
 
-pub bag_more : (old new : KeyBag) (key : ℤ) (xs ys : List ℤ) → ((q : ℤ) → times_in new.counts q ≡ times_in old.counts q + one_where true key q) → new.kept ≡ placed_in key true old.kept
+pub bag_more : (old new : KeyBag) (key : ℤ) (xs ys : List ℤ) → ((q : ℤ) → times_kept new.counts q ≡ times_kept old.counts q + one_where true key q) → new.kept ≡ placed_in key true old.kept
     → IsBagOf old xs → IsChangedBy key false true xs ys → IsBagOf new ys
 bag_more old new key xs ys counts kept is by =
     let more : (q : ℤ) → count_of q ys ≡ count_of q xs + one_where true key q = λ q. grind (arith, by q) in
@@ -90,19 +91,19 @@ kept_without n m key a b same other =
     let no : (m == 1) ≡ false = grind (arith, nat_tests, same, other) in
     sym (cond-false (m == 1) a b no)
 
-pub bag_less : (old new : KeyBag) (key : ℤ) (xs ys : List ℤ) → ((q : ℤ) → times_in new.counts q + one_where true key q ≡ times_in old.counts q)
-    → new.kept ≡ (if times_in old.counts key == 1 then placed_in key false old.kept else old.kept) → IsBagOf old xs → IsChangedBy key true false xs ys → IsBagOf new ys
+pub bag_less : (old new : KeyBag) (key : ℤ) (xs ys : List ℤ) → ((q : ℤ) → times_kept new.counts q + one_where true key q ≡ times_kept old.counts q)
+    → new.kept ≡ (if times_kept old.counts key == 1 then placed_in key false old.kept else old.kept) → IsBagOf old xs → IsChangedBy key true false xs ys → IsBagOf new ys
 bag_less old new key xs ys counts kept is by =
     let less : (q : ℤ) → count_of q ys + one_where true key q ≡ count_of q xs = λ q. grind (arith, by q) in
     record {
       counts = λ q. let now = counts q in let was = is.counts q in let then_ = less q in omega (arith, now, was, then_);
-      kept = elim (cases_Bool (times_in old.counts key == 1)) [
+      kept = elim (cases_Bool (times_kept old.counts key == 1)) [
         | inl e ↦
             let one : count_of key xs ≡ 1 = sym (is.counts key) ∙ grind (arith, nat_tests, e) in
-            kept ∙ cond-true (times_in old.counts key == 1) (placed_in key false old.kept) old.kept e ∙ ap (placed_in key false) is.kept ∙ ap Set (less_set key xs ys one less)
+            kept ∙ cond-true (times_kept old.counts key == 1) (placed_in key false old.kept) old.kept e ∙ ap (placed_in key false) is.kept ∙ ap Set (less_set key xs ys one less)
         | inr e ↦
-            let others : count_of key xs ≢ 1 = λ one. both_ways (times_in old.counts key == 1) e (let at = is.counts key ∙ one in grind (arith, nat_tests, at)) in
-            kept ∙ cond-false (times_in old.counts key == 1) (placed_in key false old.kept) old.kept e ∙ is.kept ∙ ap Set (left_set key xs ys others less)
+            let others : count_of key xs ≢ 1 = λ one. both_ways (times_kept old.counts key == 1) e (let at = is.counts key ∙ one in grind (arith, nat_tests, at)) in
+            kept ∙ cond-false (times_kept old.counts key == 1) (placed_in key false old.kept) old.kept e ∙ is.kept ∙ ap Set (left_set key xs ys others less)
       ];
     }
 
@@ -117,14 +118,14 @@ on_ok_two (Ok x) f a b = f a b
 on_ok_two (Err e) f a b = tt
 
 pub changed_more : {T E : Type 0} (r : Result T E) (old new : KeyBag) (key : ℤ) (was is : Bool) → was ≡ false → is ≡ true
-    → OnOk r ((q : ℤ) → times_in new.counts q ≡ times_in old.counts q + one_where true key q) → OnOk r (new.kept ≡ placed_in key true old.kept)
+    → OnOk r ((q : ℤ) → times_kept new.counts q ≡ times_kept old.counts q + one_where true key q) → OnOk r (new.kept ≡ placed_in key true old.kept)
     → OnOk r ((xs ys : List ℤ) → IsBagOf old xs → IsChangedBy key was is xs ys → IsBagOf new ys)
 changed_more r old new key was is e f counts kept =
-    rw (e, f) (on_ok_two r (λ (n : (q : ℤ) → times_in new.counts q ≡ times_in old.counts q + one_where true key q) (k : new.kept ≡ placed_in key true old.kept) xs ys. bag_more old new key xs ys n k) counts kept)
+    rw (e, f) (on_ok_two r (λ (n : (q : ℤ) → times_kept new.counts q ≡ times_kept old.counts q + one_where true key q) (k : new.kept ≡ placed_in key true old.kept) xs ys. bag_more old new key xs ys n k) counts kept)
 
 pub changed_less : {T E : Type 0} (r : Result T E) (old new : KeyBag) (key : ℤ) (was is : Bool) → was ≡ true → is ≡ false
-    → OnOk r ((q : ℤ) → times_in new.counts q + one_where true key q ≡ times_in old.counts q)
-    → OnOk r (new.kept ≡ (if times_in old.counts key == 1 then placed_in key false old.kept else old.kept))
+    → OnOk r ((q : ℤ) → times_kept new.counts q + one_where true key q ≡ times_kept old.counts q)
+    → OnOk r (new.kept ≡ (if times_kept old.counts key == 1 then placed_in key false old.kept else old.kept))
     → OnOk r ((xs ys : List ℤ) → IsBagOf old xs → IsChangedBy key was is xs ys → IsBagOf new ys)
 changed_less r old new key was is e f counts kept =
-    rw (e, f) (on_ok_two r (λ (n : (q : ℤ) → times_in new.counts q + one_where true key q ≡ times_in old.counts q) (k : new.kept ≡ (if times_in old.counts key == 1 then placed_in key false old.kept else old.kept)) xs ys. bag_less old new key xs ys n k) counts kept)
+    rw (e, f) (on_ok_two r (λ (n : (q : ℤ) → times_kept new.counts q + one_where true key q ≡ times_kept old.counts q) (k : new.kept ≡ (if times_kept old.counts key == 1 then placed_in key false old.kept else old.kept)) xs ys. bag_less old new key xs ys n k) counts kept)

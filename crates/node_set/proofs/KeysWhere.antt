@@ -15,7 +15,8 @@ use Rattle.cbl_base.proofs.CountLemmas.{count_of-cons, count_of-le-length}
 use Rattle.cbl_base.proofs.SetLemmas.{int_eq-itself}
 use Rattle.cbl_operations.specs.SetForms.{keys_where}
 use Rattle.cbl_operations.specs.Truth.{is_true}
-use Rattle.node_set.specs.Bags.{times_in, one_where, IsBagOf, IsChangedBy}
+use Rattle.node_base.specs.KeptCounts.{times_kept}
+use Rattle.node_set.specs.Bags.{one_where, IsBagOf, IsChangedBy}
 use Rattle.node_set.specs.declared.key_bag.KeyBag.{KeyBag}
 
 -- the first key and its number, and the others
@@ -72,7 +73,7 @@ length-keys_where (k ∷ ks) (x ∷ xs) =
     let later = length-keys_where ks xs in
     elim (cases_Bool (is_true x)) [ inl e ↦ grind (arith, later, e) | inr e ↦ grind (arith, later, e) ]
 
-pub few_where : (bag : KeyBag) (keys xs : List ℤ) (q : ℤ) → IsBagOf bag (keys_where is_true keys xs) → length keys < 2 ^ 63 → times_in bag.counts q + 1 < 2 ^ 64
+pub few_where : (bag : KeyBag) (keys xs : List ℤ) (q : ℤ) → IsBagOf bag (keys_where is_true keys xs) → length keys < 2 ^ 63 → times_kept bag.counts q + 1 < 2 ^ 64
 few_where bag keys xs q is short =
     let here = is.counts q in
     let most = count_of-le-length q (keys_where is_true keys xs) in
@@ -92,7 +93,7 @@ kept_value keys xs held bag kept same is at =
 
 -- ---- what a bag of the keys whose number is true needs, and is, where a number becomes another
 pub stood_turn : (bag : KeyBag) (keys xs : List ℤ) (p : ℕ) (old key : ℤ) (was : Bool) → IsBagOf bag (keys_where is_true keys xs) → length xs ≡ length keys → p < length xs → get_or xs p (pos 0) ≡ old
-    → key ≡ get_or keys p (pos 0) → was ≡ is_true old → was ≡ true → 0 < times_in bag.counts key
+    → key ≡ get_or keys p (pos 0) → was ≡ is_true old → was ≡ true → 0 < times_kept bag.counts key
 stood_turn bag keys xs p old key was is same lt there at is_was counts =
     let here : is_true (get_or xs p (pos 0)) ≡ true = ap is_true there ∙ sym is_was ∙ counts in
     rw at (let stood = stood_where keys xs p same lt here in let count = is.counts (get_or keys p (pos 0)) in omega (arith, stood, count))

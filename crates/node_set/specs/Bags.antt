@@ -1,20 +1,16 @@
 -- Numbers of which each may stand several times: how often each stands there, and the set of them. A rule
 -- of this project.
-use Rattle.std.specs.Prelude.{◌≡◌, ℕ, ℤ, Bool, ◌+◌, List, unwrap_or, if◌then◌else◌}
-use Rattle.std.specs.Ordering.{int_cmp, int_eq}
-use Rattle.std.specs.BTreeMap.{BTreeMap, get}
+use Rattle.std.specs.Prelude.{◌≡◌, ℕ, ℤ, Bool, ◌+◌, List, if◌then◌else◌}
+use Rattle.std.specs.Ordering.{int_eq}
 use Rattle.cbl_base.specs.Counts.{count_of}
 use Rattle.cbl_base.specs.Sets.{set_of}
 use Rattle.cbl_base.specs.declared.input.Input.TheVariants.{Set}
+use Rattle.node_base.specs.KeptCounts.{times_kept}
 use Rattle.node_set.specs.declared.key_bag.KeyBag.{KeyBag}
-
--- how often a number stands in the map of counts
-abbrev pub times_in : BTreeMap ℤ ℕ → ℤ → ℕ
-times_in counts q = unwrap_or (get int_cmp counts q) 0
 
 -- it has the counts of these numbers and the set of them
 pub record IsBagOf (bag : KeyBag) (xs : List ℤ) : Type 0 where
-  pub counts : (q : ℤ) → times_in bag.counts q ≡ count_of q xs
+  pub counts : (q : ℤ) → times_kept bag.counts q ≡ count_of q xs
   pub kept : bag.kept ≡ Set (set_of xs)
 
 -- 1 at the number itself where it counts, 0 else

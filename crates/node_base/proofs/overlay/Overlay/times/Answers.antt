@@ -1,17 +1,25 @@
-use Rattle.std.proofs.Common.{ap, w64, ◌∙◌}
-use Rattle.std.specs.Prelude.{unwrap_or}
+use Rattle.std.proofs.Common.{◌≡◌, ◌∙◌, pos, take, w64, sym}
+use Rattle.std.specs.Prelude.{Some, None}
 use Rattle.std.proofs.lemmas.Int.{to_z-of_z}
-use Rattle.cbl_base.specs.Counts.{count_of}
-use Rattle.node_base.specs.Counting.{count_over}
+use Rattle.node_base.specs.Counting.{place_among}
+use Rattle.node_base.proofs.OverlayLemmas.{shown_first, shown_later, shown_under}
 use Rattle.node_base.proofs.overlay.Overlay.times.Goals as goal
 
 pub returns-in-Some : goal.returns-in-Some
 returns-in-Some c =
-    ap (λ o. unwrap_or o (count_of c.args.number c.args.tally.now)) (simp (to_z-of_z w64 c.args.number c.ranges.number) at c.in-Some.ensures.value)
-    ∙ ap (λ kept. count_over c.args.tally.now kept c.args.number) c.self.view_is
+    let s = c.self.inside in
+    let at : Some c.in-Some.place ≡ place_among c.args.number (take s.len s.first) = simp (to_z-of_z w64 c.args.number c.ranges.number) at c.in-Some.ensures.place in
+    shown_first s.first s.later.entries c.args.self.now s.len c.self.view_is c.args.number c.args.tally.now c.in-Some.place (pos 0, 0) (sym at)
 
-pub returns-in-None : goal.returns-in-None
-returns-in-None c =
+pub returns-in-Some-get : goal.returns-in-Some-get
+returns-in-Some-get c =
+    let s = c.self.inside in
+    let off : None ≡ place_among c.args.number (take s.len s.first) = simp (to_z-of_z w64 c.args.number c.ranges.number) at c.in-None.ensures.place in
+    shown_later s.first s.later.entries c.args.self.now s.len c.self.view_is c.args.number c.args.tally.now c.in-Some-get.times.now (sym off) (simp (to_z-of_z w64 c.args.number c.ranges.number) at c.in-Some-get.ensures.value)
+
+pub returns-in-None-get : goal.returns-in-None-get
+returns-in-None-get c =
+    let s = c.self.inside in
+    let off : None ≡ place_among c.args.number (take s.len s.first) = simp (to_z-of_z w64 c.args.number c.ranges.number) at c.in-None.ensures.place in
     (simp (to_z-of_z w64 c.args.number c.ranges.number) at c.times.ensures)
-    ∙ ap (λ o. unwrap_or o (count_of c.args.number c.args.tally.now)) (simp (to_z-of_z w64 c.args.number c.ranges.number) at c.in-None.ensures.value)
-    ∙ ap (λ kept. count_over c.args.tally.now kept c.args.number) c.self.view_is
+    ∙ shown_under s.first s.later.entries c.args.self.now s.len c.self.view_is c.args.number c.args.tally.now (sym off) (simp (to_z-of_z w64 c.args.number c.ranges.number) at c.in-None-get.ensures.value)

@@ -13,4 +13,4 @@ unfolding ok
 returns c =
     let fits : FitsSigned w64 c.unwrap_or.result = search rules in
     rw (to_z-of_z w64 c.unwrap_or.result fits)
-    (least_after c.args.self.now.counts c.args.self.now.numbers.items c.args.changes.now c.first_left.result c.lowest_with-least.result c.requires.settled (rising_keys _ c.first_left.ensures.ordered) c.requires.changes c.first_left.ensures.first c.lowest_with-least.ensures ∙ ap ok (sym c.unwrap_or.ensures))
+    (least_after c.args.self.now.counts c.args.self.now.numbers.items c.args.changes.now c.in_ok-left.left c.lowest_with-least.result c.requires.settled (rising_keys _ c.in_ok-left.ensures.ordered) c.requires.changes c.in_ok-left.ensures.first c.lowest_with-least.ensures ∙ ap ok (sym c.unwrap_or.ensures))

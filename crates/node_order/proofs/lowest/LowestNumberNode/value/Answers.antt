@@ -13,4 +13,4 @@ unfolding ok
 returns c =
     let fits : FitsSigned w64 c.unwrap_or.result = search rules in
     rw (to_z-of_z w64 c.unwrap_or.result fits)
-    (sym (least_after c.args.self.now.counts c.args.self.now.numbers.items [] c.first_left.result c.first_left.result c.requires (rising_keys _ c.first_left.ensures.ordered) tt c.first_left.ensures.first refl ∙ ap ok (sym c.unwrap_or.ensures)))
+    (sym (least_after c.args.self.now.counts c.args.self.now.numbers.items [] c.first_left_by_few.result c.first_left_by_few.result c.requires (rising_keys _ c.first_left_by_few.ensures.ordered) tt c.first_left_by_few.ensures.first refl ∙ ap ok (sym c.unwrap_or.ensures)))
