@@ -1,6 +1,6 @@
 -- Which operations are users' constraints, which take or give sets, and what the rules of the users'
 -- constraints are where one is handed in. A rule of this project.
-use Rattle.std.specs.Prelude.{ℕ, ℤ, pos, Bool, true, false, List, Option, Some, None, Ok}
+use Rattle.std.specs.Prelude.{ℕ, pos, Bool, true, false, Option, Some, None, Ok}
 use Rattle.cbl_base.specs.NumberRule.{NumberRule}
 use Rattle.cbl_operations.specs.declared.op.Op.{Op}
 use Rattle.cbl_operations.specs.declared.op.Op.TheVariants.{ArgMin, ArgMax, SetOf, Union, Inter, Minus, Card, Member, User}
