@@ -1,5 +1,5 @@
 -- A list without inputs has no changes.
-use Rattle.std.proofs.Common.{ℕ, ◌≡◌, List, [], ◌∷◌, length, slice_get, Some, refl, arith}
+use Rattle.std.proofs.Common.{ℕ, ◌≡◌, List, [], ◌∷◌, slice_get, Some, refl, arith}
 use Rattle.std.proofs.lemmas.Option.{slice_get_within}
 use Rattle.cbl_base.specs.Changes.{AreChanges, after_changes}
 use Rattle.cbl_base.specs.declared.input.Input.{Input}

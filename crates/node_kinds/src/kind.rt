@@ -4,6 +4,7 @@ use crate::constraint_kind::ConstraintKind;
 use crate::operation_kind::OperationKind;
 use cbl_base::{Change, Input, NoMemory, NodeFault, NodeRule, NodeValue, RunFault};
 use node_base::{NumberNode, OverNumbers};
+use node_order::ArgExtreme;
 use node_set::{Card, Member, SetOf, TwoSets};
 use user_constraint::UserConstraint;
 
@@ -14,6 +15,7 @@ pub enum KindOf<U: UserConstraint> {
     Operation(OverNumbers<OperationKind>),
     Constraint(OverNumbers<ConstraintKind<U>>),
     SetOf(SetOf),
+    ArgExtreme(ArgExtreme),
     TwoSets(TwoSets),
     Card(Card),
     Member(Member),
@@ -25,13 +27,13 @@ pub type Kind = KindOf<Box<dyn UserConstraint>>;
 impl<U: UserConstraint> NodeRule for KindOf<U> {
     ghost use Rattle.std.specs.Prelude.{[]};
     ghost use Rattle.node_kinds.specs.ConstantRule.{rule_of_constant};
-    ghost use Rattle.node_kinds.specs.declared.kind.KindOf.TheVariants.{Constant, Operation, Constraint, SetOf, TwoSets, Card, Member};
+    ghost use Rattle.node_kinds.specs.declared.kind.KindOf.TheVariants.{Constant, Operation, Constraint, SetOf, ArgExtreme, TwoSets, Card, Member};
 
-    ghost rule = { elim [ Constant s ↦ rule_of_constant s.value | Operation s ↦ ⟦<OverNumbers<OperationKind> as NodeRule>⟧.rule s | Constraint s ↦ ⟦<OverNumbers<ConstraintKind<U>> as NodeRule>⟧.rule s | SetOf s ↦ ⟦<SetOf as NodeRule>⟧.rule s | TwoSets s ↦ ⟦<TwoSets as NodeRule>⟧.rule s | Card s ↦ ⟦<Card as NodeRule>⟧.rule s | Member s ↦ ⟦<Member as NodeRule>⟧.rule s ] };
+    ghost rule = { elim [ Constant s ↦ rule_of_constant s.value | Operation s ↦ ⟦<OverNumbers<OperationKind> as NodeRule>⟧.rule s | Constraint s ↦ ⟦<OverNumbers<ConstraintKind<U>> as NodeRule>⟧.rule s | SetOf s ↦ ⟦<SetOf as NodeRule>⟧.rule s | ArgExtreme s ↦ ⟦<ArgExtreme as NodeRule>⟧.rule s | TwoSets s ↦ ⟦<TwoSets as NodeRule>⟧.rule s | Card s ↦ ⟦<Card as NodeRule>⟧.rule s | Member s ↦ ⟦<Member as NodeRule>⟧.rule s ] };
 
-    ghost ready = { elim [ Constant _ ↦ Unit {0} | Operation s ↦ ⟦<OverNumbers<OperationKind> as NodeRule>⟧.ready s | Constraint s ↦ ⟦<OverNumbers<ConstraintKind<U>> as NodeRule>⟧.ready s | SetOf s ↦ ⟦<SetOf as NodeRule>⟧.ready s | TwoSets s ↦ ⟦<TwoSets as NodeRule>⟧.ready s | Card s ↦ ⟦<Card as NodeRule>⟧.ready s | Member s ↦ ⟦<Member as NodeRule>⟧.ready s ] };
+    ghost ready = { elim [ Constant _ ↦ Unit {0} | Operation s ↦ ⟦<OverNumbers<OperationKind> as NodeRule>⟧.ready s | Constraint s ↦ ⟦<OverNumbers<ConstraintKind<U>> as NodeRule>⟧.ready s | SetOf s ↦ ⟦<SetOf as NodeRule>⟧.ready s | ArgExtreme s ↦ ⟦<ArgExtreme as NodeRule>⟧.ready s | TwoSets s ↦ ⟦<TwoSets as NodeRule>⟧.ready s | Card s ↦ ⟦<Card as NodeRule>⟧.ready s | Member s ↦ ⟦<Member as NodeRule>⟧.ready s ] };
 
-    ghost held = { elim [ Constant _ ↦ [] | Operation s ↦ ⟦<OverNumbers<OperationKind> as NodeRule>⟧.held s | Constraint s ↦ ⟦<OverNumbers<ConstraintKind<U>> as NodeRule>⟧.held s | SetOf s ↦ ⟦<SetOf as NodeRule>⟧.held s | TwoSets s ↦ ⟦<TwoSets as NodeRule>⟧.held s | Card s ↦ ⟦<Card as NodeRule>⟧.held s | Member s ↦ ⟦<Member as NodeRule>⟧.held s ] };
+    ghost held = { elim [ Constant _ ↦ [] | Operation s ↦ ⟦<OverNumbers<OperationKind> as NodeRule>⟧.held s | Constraint s ↦ ⟦<OverNumbers<ConstraintKind<U>> as NodeRule>⟧.held s | SetOf s ↦ ⟦<SetOf as NodeRule>⟧.held s | ArgExtreme s ↦ ⟦<ArgExtreme as NodeRule>⟧.held s | TwoSets s ↦ ⟦<TwoSets as NodeRule>⟧.held s | Card s ↦ ⟦<Card as NodeRule>⟧.held s | Member s ↦ ⟦<Member as NodeRule>⟧.held s ] };
 
     ghost use Rattle.cbl_base.specs.Sets.{set_of};
     ghost use Rattle.cbl_base.specs.NumberRule.{one_kind_of_numbers};
@@ -39,10 +41,11 @@ impl<U: UserConstraint> NodeRule for KindOf<U> {
     ghost use Rattle.cbl_operations.specs.SetForms.{keys_where, one_kind_of_keys, one_kind_of_two_sets};
     ghost use Rattle.cbl_operations.specs.Operations.Card.{one_kind_of_card};
     ghost use Rattle.cbl_operations.specs.Operations.Member.{one_kind_of_member};
+    ghost use Rattle.node_order.specs.Extremes.{extreme_keys};
     ghost use Rattle.node_set.specs.Combining.{combined};
     ghost use Rattle.node_kinds.specs.ConstantRule.{one_kind_of_constant};
 
-    ghost one_kind = { elim [ Constant s ↦ one_kind_of_constant s.value | Operation s ↦ one_kind_of_numbers (⟦<OperationKind as NumberNode>⟧.number_rule s.node) | Constraint s ↦ one_kind_of_numbers (⟦<ConstraintKind<U> as NumberNode>⟧.number_rule s.node) | SetOf s ↦ one_kind_of_keys s.keys (λ xs. set_of (keys_where is_true s.keys xs)) | TwoSets s ↦ one_kind_of_two_sets (combined s.combining) | Card _ ↦ one_kind_of_card | Member _ ↦ one_kind_of_member ] };
+    ghost one_kind = { elim [ Constant s ↦ one_kind_of_constant s.value | Operation s ↦ one_kind_of_numbers (⟦<OperationKind as NumberNode>⟧.number_rule s.node) | Constraint s ↦ one_kind_of_numbers (⟦<ConstraintKind<U> as NumberNode>⟧.number_rule s.node) | SetOf s ↦ one_kind_of_keys s.keys (λ xs. set_of (keys_where is_true s.keys xs)) | ArgExtreme s ↦ one_kind_of_keys s.least.keys (extreme_keys s.extreme s.least.keys) | TwoSets s ↦ one_kind_of_two_sets (combined s.combining) | Card _ ↦ one_kind_of_card | Member _ ↦ one_kind_of_member ] };
 
     fn reset(&mut self, inputs: &[Input]) -> Result<(), NoMemory> {
         match self {
@@ -50,6 +53,7 @@ impl<U: UserConstraint> NodeRule for KindOf<U> {
             KindOf::Operation(node) => node.reset(inputs),
             KindOf::Constraint(node) => node.reset(inputs),
             KindOf::SetOf(node) => node.reset(inputs),
+            KindOf::ArgExtreme(node) => node.reset(inputs),
             KindOf::TwoSets(node) => node.reset(inputs),
             KindOf::Card(node) => node.reset(inputs),
             KindOf::Member(node) => node.reset(inputs),
@@ -62,6 +66,7 @@ impl<U: UserConstraint> NodeRule for KindOf<U> {
             KindOf::Operation(node) => node.apply(changes),
             KindOf::Constraint(node) => node.apply(changes),
             KindOf::SetOf(node) => node.apply(changes),
+            KindOf::ArgExtreme(node) => node.apply(changes),
             KindOf::TwoSets(node) => node.apply(changes),
             KindOf::Card(node) => node.apply(changes),
             KindOf::Member(node) => node.apply(changes),
@@ -74,6 +79,7 @@ impl<U: UserConstraint> NodeRule for KindOf<U> {
             KindOf::Operation(node) => node.probe(changes),
             KindOf::Constraint(node) => node.probe(changes),
             KindOf::SetOf(node) => node.probe(changes),
+            KindOf::ArgExtreme(node) => node.probe(changes),
             KindOf::TwoSets(node) => node.probe(changes),
             KindOf::Card(node) => node.probe(changes),
             KindOf::Member(node) => node.probe(changes),
@@ -86,6 +92,7 @@ impl<U: UserConstraint> NodeRule for KindOf<U> {
             KindOf::Operation(node) => node.value(),
             KindOf::Constraint(node) => node.value(),
             KindOf::SetOf(node) => node.value(),
+            KindOf::ArgExtreme(node) => node.value(),
             KindOf::TwoSets(node) => node.value(),
             KindOf::Card(node) => node.value(),
             KindOf::Member(node) => node.value(),
@@ -98,6 +105,7 @@ impl<U: UserConstraint> NodeRule for KindOf<U> {
             KindOf::Operation(node) => node.place_violation(place),
             KindOf::Constraint(node) => node.place_violation(place),
             KindOf::SetOf(node) => node.place_violation(place),
+            KindOf::ArgExtreme(node) => node.place_violation(place),
             KindOf::TwoSets(node) => node.place_violation(place),
             KindOf::Card(node) => node.place_violation(place),
             KindOf::Member(node) => node.place_violation(place),

@@ -7,14 +7,16 @@ ghost use Rattle.cbl_violations.specs.Violations.MultiKnapsack.{multi_knapsack};
 ghost use Rattle.cbl_violations.specs.Violations.Repeat.{repeat};
 ghost use Rattle.cbl_violations.specs.Violations.Sequence.{sequence};
 ghost use Rattle.cbl_violations.specs.Violations.WeightedTotal.{weighted_total};
+ghost use Rattle.cbl_operations.specs.Operations.ArgMax.{arg_max};
+ghost use Rattle.cbl_operations.specs.Operations.ArgMin.{arg_min};
 ghost use Rattle.cbl_operations.specs.Operations.SetOf.{set_of_true};
-ghost use Rattle.cbl_operations.specs.RuleOf.{rule_of};
+ghost use Rattle.cbl_operations.specs.RuleOf.{rule_of, is_constraint};
 ghost use Rattle.diff_global.specs.CardinalityRules.{rule_of_cardinality};
 ghost use Rattle.node_num.specs.BinaryRules.{rule_of_binary};
 ghost use Rattle.node_num.specs.JunctionRules.{rule_of_junction};
 ghost use Rattle.node_num.specs.UnaryRules.{rule_of_unary};
 ghost use Rattle.node_kinds.specs.ConstantRule.{rule_of_constant};
-ghost use Rattle.node_kinds.specs.OpNodes.{has_node, is_user, users_of};
+ghost use Rattle.node_kinds.specs.OpNodes.{has_sets, is_user, users_of};
 
 use crate::constant::Constant;
 use crate::constraint_kind::ConstraintKind;
@@ -29,7 +31,7 @@ use diff_load_seq::{Knapsack, MultiKnapsack, Sequence};
 use node_base::{NumberNode, OverNumbers};
 use node_count::{Count, Element, Element2};
 use node_num::{Binary, BinaryOperation, Junction, JunctionKind, Sum, Unary, UnaryOperation};
-use node_order::Least;
+use node_order::{ArgExtreme, Greatest, Least};
 use node_set::{Card, Member, SetOf, TwoSets};
 use std::alloc::Global;
 use user_constraint::{UserConstraint, UserNode};
@@ -59,11 +61,10 @@ impl<U: UserConstraint> KindOf<U> {
         KindOf::constraint(alloc, ConstraintKind::OfOne(OfOne::repeat()))
     }
 
-    /// The node of an operation or a constraint that has one. A user's constraint is the one that is
-    /// handed in, which is there exactly where the operation is one.
+    /// The node of an operation or a constraint. A user's constraint is the one that is handed in, which is
+    /// there exactly where the operation is one.
     pub fn of(alloc: Global, op: &Op, user: Option<U>) -> Result<KindOf<U>, NoMemory>
-        requires node { has_node op.now ≡ true }
-        requires user { is_user op.now ≡ is_some user }
+        requires { is_user op.now ≡ is_some user }
         ensures { IfOk result (λ kind. ⟦<KindOf<U> as NodeRule>⟧.rule kind ≡ rule_of (users_of (option_map U.user_rule user)) op.now) }
     {
         match user {
@@ -75,13 +76,27 @@ impl<U: UserConstraint> KindOf<U> {
         }
     }
 
-    /// The node of an operation or a constraint that has one and isn't a user's.
+    /// The node of an operation or a constraint that isn't a user's.
     fn of_named(alloc: Global, op: &Op) -> Result<KindOf<U>, NoMemory>
-        requires node { has_node op.now ≡ true }
-        requires no_user { is_user op.now ≡ false }
+        requires { is_user op.now ≡ false }
         ensures { IfOk result (λ kind. ⟦<KindOf<U> as NodeRule>⟧.rule kind ≡ rule_of (users_of None) op.now) }
     {
-        Ok(match op {
+        if is_constraint(op) {
+            KindOf::of_constraint(alloc, op)
+        } else if has_sets(op) {
+            KindOf::of_sets(alloc, op)
+        } else {
+            Ok(KindOf::of_numbers(alloc, op))
+        }
+    }
+
+    /// The node of an operation on numbers whose value is a number.
+    fn of_numbers(alloc: Global, op: &Op) -> KindOf<U>
+        requires no_constraint { is_constraint op.now ≡ false }
+        requires no_sets { has_sets op.now ≡ false }
+        ensures { ⟦<KindOf<U> as NodeRule>⟧.rule result ≡ rule_of (users_of None) op.now }
+    {
+        match op {
             Op::Add => KindOf::binary(alloc, BinaryOperation::Add),
             Op::Sub => KindOf::binary(alloc, BinaryOperation::Sub),
             Op::Mul => KindOf::binary(alloc, BinaryOperation::Mul),
@@ -97,6 +112,7 @@ impl<U: UserConstraint> KindOf<U> {
             Op::And => KindOf::junction(alloc, JunctionKind::And),
             Op::Or => KindOf::junction(alloc, JunctionKind::Or),
             Op::Least => KindOf::operation(alloc, OperationKind::Least(Least::new(alloc))),
+            Op::Greatest => KindOf::operation(alloc, OperationKind::Greatest(Greatest::new(alloc))),
             Op::Sum => KindOf::operation(alloc, OperationKind::Sum(Sum::new(alloc))),
             Op::Count => KindOf::operation(alloc, OperationKind::Count(Count::new(alloc))),
             Op::Element { low, len } => KindOf::operation(
@@ -112,33 +128,50 @@ impl<U: UserConstraint> KindOf<U> {
                 alloc,
                 OperationKind::Element2(Element2::new(alloc, *low1, *len1, *low2, *len2)),
             ),
+            _ => unreachable!(),
+        }
+    }
+
+    /// The node of an operation that takes or gives a set.
+    fn of_sets(alloc: Global, op: &Op) -> Result<KindOf<U>, NoMemory>
+        requires { has_sets op.now ≡ true }
+        ensures { IfOk result (λ kind. ⟦<KindOf<U> as NodeRule>⟧.rule kind ≡ rule_of (users_of None) op.now) }
+    {
+        Ok(match op {
             Op::SetOf { keys } => KindOf::set_of(alloc, keys)?,
+            Op::ArgMin { keys } => KindOf::arg_min(alloc, keys)?,
+            Op::ArgMax { keys } => KindOf::arg_max(alloc, keys)?,
             Op::Union => KindOf::TwoSets(TwoSets::union(alloc)),
             Op::Inter => KindOf::TwoSets(TwoSets::inter(alloc)),
             Op::Minus => KindOf::TwoSets(TwoSets::minus(alloc)),
             Op::Card => KindOf::Card(Card::new(alloc)),
             Op::Member => KindOf::Member(Member::new(alloc)),
-            Op::ViolEq => KindOf::constraint(alloc, ConstraintKind::Relation(Relation::eq())),
-            Op::ViolNe => KindOf::constraint(alloc, ConstraintKind::Relation(Relation::ne())),
-            Op::ViolLe => KindOf::constraint(alloc, ConstraintKind::Relation(Relation::le())),
-            Op::ViolLt => KindOf::constraint(alloc, ConstraintKind::Relation(Relation::lt())),
+            _ => unreachable!(),
+        })
+    }
+
+    /// The node of a constraint that isn't a user's.
+    fn of_constraint(alloc: Global, op: &Op) -> Result<KindOf<U>, NoMemory>
+        requires constraint { is_constraint op.now ≡ true }
+        requires no_user { is_user op.now ≡ false }
+        ensures { IfOk result (λ kind. ⟦<KindOf<U> as NodeRule>⟧.rule kind ≡ rule_of (users_of None) op.now) }
+    {
+        Ok(match op {
+            Op::ViolEq => KindOf::relation(alloc, Relation::eq()),
+            Op::ViolNe => KindOf::relation(alloc, Relation::ne()),
+            Op::ViolLe => KindOf::relation(alloc, Relation::le()),
+            Op::ViolLt => KindOf::relation(alloc, Relation::lt()),
             Op::AllDifferent => KindOf::constraint(
                 alloc,
                 ConstraintKind::AllDifferent(AllDifferent::new(alloc)),
             ),
             Op::AtMost { low, bounds } => KindOf::cardinality(alloc, Demand::AtMost, *low, bounds)?,
-            Op::AtLeast { low, bounds } => KindOf::cardinality(
-                alloc,
-                Demand::AtLeast,
-                *low,
-                bounds,
-            )?,
-            Op::Exactly { low, bounds } => KindOf::cardinality(
-                alloc,
-                Demand::Exactly,
-                *low,
-                bounds,
-            )?,
+            Op::AtLeast { low, bounds } => {
+                KindOf::cardinality(alloc, Demand::AtLeast, *low, bounds)?
+            }
+            Op::Exactly { low, bounds } => {
+                KindOf::cardinality(alloc, Demand::Exactly, *low, bounds)?
+            }
             Op::Knapsack { weights, capacity } => KindOf::knapsack(alloc, weights, *capacity)?,
             Op::MultiKnapsack {
                 sizes,
@@ -200,6 +233,29 @@ impl<U: UserConstraint> KindOf<U> {
         Ok(KindOf::SetOf(SetOf::new(alloc, keys)))
     }
 
+    /// The node of the set of those keys at which the least number stands.
+    fn arg_min(alloc: Global, keys: &Numbers) -> Result<KindOf<U>, NoMemory>
+        ensures { IfOk result (λ kind. ⟦<KindOf<U> as NodeRule>⟧.rule kind ≡ arg_min keys.now) }
+    {
+        let keys = Numbers::from_slice(alloc, keys.as_slice())?;
+        Ok(KindOf::ArgExtreme(ArgExtreme::least(alloc, keys)))
+    }
+
+    /// The node of the set of those keys at which the greatest number stands.
+    fn arg_max(alloc: Global, keys: &Numbers) -> Result<KindOf<U>, NoMemory>
+        ensures { IfOk result (λ kind. ⟦<KindOf<U> as NodeRule>⟧.rule kind ≡ arg_max keys.now) }
+    {
+        let keys = Numbers::from_slice(alloc, keys.as_slice())?;
+        Ok(KindOf::ArgExtreme(ArgExtreme::greatest(alloc, keys)))
+    }
+
+    /// The node of a relation as a constraint.
+    fn relation(alloc: Global, node: Relation) -> KindOf<U>
+        ensures { ⟦<KindOf<U> as NodeRule>⟧.rule result ≡ rule_of_numbers (⟦<Relation as NumberNode>⟧.number_rule node) }
+    {
+        KindOf::constraint(alloc, ConstraintKind::Relation(node))
+    }
+
     /// The node of `atmost`, `atleast` or `exactly`.
     fn cardinality(
         alloc: Global,
@@ -251,4 +307,45 @@ impl<U: UserConstraint> KindOf<U> {
         let node = Sequence::new(alloc, values, most, window);
         Ok(KindOf::constraint(alloc, ConstraintKind::Sequence(node)))
     }
+}
+
+/// Whether it is a constraint.
+fn is_constraint(op: &Op) -> bool
+    ensures { result ≡ is_constraint op.now }
+{
+    matches!(
+        op,
+        Op::ViolEq
+            | Op::ViolNe
+            | Op::ViolLe
+            | Op::ViolLt
+            | Op::AllDifferent
+            | Op::AtMost { .. }
+            | Op::AtLeast { .. }
+            | Op::Exactly { .. }
+            | Op::Knapsack { .. }
+            | Op::MultiKnapsack { .. }
+            | Op::Sequence { .. }
+            | Op::AllOf
+            | Op::AnyOf
+            | Op::NotHeld
+            | Op::User { .. }
+    )
+}
+
+/// Whether it takes or gives a set.
+fn has_sets(op: &Op) -> bool
+    ensures { result ≡ has_sets op.now }
+{
+    matches!(
+        op,
+        Op::ArgMin { .. }
+            | Op::ArgMax { .. }
+            | Op::SetOf { .. }
+            | Op::Union
+            | Op::Inter
+            | Op::Minus
+            | Op::Card
+            | Op::Member
+    )
 }

@@ -3,7 +3,7 @@ use cbl_base::{NoMemory, NodeFault, RunFault};
 use node_base::{NumberChange, NumberNode};
 use node_count::{Count, Element, Element2};
 use node_num::{Binary, Junction, Sum, Unary};
-use node_order::Least;
+use node_order::{Greatest, Least};
 
 /// The node of an operation that takes numbers and has a number as its value. Its rule is that of the
 /// node inside.
@@ -17,16 +17,17 @@ pub enum OperationKind {
     Element(Element),
     Element2(Element2),
     Least(Least),
+    Greatest(Greatest),
 }
 
 impl NumberNode for OperationKind {
-    ghost use Rattle.node_kinds.specs.declared.operation_kind.OperationKind.TheVariants.{Sum, Junction, Binary, Unary, Count, Element, Element2, Least};
+    ghost use Rattle.node_kinds.specs.declared.operation_kind.OperationKind.TheVariants.{Sum, Junction, Binary, Unary, Count, Element, Element2, Least, Greatest};
 
-    ghost number_rule = { elim [ Sum s ↦ ⟦<Sum as NumberNode>⟧.number_rule s | Junction s ↦ ⟦<Junction as NumberNode>⟧.number_rule s | Binary s ↦ ⟦<Binary as NumberNode>⟧.number_rule s | Unary s ↦ ⟦<Unary as NumberNode>⟧.number_rule s | Count s ↦ ⟦<Count as NumberNode>⟧.number_rule s | Element s ↦ ⟦<Element as NumberNode>⟧.number_rule s | Element2 s ↦ ⟦<Element2 as NumberNode>⟧.number_rule s | Least s ↦ ⟦<Least as NumberNode>⟧.number_rule s ] };
+    ghost number_rule = { elim [ Sum s ↦ ⟦<Sum as NumberNode>⟧.number_rule s | Junction s ↦ ⟦<Junction as NumberNode>⟧.number_rule s | Binary s ↦ ⟦<Binary as NumberNode>⟧.number_rule s | Unary s ↦ ⟦<Unary as NumberNode>⟧.number_rule s | Count s ↦ ⟦<Count as NumberNode>⟧.number_rule s | Element s ↦ ⟦<Element as NumberNode>⟧.number_rule s | Element2 s ↦ ⟦<Element2 as NumberNode>⟧.number_rule s | Least s ↦ ⟦<Least as NumberNode>⟧.number_rule s | Greatest s ↦ ⟦<Greatest as NumberNode>⟧.number_rule s ] };
 
-    ghost settled = { elim [ Sum s ↦ ⟦<Sum as NumberNode>⟧.settled s | Junction s ↦ ⟦<Junction as NumberNode>⟧.settled s | Binary s ↦ ⟦<Binary as NumberNode>⟧.settled s | Unary s ↦ ⟦<Unary as NumberNode>⟧.settled s | Count s ↦ ⟦<Count as NumberNode>⟧.settled s | Element s ↦ ⟦<Element as NumberNode>⟧.settled s | Element2 s ↦ ⟦<Element2 as NumberNode>⟧.settled s | Least s ↦ ⟦<Least as NumberNode>⟧.settled s ] };
+    ghost settled = { elim [ Sum s ↦ ⟦<Sum as NumberNode>⟧.settled s | Junction s ↦ ⟦<Junction as NumberNode>⟧.settled s | Binary s ↦ ⟦<Binary as NumberNode>⟧.settled s | Unary s ↦ ⟦<Unary as NumberNode>⟧.settled s | Count s ↦ ⟦<Count as NumberNode>⟧.settled s | Element s ↦ ⟦<Element as NumberNode>⟧.settled s | Element2 s ↦ ⟦<Element2 as NumberNode>⟧.settled s | Least s ↦ ⟦<Least as NumberNode>⟧.settled s | Greatest s ↦ ⟦<Greatest as NumberNode>⟧.settled s ] };
 
-    ghost held_numbers = { elim [ Sum s ↦ ⟦<Sum as NumberNode>⟧.held_numbers s | Junction s ↦ ⟦<Junction as NumberNode>⟧.held_numbers s | Binary s ↦ ⟦<Binary as NumberNode>⟧.held_numbers s | Unary s ↦ ⟦<Unary as NumberNode>⟧.held_numbers s | Count s ↦ ⟦<Count as NumberNode>⟧.held_numbers s | Element s ↦ ⟦<Element as NumberNode>⟧.held_numbers s | Element2 s ↦ ⟦<Element2 as NumberNode>⟧.held_numbers s | Least s ↦ ⟦<Least as NumberNode>⟧.held_numbers s ] };
+    ghost held_numbers = { elim [ Sum s ↦ ⟦<Sum as NumberNode>⟧.held_numbers s | Junction s ↦ ⟦<Junction as NumberNode>⟧.held_numbers s | Binary s ↦ ⟦<Binary as NumberNode>⟧.held_numbers s | Unary s ↦ ⟦<Unary as NumberNode>⟧.held_numbers s | Count s ↦ ⟦<Count as NumberNode>⟧.held_numbers s | Element s ↦ ⟦<Element as NumberNode>⟧.held_numbers s | Element2 s ↦ ⟦<Element2 as NumberNode>⟧.held_numbers s | Least s ↦ ⟦<Least as NumberNode>⟧.held_numbers s | Greatest s ↦ ⟦<Greatest as NumberNode>⟧.held_numbers s ] };
 
     fn reset(&mut self, numbers: &[i64]) -> Result<(), NoMemory> {
         match self {
@@ -38,6 +39,7 @@ impl NumberNode for OperationKind {
             OperationKind::Element(node) => node.reset(numbers),
             OperationKind::Element2(node) => node.reset(numbers),
             OperationKind::Least(node) => node.reset(numbers),
+            OperationKind::Greatest(node) => node.reset(numbers),
         }
     }
 
@@ -51,6 +53,7 @@ impl NumberNode for OperationKind {
             OperationKind::Element(node) => node.set(change),
             OperationKind::Element2(node) => node.set(change),
             OperationKind::Least(node) => node.set(change),
+            OperationKind::Greatest(node) => node.set(change),
         }
     }
 
@@ -64,6 +67,7 @@ impl NumberNode for OperationKind {
             OperationKind::Element(node) => node.probe(changes),
             OperationKind::Element2(node) => node.probe(changes),
             OperationKind::Least(node) => node.probe(changes),
+            OperationKind::Greatest(node) => node.probe(changes),
         }
     }
 
@@ -77,6 +81,7 @@ impl NumberNode for OperationKind {
             OperationKind::Element(node) => node.value(),
             OperationKind::Element2(node) => node.value(),
             OperationKind::Least(node) => node.value(),
+            OperationKind::Greatest(node) => node.value(),
         }
     }
 
@@ -90,6 +95,7 @@ impl NumberNode for OperationKind {
             OperationKind::Element(node) => node.place_violation(place),
             OperationKind::Element2(node) => node.place_violation(place),
             OperationKind::Least(node) => node.place_violation(place),
+            OperationKind::Greatest(node) => node.place_violation(place),
         }
     }
 }

@@ -1,7 +1,7 @@
-ghost use Rattle.std.specs.Prelude.{◌≡◌, true, false, None, IsTrue};
+ghost use Rattle.std.specs.Prelude.{◌≡◌, false, None, IsTrue};
 ghost use Rattle.cbl_base.specs.Inputs.{kinds_of};
 ghost use Rattle.cbl_operations.specs.RuleOf.{rule_of};
-ghost use Rattle.node_kinds.specs.OpNodes.{has_node, is_user, users_of};
+ghost use Rattle.node_kinds.specs.OpNodes.{is_user, users_of};
 
 use super::*;
 use cbl_base::{Input, IntSet, NodeRule};
@@ -11,7 +11,6 @@ use std::test::*;
 
 // The value of the operation's node over these inputs, as text.
 fn value_of(alloc: Global, op: &Op, inputs: &[Input]) -> Result<String, Fail>
-    requires node { has_node op.now ≡ true }
     requires no_user { is_user op.now ≡ false }
     requires takes { IsTrue ((rule_of (users_of None) op.now).takes (kinds_of inputs.now)) }
 {

@@ -1,2 +1,4 @@
+pub mod ExtremeLemmas
+pub mod IndexLemmas
 pub mod LowestLemmas
 pub mod MirrorLemmas

@@ -70,7 +70,7 @@ impl NumberNode for Greatest {
 }
 
 /// The mirrored number.
-fn mirrored(number: i64) -> i64
+pub(crate) fn mirrored(number: i64) -> i64
     ensures { result ≡ mirrored number }
 {
     -1 - number

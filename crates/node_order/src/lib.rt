@@ -6,11 +6,15 @@
 //! each of which stands at none but changed places.
 #![tactic(auto)]
 
+mod arg_extreme;
 mod counts;
 mod greatest;
 mod least;
+mod least_keys;
 mod lowest;
+mod place_index;
 
+pub use arg_extreme::ArgExtreme;
 pub use greatest::Greatest;
 pub use least::Least;
 pub use lowest::Lowest;
