@@ -14,3 +14,4 @@ pub mod DeltaLaws
 pub mod ClosedLaws
 pub mod MarkLaws
 pub mod UsableLaws
+pub mod ShareLaws

@@ -1,3 +1,4 @@
+pub mod Asked
 pub mod Closed
 pub mod Checks
 pub mod Definitions
@@ -10,5 +11,6 @@ pub mod Outcomes
 pub mod Settling
 pub mod Users
 pub mod VarOutcomes
+pub mod VariableViolations
 pub mod Wellformed
 pub mod Wholes

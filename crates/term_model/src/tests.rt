@@ -141,6 +141,23 @@ fn objective_at(
     }
 }
 
+// The violations of a variable in the system, where the model may be asked.
+fn violations_at(
+    alloc: Global,
+    model: &Model,
+    assignment: &[i64],
+    var: u32,
+) -> Option<Result<i64, AskStop>> {
+    let Ok(true) = is_usable(alloc, model) else {
+        return None;
+    };
+    let count = model.vars.len();
+    if assignment.len() != count || var as usize >= count || model.systems.is_empty() {
+        return None;
+    }
+    Some(variable_violations(alloc, model, assignment, &NoUsers, 0, var))
+}
+
 // The delta of the system or the objective, where the model may be asked.
 fn delta_at(
     alloc: Global,
@@ -148,7 +165,7 @@ fn delta_at(
     assignment: &[i64],
     whole: Whole,
     change: Move,
-) -> Option<Result<i64, DeltaStop>> {
+) -> Option<Result<i64, AskStop>> {
     let Ok(true) = is_usable(alloc, model) else {
         return None;
     };
@@ -206,6 +223,12 @@ fn the_least_of_a_disjunction(rt: HostRuntime) -> Result<(), Fail> {
     let either = node(alloc, Op::AnyOf, left, right, 6)?;
     constrain(&mut model, 0, either, 1)?;
     assert_eq!(rt; system_at(alloc, &model, &[2, 3]), Some(Ok(2)));
+    for (var, wanted) in [(0, 0), (1, 2)] {
+        assert_eq!(rt;
+            violations_at(alloc, &model, &[2, 3], var),
+            Some(Ok(wanted))
+        );
+    }
     Ok(())
 }
 
@@ -219,6 +242,7 @@ fn a_weight_multiplies(rt: HostRuntime) -> Result<(), Fail> {
     let both = node(alloc, Op::AllOf, left, right, 6)?;
     constrain(&mut model, 0, both, 3)?;
     assert_eq!(rt; system_at(alloc, &model, &[1, 2]), Some(Ok(15)));
+    assert_eq!(rt; violations_at(alloc, &model, &[1, 2], 1), Some(Ok(6)));
     let change = Move::Assign { var: 0, value: 4 };
     assert_eq!(rt;
         delta_at(alloc, &model, &[1, 2], SYSTEM, change),
@@ -260,7 +284,7 @@ fn an_element_out_of_range_after_a_move(rt: HostRuntime) -> Result<(), Fail> {
     add_part(&mut model, 0, cell)?;
     assert_eq!(rt; objective_at(alloc, &model, &[2]), Some(Ok(8)));
     let change = Move::Assign { var: 0, value: 3 };
-    let wanted = DeltaStop::Fault(at(4), RunFault::OutOfRange);
+    let wanted = AskStop::Fault(at(4), RunFault::OutOfRange);
     assert_eq!(rt;
         delta_at(alloc, &model, &[2], OBJECTIVE, change),
         Some(Err(wanted))
@@ -282,7 +306,7 @@ fn a_partial_sum_that_does_not_fit(rt: HostRuntime) -> Result<(), Fail> {
     let stop = ModelStop::Fault(at(19), RunFault::Overflow);
     assert_eq!(rt; system_at(alloc, &model, &[i64::MAX, 0]), Some(Err(stop)));
     let change = Move::Assign { var: 1, value: 3 };
-    let wanted = DeltaStop::Run(RunFault::DefinedVariable);
+    let wanted = AskStop::Run(RunFault::DefinedVariable);
     assert_eq!(rt;
         delta_at(alloc, &model, &[1, 0], SYSTEM, change),
         Some(Err(wanted))

@@ -25,7 +25,7 @@ pub enum Whole {
 }
 
 /// The member that was posted, where it is one of the system or objective.
-fn member_in(model: &Model, whole: Whole, posted: Posted) -> Option<&Member>
+pub(crate) fn member_in(model: &Model, whole: Whole, posted: Posted) -> Option<&Member>
     ensures { option_map (λ m. m.now) result ≡ member_in model.now whole posted }
 {
     let (totals, number, member) = match (whole, posted) {
