@@ -15,3 +15,4 @@ pub mod ClosedLaws
 pub mod MarkLaws
 pub mod UsableLaws
 pub mod ShareLaws
+pub mod AllPartsLaws

@@ -1,3 +1,4 @@
+pub mod AllParts
 pub mod Asked
 pub mod Closed
 pub mod Checks

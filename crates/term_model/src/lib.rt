@@ -9,6 +9,7 @@
 //! system's violations is a variable's.
 #![tactic(auto)]
 
+mod all_parts;
 mod asked;
 mod definitions;
 mod deltas;
