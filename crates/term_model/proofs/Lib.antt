@@ -16,3 +16,4 @@ pub mod MarkLaws
 pub mod UsableLaws
 pub mod ShareLaws
 pub mod AllPartsLaws
+pub mod SubtermLaws

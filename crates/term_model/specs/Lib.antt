@@ -6,6 +6,7 @@ pub mod Definitions
 pub mod Delta
 pub mod Dependence
 pub mod Depth
+pub mod DistinctSubterms
 pub mod Fresh
 pub mod Kinds
 pub mod Outcomes

@@ -37,7 +37,7 @@ pub use asked::AskStop;
 pub use cbl_operations::Op;
 pub use deltas::{Move, delta};
 pub use fresh_values::{ModelStop, Values, fresh, fresh_with};
-pub use laws::closed_model_law;
+pub use laws::{closed_model_law, distinct_subterms_law};
 pub use model::{Definition, Member, Model, Posted, Total, VarDecl, VarKind};
 pub use system_shares::variable_violations;
 pub use term::Term;

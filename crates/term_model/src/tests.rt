@@ -215,12 +215,14 @@ fn queens_of_four(rt: HostRuntime) -> Result<(), Fail> {
         );
     }
     // in one row each queen is in one constraint that doesn't hold, and likewise in one diagonal
-    for assignment in [[1, 1, 1, 1], [1, 2, 3, 4]] {
-        assert_eq!(rt;
-            violations_at(alloc, &model, &assignment, 0, 2),
-            Some(Ok(1))
-        );
-    }
+    assert_eq!(rt;
+        violations_at(alloc, &model, &[1, 1, 1, 1], 0, 2),
+        Some(Ok(1))
+    );
+    assert_eq!(rt;
+        violations_at(alloc, &model, &[1, 2, 3, 4], 0, 2),
+        Some(Ok(1))
+    );
     Ok(())
 }
 
@@ -234,12 +236,8 @@ fn the_least_of_a_disjunction(rt: HostRuntime) -> Result<(), Fail> {
     let either = node(alloc, Op::AnyOf, left, right, 6)?;
     constrain(&mut model, 0, either, 1)?;
     assert_eq!(rt; system_at(alloc, &model, &[2, 3]), Some(Ok(2)));
-    for (var, wanted) in [(0, 0), (1, 2)] {
-        assert_eq!(rt;
-            violations_at(alloc, &model, &[2, 3], 0, var),
-            Some(Ok(wanted))
-        );
-    }
+    assert_eq!(rt; violations_at(alloc, &model, &[2, 3], 0, 0), Some(Ok(0)));
+    assert_eq!(rt; violations_at(alloc, &model, &[2, 3], 0, 1), Some(Ok(2)));
     Ok(())
 }
 
@@ -349,7 +347,7 @@ fn a_sum_is_exact(rt: HostRuntime) -> Result<(), Fail> {
 #[test]
 fn definitions_used_before_their_declaration(rt: HostRuntime) -> Result<(), Fail> {
     let alloc = rt.alloc();
-    let count = 16_384;
+    let count = 262_144;
     let mut model = model_of(alloc, count)?;
     let mut assignment = Vec::new(alloc);
     for index in 0..count {
@@ -361,7 +359,7 @@ fn definitions_used_before_their_declaration(rt: HostRuntime) -> Result<(), Fail
         }
     }
     add_part(&mut model, 0, var(0))?;
-    assert_eq!(rt; objective_at(alloc, &model, &assignment), Some(Ok(16_383)));
+    assert_eq!(rt; objective_at(alloc, &model, &assignment), Some(Ok(262_143)));
     Ok(())
 }
 
@@ -383,12 +381,15 @@ fn violations_through_a_definition(rt: HostRuntime) -> Result<(), Fail> {
     post(&mut model, Posted::Define(0))?;
     let most = node(alloc, Op::ViolLe, var(1), Term::Const(20), 7)?;
     constrain(&mut model, 0, most, 1)?;
-    for (index, wanted) in [(0, 10), (1, 10), (2, 0)] {
-        assert_eq!(rt;
-            violations_at(alloc, &model, &[3, 0, 0], 0, index),
-            Some(Ok(wanted))
-        );
-    }
+    assert_eq!(rt;
+        violations_at(alloc, &model, &[3, 0, 0], 0, 0),
+        Some(Ok(10))
+    );
+    assert_eq!(rt;
+        violations_at(alloc, &model, &[3, 0, 0], 0, 1),
+        Some(Ok(10))
+    );
+    assert_eq!(rt; violations_at(alloc, &model, &[3, 0, 0], 0, 2), Some(Ok(0)));
     let change = Move::Assign { var: 0, value: 3 };
     assert_eq!(rt;
         delta_at(alloc, &model, &[1, 0, 0], SYSTEM, change),
