@@ -1,8 +1,8 @@
 -- The members of all systems, or of all objectives, go to their own one turn after another.
-use Rattle.std.proofs.Common.{◌≡◌, ℕ, zero, suc, ◌+◌, ◌<◌, ◌≤◌, Bool, true, false, List, [], ◌∷◌, ◌++◌, Option, Some, None, All, length, length-set, get_or, take, fold, map, replicate, refl, sym, ap, ◌∙◌, subst, arith, slice_get, set}
+use Rattle.std.proofs.Common.{◌≡◌, ℕ, zero, suc, ◌+◌, ◌<◌, ◌≤◌, Bool, true, false, List, [], ◌∷◌, ◌++◌, Option, Some, None, length, length-set, get_or, take, map, replicate, refl, sym, ap, ◌∙◌, subst, arith, slice_get, set}
 use native.Mathlib.Decide.{ℕ_discrete}
 use Rattle.std.specs.Prelude.{nat_eq, if◌then◌else◌, unwrap_or}
-use Rattle.std.specs.Option.{option_and_then, option_map}
+use Rattle.std.specs.Option.{option_and_then}
 use Rattle.std.specs.List.{enumerate_from}
 use Rattle.std.proofs.lemmas.List.{length-map, length-replicate, take_all, take_more}
 use Rattle.std.proofs.lemmas.List.Sums.{fold-append}
@@ -14,7 +14,6 @@ use Rattle.term_model.specs.Checks.{number_by, number_in}
 use Rattle.term_model.specs.Fresh.{totals_by, whole_by}
 use Rattle.term_model.specs.Outcomes.{Outcome}
 use Rattle.term_model.specs.Wholes.{Parts, add_posted, member_at, member_in, no_parts, parts_in, seen, with_part}
-use Rattle.term_model.specs.declared.model.Member.{Member}
 use Rattle.term_model.specs.declared.model.Model.{Model}
 use Rattle.term_model.specs.declared.model.Posted.{Posted}
 use Rattle.term_model.specs.declared.model.Posted.TheVariants.{Define, Constrain, Part}

@@ -1,8 +1,8 @@
 -- What the arguments of a node and the members of a system give to a variable's violations, as far as they
 -- have been gone through; and that this hangs on the variables in them alone.
 use Rattle.std.proofs.Common.{◌≡◌, ℕ, ℤ, pos, zero, suc, ◌+◌, ◌<◌, ◌≤◌, Bool, true, false, cond, List, [], ◌∷◌, ◌++◌, Option, Some, None, Vec, Global, Result, Ok, Err, IfOk, IsSome, length, length-append, get_or, take, fold, map, refl, sym, ap, ◌∙◌, subst, arith, slice_get, Contains}
-use Rattle.std.specs.Prelude.{◌||◌, filter, unwrap_or}
-use Rattle.std.specs.List.{enumerate_from, list_any, range_with_len}
+use Rattle.std.specs.Prelude.{filter, unwrap_or}
+use Rattle.std.specs.List.{enumerate_from, range_with_len}
 use Rattle.std.proofs.lemmas.List.{take_all, map-append, append-nil}
 use Rattle.std.proofs.lemmas.List.Elements.{filter-append, All-contains, Contains-append_left, Contains-append_right, Contains-push}
 use Rattle.std.proofs.lemmas.List.Sums.{fold_more}

@@ -2,10 +2,9 @@
 -- value now. A moved variable that has a definition is a fault, and comes first; then the fault of the system
 -- or objective after the move, then that of it now, then that of a difference that doesn't fit. A rule of
 -- this project.
-use Rattle.std.specs.Prelude.{◌≡◌, ℕ, ℤ, pos, ◌-ℤ◌, ◌<◌, ◌||◌, Bool, List, length, Result, Ok, Err, is_some, slice_index_or, slice_set, if◌then◌else◌}
+use Rattle.std.specs.Prelude.{ℕ, ℤ, pos, ◌-ℤ◌, ◌<◌, ◌||◌, Bool, List, length, Result, Ok, Err, is_some, slice_index_or, slice_set, if◌then◌else◌}
 use Rattle.cbl_base.specs.Arithmetic.{exact}
 use Rattle.cbl_base.specs.NumberRule.{NumberRule}
-use Rattle.cbl_base.specs.declared.faults.RunFault.{RunFault}
 use Rattle.cbl_base.specs.declared.faults.RunFault.TheVariants.{DefinedVariable}
 use Rattle.term_model.specs.Asked.{answer_of, stop_at}
 use Rattle.term_model.specs.Definitions.{definition_of}

@@ -2,7 +2,7 @@
 -- counted once with places left aside. Each posted constraint of a user has a number of its own, so no two of
 -- these are equal. The limit of term nodes counts the distinct subterms; the totals of systems and objectives
 -- are none. A rule of this project.
-use Rattle.std.specs.Prelude.{◌≡◌, ◌↔◌, ℕ, ℤ, List, [], ◌∷◌, ◌++◌, length, Option, Some, None, slice_get}
+use Rattle.std.specs.Prelude.{◌≡◌, ℕ, ℤ, List, [], ◌∷◌, ◌++◌, length, Option, Some, None, slice_get}
 use Rattle.std.specs.Option.{option_map}
 use Rattle.std.specs.List.{Contains}
 use Rattle.cbl_operations.specs.declared.op.Op.{Op}

@@ -4,7 +4,7 @@
 -- the violations of `!c` where `c` depends on the variable, else 0. In a system they are the total over the
 -- members, each times its weight. A rule of this project.
 use Rattle.std.specs.declared.alloc.Global.{Global}
-use Rattle.std.specs.Prelude.{◌≡◌, ℕ, ℤ, pos, Bool, true, false, List, [], ◌∷◌, ◌++◌, fold, map, filter, length, Option, Some, None, Vec, Result, Ok, Err, int_lt, if◌then◌else◌}
+use Rattle.std.specs.Prelude.{◌≡◌, ℕ, ℤ, pos, Bool, false, List, [], ◌∷◌, ◌++◌, fold, map, filter, length, Option, Some, None, Vec, Result, Ok, Err, int_lt, if◌then◌else◌}
 use Rattle.std.specs.List.{enumerate_from, list_any, range_with_len}
 use Rattle.cbl_base.specs.Inputs.{number_of}
 use Rattle.cbl_base.specs.NumberRule.{NumberRule}

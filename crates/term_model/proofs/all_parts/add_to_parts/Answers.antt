@@ -1,4 +1,4 @@
-use Rattle.std.proofs.Common.{rules, ◌≡◌, ◌≤◌, ◌<◌, None, get_or, length, refl, subst, arith}
+use Rattle.std.proofs.Common.{rules, ◌≡◌, ◌≤◌, ◌<◌, None, get_or, length, refl, subst}
 use Rattle.std.specs.Prelude.{slice_set}
 use Rattle.term_model.specs.AllParts.{all_seen}
 use Rattle.term_model.specs.Fresh.{whole_by}

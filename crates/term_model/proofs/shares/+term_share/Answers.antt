@@ -1,10 +1,10 @@
-use Rattle.std.proofs.Common.{rules, ◌<◌, ◌≡◌, ◌∙◌, Ok, Err, Result, Option, Some, ℕ, ◌≤◌, IsSome, IfOk, List, map, take, length, subst, sym, ap, refl}
+use Rattle.std.proofs.Common.{rules, ◌<◌, ◌≡◌, ◌∙◌, Ok, Err, Some, ℕ, ◌≤◌, IsSome, IfOk, List, map, take, length, subst, sym, ap, refl}
 use Rattle.std.proofs.lemmas.List.{take_all}
-use Rattle.cbl_base.specs.Inputs.{InputKind, kind_of, kinds_of}
+use Rattle.cbl_base.specs.Inputs.{kinds_of}
 use Rattle.term_model.specs.Dependence.{marked}
 use Rattle.term_model.specs.Depth.{depth_of}
 use Rattle.term_model.specs.Kinds.{kinds_in, kind_of_term, all_kinds, AreKinds}
-use Rattle.term_model.specs.Outcomes.{Outcome, listed, gathered, env_of}
+use Rattle.term_model.specs.Outcomes.{listed, gathered, env_of}
 use Rattle.term_model.specs.Users.{user_rules}
 use Rattle.term_model.specs.VariableViolations.{arguments_of, leaf_share, node_share, one_depends, seen_arguments, share_of}
 use Rattle.term_model.specs.declared.shares.Share.{Share}
