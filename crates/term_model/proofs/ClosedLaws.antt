@@ -1,17 +1,14 @@
 -- The outcomes of an acyclic model hang on the numbers of its free variables alone.
-use Rattle.std.proofs.Common.{◌≡◌, ℕ, ℤ, zero, suc, ◌<◌, List, Option, Some, None, Ok, length, refl, sym, ap, ◌∙◌, subst, arith, Contains, map, fold, [], ◌∷◌}
-use Rattle.std.specs.Prelude.{pos, slice_index_or}
-use Rattle.std.specs.List.{range_with_len, enumerate_from}
+use Rattle.std.proofs.Common.{◌≡◌, ℕ, ℤ, zero, suc, ◌<◌, List, Option, Some, None, Ok, length, refl, sym, ap, ◌∙◌, arith}
 use Rattle.cbl_base.specs.NumberRule.{NumberRule}
 use Rattle.cbl_base.specs.declared.input.Input.TheVariants.{Int}
 use Rattle.term_model.specs.Closed.{AgreeOnFree}
-use Rattle.term_model.specs.Definitions.{definition_of, term_of, named_by, vars_named, IsAcyclic}
+use Rattle.term_model.specs.Definitions.{definition_of, IsAcyclic}
 use Rattle.term_model.specs.Outcomes.{Outcome}
-use Rattle.term_model.specs.VarOutcomes.{outcome_by, outcome_of_term, outcome_of_var}
+use Rattle.term_model.specs.VarOutcomes.{outcome_by, outcome_of_var}
 use Rattle.term_model.specs.Wellformed.{IsWellFormed}
 use Rattle.term_model.specs.declared.definitions.Defined.{Defined}
 use Rattle.term_model.specs.declared.model.Model.{Model}
-use Rattle.term_model.specs.declared.term.Term.{Term}
 use Rattle.term_model.proofs.Rounds.{names_within}
 use Rattle.term_model.specs.Delta.{value_of}
 use Rattle.term_model.specs.Wholes.{place_of}

@@ -14,3 +14,6 @@ pub mod DeltaLaws
 pub mod ClosedLaws
 pub mod MarkLaws
 pub mod UsableLaws
+pub mod ShareLaws
+pub mod AllPartsLaws
+pub mod SubtermLaws

@@ -1,10 +1,10 @@
 -- Marks spread from a variable to those that name it: a round makes those right that rank one higher, and
 -- where it changes nothing all are right.
-use Rattle.std.proofs.Common.{◌≡◌, ℕ, zero, suc, ◌+◌, ◌<◌, ◌≤◌, Bool, true, false, ◌||◌, List, [], ◌∷◌, ◌++◌, Some, length, refl, sym, ap, ◌∙◌, subst, arith, Contains, slice_get}
+use Rattle.std.proofs.Common.{◌≡◌, ℕ, zero, suc, ◌+◌, ◌<◌, ◌≤◌, Bool, false, ◌||◌, List, [], ◌∷◌, ◌++◌, Some, length, refl, sym, ap, ◌∙◌, subst, arith, Contains, slice_get}
 use Rattle.std.specs.Prelude.{nat_eq, unwrap_or}
 use Rattle.std.specs.List.{list_any}
 use Rattle.std.proofs.lemmas.List.Elements.{Contains-append_left, Contains-append_right, Contains-push}
-use Rattle.term_model.specs.Definitions.{definition_of, named_by, DependsOn, IsAcyclic}
+use Rattle.term_model.specs.Definitions.{definition_of, named_by, IsAcyclic}
 use Rattle.term_model.specs.Dependence.{depends_through, var_depends, marked, mark_step, IsMarkedBelow, AreMarks}
 use Rattle.term_model.specs.Wellformed.{IsWellFormed}
 use Rattle.term_model.specs.declared.model.Model.{Model}

@@ -24,7 +24,7 @@ use Rattle.term_model.specs.declared.model.Total.{Total}
 use Rattle.term_model.specs.declared.model.VarDecl.{VarDecl}
 use Rattle.term_model.specs.declared.model.VarKind.{VarKind}
 use Rattle.term_model.specs.declared.model.VarKind.TheVariants.{Number}
-use Rattle.term_model.specs.declared.usable.Posting.{Posting}
+use Rattle.term_model.specs.declared.all_parts.Posting.{Posting}
 use Rattle.term_model.specs.declared.wholes.Side.{Side}
 use Rattle.term_model.proofs.VarLaws.{set_same, named_at, definition_found}
 
@@ -88,7 +88,7 @@ same_or_not a k x e = rw e
 eq_self : (k : ℕ) → nat_eq k k ≡ true
 eq_self k = grind (arith)
 
-not_eq : (a k : ℕ) → (k ≡ a → ⊥) → nat_eq a k ≡ false
+pub not_eq : (a k : ℕ) → (k ≡ a → ⊥) → nat_eq a k ≡ false
 not_eq a k ne = cases (nat_eq a k) refl
   where
     cases : (b : Bool) → nat_eq a k ≡ b → nat_eq a k ≡ false

@@ -14,7 +14,7 @@ use Rattle.term_model.specs.declared.model.Total.{Total}
 use Rattle.term_model.specs.declared.model.VarDecl.{VarDecl}
 use Rattle.term_model.specs.declared.model.VarKind.{VarKind}
 use Rattle.term_model.specs.declared.term.Term.{Term}
-use Rattle.term_model.specs.declared.usable.Posting.{Posting}
+use Rattle.term_model.specs.declared.all_parts.Posting.{Posting}
 use Rattle.term_model.specs.declared.wholes.Side.{Side}
 use Rattle.term_model.specs.declared.wholes.Side.TheVariants.{Systems, Objectives}
 

@@ -2,17 +2,16 @@
 -- value now. A moved variable that has a definition is a fault, and comes first; then the fault of the system
 -- or objective after the move, then that of it now, then that of a difference that doesn't fit. A rule of
 -- this project.
-use Rattle.std.specs.Prelude.{◌≡◌, ℕ, ℤ, pos, ◌-ℤ◌, ◌<◌, ◌||◌, Bool, List, length, Result, Ok, Err, is_some, slice_index_or, slice_set, if◌then◌else◌}
+use Rattle.std.specs.Prelude.{ℕ, ℤ, pos, ◌-ℤ◌, ◌<◌, ◌||◌, Bool, List, length, Result, Ok, Err, is_some, slice_index_or, slice_set, if◌then◌else◌}
 use Rattle.cbl_base.specs.Arithmetic.{exact}
 use Rattle.cbl_base.specs.NumberRule.{NumberRule}
-use Rattle.cbl_base.specs.declared.faults.RunFault.{RunFault}
 use Rattle.cbl_base.specs.declared.faults.RunFault.TheVariants.{DefinedVariable}
-use Rattle.cbl_base.specs.declared.place.Place.{Place}
+use Rattle.term_model.specs.Asked.{answer_of, stop_at}
 use Rattle.term_model.specs.Definitions.{definition_of}
 use Rattle.term_model.specs.VarOutcomes.{outcome_of_var}
 use Rattle.term_model.specs.Wholes.{outcome_of_whole, place_of}
-use Rattle.term_model.specs.declared.deltas.DeltaStop.{DeltaStop}
-use Rattle.term_model.specs.declared.deltas.DeltaStop.TheVariants.{Run, Fault, NoMemory}
+use Rattle.term_model.specs.declared.asked.AskStop.{AskStop}
+use Rattle.term_model.specs.declared.asked.AskStop.TheVariants.{Run}
 use Rattle.term_model.specs.declared.deltas.Move.{Move}
 use Rattle.term_model.specs.declared.deltas.Move.TheVariants.{Assign, Swap}
 use Rattle.term_model.specs.declared.model.Model.{Model}
@@ -34,27 +33,16 @@ abbrev pub moved : List ℤ → Move → List ℤ
 moved a (Assign var value) = slice_set a var value
 moved a (Swap left right) = slice_set (slice_set a left (slice_index_or a right (pos 0))) right (slice_index_or a left (pos 0))
 
-abbrev pub as_delta : Result ℤ RunFault → Result ℤ DeltaStop
-as_delta (Ok z) = Ok z
-as_delta (Err fault) = Err (Run fault)
-
-abbrev pub difference : Result ℤ Failure → Result ℤ Failure → Result ℤ DeltaStop
-difference (Ok after) (Ok now) = as_delta (exact (after -ℤ now))
-difference (Ok after) (Err f) = Err (Fault f.place f.fault)
-difference (Err f) now = Err (Fault f.place f.fault)
+abbrev pub difference : Result ℤ Failure → Result ℤ Failure → Result ℤ AskStop
+difference (Ok after) (Ok now) = answer_of (exact (after -ℤ now))
+difference (Ok after) (Err f) = Err (stop_at f)
+difference (Err f) now = Err (stop_at f)
 
 -- the value of a system or objective
 abbrev pub value_of : (ℕ → NumberRule) → Model → List ℤ → Whole → Result ℤ Failure
 value_of users M a whole = outcome_of_whole users M (outcome_of_var users M a) whole (place_of M whole)
 
 -- the delta of a move
-abbrev pub delta_of : (ℕ → NumberRule) → Model → List ℤ → Whole → Move → Result ℤ DeltaStop
+abbrev pub delta_of : (ℕ → NumberRule) → Model → List ℤ → Whole → Move → Result ℤ AskStop
 delta_of users M a whole move =
     if moves_defined M move then Err (Run DefinedVariable) else difference (value_of users M (moved a move) whole) (value_of users M a whole)
-
--- the answer is this delta or its fault, or there was no memory
-abbrev pub IsDelta : Result ℤ DeltaStop → Result ℤ DeltaStop → Type 0
-IsDelta delta (Ok z) = delta ≡ Ok z
-IsDelta delta (Err (Run fault)) = delta ≡ Err (Run fault)
-IsDelta delta (Err (Fault place fault)) = delta ≡ Err (Fault place fault)
-IsDelta delta (Err NoMemory) = Unit {0}

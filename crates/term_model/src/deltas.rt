@@ -1,12 +1,14 @@
 //! Values and deltas of systems and objectives, from scratch.
 ghost use Rattle.std.specs.Prelude.{◌≡◌, ◌<◌, IfOk, Ok, Err, Some, IsTrue, is_some, length, slice_get, slice_set, pos, slice_index_or};
+ghost use Rattle.term_model.specs.Asked.{IsAnswer, answer_of, stop_at};
 ghost use Rattle.term_model.specs.Definitions.{IsAcyclic, definition_of};
-ghost use Rattle.term_model.specs.Delta.{AreOwn, moves_defined, moved, difference, value_of, delta_of, IsDelta};
+ghost use Rattle.term_model.specs.Delta.{AreOwn, moves_defined, moved, difference, value_of, delta_of};
 ghost use Rattle.term_model.specs.Users.{user_rules};
 ghost use Rattle.term_model.specs.VarOutcomes.{outcome_of_var};
 ghost use Rattle.term_model.specs.Wellformed.{IsWellFormed, HasDefinedSets};
 ghost use Rattle.term_model.specs.Wholes.{outcome_of_whole, place_of, IsOf};
 
+use crate::asked::AskStop;
 use crate::definitions::{definitions_of, dependencies_of};
 use crate::evaluation::Setting;
 use crate::model::Model;
@@ -22,25 +24,6 @@ use std::alloc::Global;
 pub enum Move {
     Assign { var: u32, value: i64 },
     Swap { left: u32, right: u32 },
-}
-
-/// Why there is no delta: a fault of the call itself, a fault with its place in the model, or no memory.
-#[derive(Clone, Copy, PartialEq, Eq, Debug)]
-pub enum DeltaStop {
-    Run(RunFault),
-    Fault(Place, RunFault),
-    NoMemory,
-}
-
-impl From<NoMemory> for DeltaStop {
-    ghost use Rattle.std.specs.Prelude.{◌≡◌};
-    ghost use Rattle.term_model.specs.declared.deltas.DeltaStop.TheVariants.{NoMemory as WithoutMemory};
-
-    ghost from_gives = { λ _ stop. stop ≡ WithoutMemory };
-
-    fn from(_error: NoMemory) -> DeltaStop {
-        DeltaStop::NoMemory
-    }
 }
 
 /// What a system or an objective comes to, which was declared at this place.
@@ -138,20 +121,20 @@ fn moved(
 }
 
 /// The difference of two values, or why there is none.
-fn difference(after: Result<i64, Failure>, now: Result<i64, Failure>) -> Result<i64, DeltaStop>
-    ensures { IsDelta (difference after now) result }
+fn difference(after: Result<i64, Failure>, now: Result<i64, Failure>) -> Result<i64, AskStop>
+    ensures { IsAnswer (difference after now) result }
 {
     let after = match after {
         Ok(after) => after,
-        Err(failure) => return Err(DeltaStop::Fault(failure.place, failure.fault)),
+        Err(failure) => return Err(AskStop::Fault(failure.place, failure.fault)),
     };
     let now = match now {
         Ok(now) => now,
-        Err(failure) => return Err(DeltaStop::Fault(failure.place, failure.fault)),
+        Err(failure) => return Err(AskStop::Fault(failure.place, failure.fault)),
     };
     match sub(after, now) {
         Ok(delta) => Ok(delta),
-        Err(fault) => Err(DeltaStop::Run(fault)),
+        Err(fault) => Err(AskStop::Run(fault)),
     }
 }
 
@@ -168,17 +151,17 @@ pub fn delta<U: UserValues>(
     users: &U,
     whole: Whole,
     change: Move,
-) -> Result<i64, DeltaStop>
+) -> Result<i64, AskStop>
     requires well_formed { IsWellFormed model.now }
     requires sets { HasDefinedSets model.now }
     requires acyclic { IsAcyclic model.now }
     requires assigned { length assignment.now ≡ length model.now.vars.items }
     requires whole { IsOf model.now whole }
     requires own { AreOwn model.now change }
-    ensures { IsDelta (delta_of (user_rules (U.viol_of users.now) (U.viol_at users.now)) model.now assignment.now whole change) result }
+    ensures { IsAnswer (delta_of (user_rules (U.viol_of users.now) (U.viol_at users.now)) model.now assignment.now whole change) result }
 {
     if moves_defined(alloc, model, change)? {
-        return Err(DeltaStop::Run(RunFault::DefinedVariable));
+        return Err(AskStop::Run(RunFault::DefinedVariable));
     }
     let place = place_of(model, whole);
     let numbers = moved(alloc, model, assignment, change)?;

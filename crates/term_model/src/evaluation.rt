@@ -81,7 +81,11 @@ pub(crate) fn copied_outcome(alloc: Global, cell: &Option<Outcome>) -> Result<Ou
 }
 
 /// The outcome of a variable, where it is known.
-fn outcome_at(alloc: Global, cells: &[Option<Outcome>], index: u32) -> Result<Outcome, NoMemory>
+pub(crate) fn outcome_at(
+    alloc: Global,
+    cells: &[Option<Outcome>],
+    index: u32,
+) -> Result<Outcome, NoMemory>
     ensures { IfOk result (λ o. o ≡ env_of cells.now index) }
 {
     match cells.get(index as usize) {
@@ -91,7 +95,7 @@ fn outcome_at(alloc: Global, cells: &[Option<Outcome>], index: u32) -> Result<Ou
 }
 
 /// What an operation of these inputs comes to.
-fn operate<U: UserValues>(
+pub(crate) fn operate<U: UserValues>(
     alloc: Global,
     users: &U,
     turn: usize,

@@ -9,13 +9,14 @@ ghost use Rattle.term_model.specs.Wellformed.{IsWellFormed, HasDefinedSets};
 ghost use Rattle.term_model.specs.Wholes.{listed_numbers};
 ghost use Rattle.term_model.specs.declared.wholes.Side.TheVariants.{Systems, Objectives};
 
+use crate::all_parts::totals_in;
 use crate::definitions::{definitions_of, dependencies_of};
 use crate::evaluation::{Gathered, Setting, copied_outcome, earlier, gather};
 use crate::model::Model;
 use crate::outcome::{Failure, Outcome};
 use crate::settling::{Tables, outcomes_of};
 use crate::users::{NoUsers, UserValues};
-use crate::wholes::{Side, totals_in};
+use crate::wholes::Side;
 use cbl_base::{Input, NoMemory, Place, RunFault};
 use std::alloc::Global;
 

@@ -5,9 +5,12 @@
 //! definitions (the kind, depth and variables of a term, a well formed and an acyclic model, the outcome of
 //! a variable, of a system and of an objective, and which of several failures is the least numbered), and
 //! that `fresh` and `fresh_with` give exactly the values that these say, or the fault of the least numbered
-//! failing subterm with its place.
+//! failing subterm with its place, `delta` what a move changes, and `variable_violations` how much of a
+//! system's violations is a variable's.
 #![tactic(auto)]
 
+mod all_parts;
+mod asked;
 mod definitions;
 mod deltas;
 mod dependence;
@@ -19,7 +22,10 @@ mod model;
 mod operation;
 mod order;
 mod outcome;
+mod places;
 mod settling;
+mod shares;
+mod system_shares;
 mod term;
 #[cfg(test)]
 mod tests;
@@ -27,11 +33,13 @@ mod usable;
 mod users;
 mod wholes;
 
+pub use asked::AskStop;
 pub use cbl_operations::Op;
-pub use deltas::{DeltaStop, Move, delta};
+pub use deltas::{Move, delta};
 pub use fresh_values::{ModelStop, Values, fresh, fresh_with};
-pub use laws::closed_model_law;
+pub use laws::{closed_model_law, distinct_subterms_law};
 pub use model::{Definition, Member, Model, Posted, Total, VarDecl, VarKind};
+pub use system_shares::variable_violations;
 pub use term::Term;
 pub use usable::is_usable;
 pub use users::UserValues;

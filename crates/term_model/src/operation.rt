@@ -15,7 +15,7 @@ use cbl_violations as violations;
 use std::alloc::Global;
 
 /// The numbers of the inputs, 0 for a set.
-fn numbers_of(alloc: Global, inputs: &[Input]) -> Result<Vec<i64>, NoMemory>
+pub(crate) fn numbers_of(alloc: Global, inputs: &[Input]) -> Result<Vec<i64>, NoMemory>
     ensures { IfOk result (λ v. v.items ≡ numbers_of inputs.now) }
 {
     Ok(inputs.iter().map(number_of).collect(alloc)?)

@@ -141,6 +141,27 @@ fn objective_at(
     }
 }
 
+// The violations of a variable in a system, where the model may be asked.
+fn violations_at(
+    alloc: Global,
+    model: &Model,
+    assignment: &[i64],
+    system: u32,
+    var: u32,
+) -> Option<Result<i64, AskStop>> {
+    let Ok(true) = is_usable(alloc, model) else {
+        return None;
+    };
+    let count = model.vars.len();
+    if assignment.len() != count || var as usize >= count {
+        return None;
+    }
+    if system as usize >= model.systems.len() {
+        return None;
+    }
+    Some(variable_violations(alloc, model, assignment, &NoUsers, system, var))
+}
+
 // The delta of the system or the objective, where the model may be asked.
 fn delta_at(
     alloc: Global,
@@ -148,7 +169,7 @@ fn delta_at(
     assignment: &[i64],
     whole: Whole,
     change: Move,
-) -> Option<Result<i64, DeltaStop>> {
+) -> Option<Result<i64, AskStop>> {
     let Ok(true) = is_usable(alloc, model) else {
         return None;
     };
@@ -193,6 +214,15 @@ fn queens_of_four(rt: HostRuntime) -> Result<(), Fail> {
             Some(Ok(wanted))
         );
     }
+    // in one row each queen is in one constraint that doesn't hold, and likewise in one diagonal
+    assert_eq!(rt;
+        violations_at(alloc, &model, &[1, 1, 1, 1], 0, 2),
+        Some(Ok(1))
+    );
+    assert_eq!(rt;
+        violations_at(alloc, &model, &[1, 2, 3, 4], 0, 2),
+        Some(Ok(1))
+    );
     Ok(())
 }
 
@@ -206,6 +236,8 @@ fn the_least_of_a_disjunction(rt: HostRuntime) -> Result<(), Fail> {
     let either = node(alloc, Op::AnyOf, left, right, 6)?;
     constrain(&mut model, 0, either, 1)?;
     assert_eq!(rt; system_at(alloc, &model, &[2, 3]), Some(Ok(2)));
+    assert_eq!(rt; violations_at(alloc, &model, &[2, 3], 0, 0), Some(Ok(0)));
+    assert_eq!(rt; violations_at(alloc, &model, &[2, 3], 0, 1), Some(Ok(2)));
     Ok(())
 }
 
@@ -219,6 +251,7 @@ fn a_weight_multiplies(rt: HostRuntime) -> Result<(), Fail> {
     let both = node(alloc, Op::AllOf, left, right, 6)?;
     constrain(&mut model, 0, both, 3)?;
     assert_eq!(rt; system_at(alloc, &model, &[1, 2]), Some(Ok(15)));
+    assert_eq!(rt; violations_at(alloc, &model, &[1, 2], 0, 1), Some(Ok(6)));
     let change = Move::Assign { var: 0, value: 4 };
     assert_eq!(rt;
         delta_at(alloc, &model, &[1, 2], SYSTEM, change),
@@ -260,7 +293,7 @@ fn an_element_out_of_range_after_a_move(rt: HostRuntime) -> Result<(), Fail> {
     add_part(&mut model, 0, cell)?;
     assert_eq!(rt; objective_at(alloc, &model, &[2]), Some(Ok(8)));
     let change = Move::Assign { var: 0, value: 3 };
-    let wanted = DeltaStop::Fault(at(4), RunFault::OutOfRange);
+    let wanted = AskStop::Fault(at(4), RunFault::OutOfRange);
     assert_eq!(rt;
         delta_at(alloc, &model, &[2], OBJECTIVE, change),
         Some(Err(wanted))
@@ -282,7 +315,7 @@ fn a_partial_sum_that_does_not_fit(rt: HostRuntime) -> Result<(), Fail> {
     let stop = ModelStop::Fault(at(19), RunFault::Overflow);
     assert_eq!(rt; system_at(alloc, &model, &[i64::MAX, 0]), Some(Err(stop)));
     let change = Move::Assign { var: 1, value: 3 };
-    let wanted = DeltaStop::Run(RunFault::DefinedVariable);
+    let wanted = AskStop::Run(RunFault::DefinedVariable);
     assert_eq!(rt;
         delta_at(alloc, &model, &[1, 0], SYSTEM, change),
         Some(Err(wanted))
@@ -314,7 +347,7 @@ fn a_sum_is_exact(rt: HostRuntime) -> Result<(), Fail> {
 #[test]
 fn definitions_used_before_their_declaration(rt: HostRuntime) -> Result<(), Fail> {
     let alloc = rt.alloc();
-    let count = 1000;
+    let count = 262_144;
     let mut model = model_of(alloc, count)?;
     let mut assignment = Vec::new(alloc);
     for index in 0..count {
@@ -326,7 +359,76 @@ fn definitions_used_before_their_declaration(rt: HostRuntime) -> Result<(), Fail
         }
     }
     add_part(&mut model, 0, var(0))?;
-    assert_eq!(rt; objective_at(alloc, &model, &assignment), Some(Ok(999)));
+    assert_eq!(rt; objective_at(alloc, &model, &assignment), Some(Ok(262_143)));
+    Ok(())
+}
+
+// `y <- c[x]` over 10, 20, 30 and `y <= 20`: the variable that the index names is in it, too
+#[test]
+fn violations_through_a_definition(rt: HostRuntime) -> Result<(), Fail> {
+    let alloc = rt.alloc();
+    let mut model = model_of(alloc, 3)?;
+    let mut args = Vec::new(alloc);
+    for term in [var(0), Term::Const(10), Term::Const(20), Term::Const(30)] {
+        args.push(term)?;
+    }
+    let cell = Term::Node {
+        op: Op::Element { low: 1, len: 3 },
+        args,
+        place: at(39),
+    };
+    define(&mut model, 1, cell)?;
+    post(&mut model, Posted::Define(0))?;
+    let most = node(alloc, Op::ViolLe, var(1), Term::Const(20), 7)?;
+    constrain(&mut model, 0, most, 1)?;
+    assert_eq!(rt;
+        violations_at(alloc, &model, &[3, 0, 0], 0, 0),
+        Some(Ok(10))
+    );
+    assert_eq!(rt;
+        violations_at(alloc, &model, &[3, 0, 0], 0, 1),
+        Some(Ok(10))
+    );
+    assert_eq!(rt; violations_at(alloc, &model, &[3, 0, 0], 0, 2), Some(Ok(0)));
+    let change = Move::Assign { var: 0, value: 3 };
+    assert_eq!(rt;
+        delta_at(alloc, &model, &[1, 0, 0], SYSTEM, change),
+        Some(Ok(10))
+    );
+    let wanted = AskStop::Fault(at(39), RunFault::OutOfRange);
+    assert_eq!(rt;
+        violations_at(alloc, &model, &[4, 0, 0], 0, 0),
+        Some(Err(wanted))
+    );
+    Ok(())
+}
+
+// `x + x == 0` in one system, and `x <= 1` in another
+#[test]
+fn a_fault_of_another_system(rt: HostRuntime) -> Result<(), Fail> {
+    let alloc = rt.alloc();
+    let mut model = model_of(alloc, 1)?;
+    let sum = node(alloc, Op::Add, var(0), var(0), 3)?;
+    let zero = node(alloc, Op::ViolEq, sum, Term::Const(0), 5)?;
+    constrain(&mut model, 0, zero, 1)?;
+    let mut members = Vec::new(alloc);
+    let term = node(alloc, Op::ViolLe, var(0), Term::Const(1), 9)?;
+    members.push(Member { term, weight: 1 })?;
+    model.systems.push(Total {
+        place: at(92),
+        members,
+    })?;
+    let (system, member) = (1, 0);
+    post(&mut model, Posted::Constrain { system, member })?;
+    let k = i64::MAX;
+    let stop = AskStop::Fault(at(3), RunFault::Overflow);
+    assert_eq!(rt; violations_at(alloc, &model, &[k], 0, 0), Some(Err(stop)));
+    assert_eq!(rt; violations_at(alloc, &model, &[k], 1, 0), Some(Ok(k - 1)));
+    let change = Move::Assign { var: 0, value: 1 };
+    assert_eq!(rt;
+        delta_at(alloc, &model, &[k], Whole::System(1), change),
+        Some(Ok(1 - k))
+    );
     Ok(())
 }
 

@@ -15,6 +15,7 @@ ghost use Rattle.term_model.specs.declared.model.Posted.{Posted};
 ghost use Rattle.term_model.specs.declared.model.Total.{Total};
 ghost use Rattle.term_model.specs.declared.wholes.Side.TheVariants.{Systems, Objectives};
 
+use crate::all_parts::{Posting, posting_of};
 use crate::definitions::{Defined, definitions_of, dependencies_of};
 use crate::kinds::{kind_at, kind_within};
 use crate::model::{Definition, Member, Model, Posted, Total, VarDecl, VarKind};
@@ -127,30 +128,6 @@ fn are_defined_in_order(model: &Model) -> bool
         }
     }
     next == model.defs.len()
-}
-
-/// A member of a system or an objective that was posted.
-#[derive(Clone, Copy)]
-struct Posting {
-    total: u32,
-    member: u32,
-}
-
-/// What was posted, where it is a member on this side.
-fn posting_of(side: Side, posted: Posted) -> Option<Posting>
-    ensures { (k : ℕ) → number_by side k posted ≡ number_in k result }
-{
-    match (side, posted) {
-        (Side::Systems, Posted::Constrain { system, member }) => Some(Posting {
-            total: system,
-            member,
-        }),
-        (Side::Objectives, Posted::Part { objective, member }) => Some(Posting {
-            total: objective,
-            member,
-        }),
-        _ => None,
-    }
 }
 
 /// Counts a member, unless it isn't the next one of its system or objective.

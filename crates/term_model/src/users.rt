@@ -1,5 +1,5 @@
 //! The constraints of users, as what gives their values.
-ghost use Rattle.std.specs.Prelude.{◌≡◌, ℕ, ℤ, List, IfOk};
+ghost use Rattle.std.specs.Prelude.{◌≡◌, ◌<◌, ℕ, ℤ, List, IfOk, length};
 
 use cbl_base::NoMemory;
 
@@ -14,6 +14,11 @@ pub trait UserValues {
     /// The violations of the constraint over these numbers.
     fn value(&self, user: u32, list: &[i64]) -> Result<i64, NoMemory>
         ensures { IfOk result (λ v. v ≡ viol_of self.now user list.now) };
+
+    /// The violation of the constraint at a place of these numbers, counted from 0.
+    fn violation_at(&self, user: u32, list: &[i64], place: usize) -> Result<i64, NoMemory>
+        requires { place < length list.now }
+        ensures { IfOk result (λ v. v ≡ viol_at self.now user list.now place) };
 }
 
 /// No constraints of users.
@@ -28,6 +33,10 @@ impl UserValues for NoUsers {
     ghost viol_at = { λ _ _ _ _. pos 0 };
 
     fn value(&self, _user: u32, _list: &[i64]) -> Result<i64, NoMemory> {
+        Ok(0)
+    }
+
+    fn violation_at(&self, _user: u32, _list: &[i64], _place: usize) -> Result<i64, NoMemory> {
         Ok(0)
     }
 }

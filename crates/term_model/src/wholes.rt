@@ -2,12 +2,12 @@
 ghost use Rattle.std.specs.Prelude.{◌≡◌, ◌+◌, IfOk, Ok, IsSome, Option, Some, length};
 ghost use Rattle.std.specs.List.{enumerate_from};
 ghost use Rattle.std.specs.Option.{option_map};
-ghost use Rattle.term_model.specs.Fresh.{totals_by, whole_by, gather_total, add_total, totals_in};
+ghost use Rattle.term_model.specs.Fresh.{totals_by};
 ghost use Rattle.term_model.specs.Kinds.{kinds_in};
 ghost use Rattle.term_model.specs.Outcomes.{HasKinds, env_of};
 ghost use Rattle.term_model.specs.Users.{user_rules};
 ghost use Rattle.term_model.specs.Wellformed.{IsWellFormed};
-ghost use Rattle.term_model.specs.Wholes.{member_in, gather_number, add_posted, parts_in, seen, outcome_of_whole, total_of, HasWeights, listed_numbers};
+ghost use Rattle.term_model.specs.Wholes.{member_in, gather_number, add_posted, no_parts, parts_in, seen, outcome_of_whole, total_of, HasWeights, listed_numbers};
 
 use crate::evaluation::{Setting, earlier, term_outcome};
 use crate::model::{Member, Model, Posted, Total};
@@ -16,6 +16,7 @@ use crate::outcome::{Failure, Outcome};
 use crate::users::UserValues;
 use cbl_base::{NoMemory, Place};
 use cbl_violations::weighted_total_value;
+use std::alloc::Global;
 
 /// A system or an objective, by its number from 0.
 #[derive(Clone, Copy, PartialEq, Eq, Debug)]
@@ -25,7 +26,7 @@ pub enum Whole {
 }
 
 /// The member that was posted, where it is one of the system or objective.
-fn member_in(model: &Model, whole: Whole, posted: Posted) -> Option<&Member>
+pub(crate) fn member_in(model: &Model, whole: Whole, posted: Posted) -> Option<&Member>
     ensures { option_map (λ m. m.now) result ≡ member_in model.now whole posted }
 {
     let (totals, number, member) = match (whole, posted) {
@@ -42,9 +43,20 @@ fn member_in(model: &Model, whole: Whole, posted: Posted) -> Option<&Member>
 
 /// The numbers of members and their weights, so far; or the least numbered failure in place of the numbers.
 #[derive(Drop)]
-struct PartsHeld {
-    numbers: Result<Vec<i64>, Failure>,
-    weights: Vec<i64>,
+pub(crate) struct PartsHeld {
+    pub(crate) numbers: Result<Vec<i64>, Failure>,
+    pub(crate) weights: Vec<i64>,
+}
+
+/// No parts.
+pub(crate) fn no_parts(alloc: Global) -> PartsHeld
+    ensures parts { seen result ≡ no_parts }
+    ensures weighed { HasWeights (listed_numbers result.numbers) result.weights.items }
+{
+    PartsHeld {
+        numbers: Ok(Vec::new(alloc)),
+        weights: Vec::new(alloc),
+    }
 }
 
 /// The numbers so far and one more, or the least numbered failure.
@@ -67,7 +79,7 @@ fn gather_number(
 
 /// The parts so far and what was posted at a turn, where it is one of them.
 #[tactic(auto, using(crate::proofs::PartLaws::member_kinded, crate::proofs::PartLaws::part_added, crate::proofs::PartLaws::part_weighed))]
-fn add_posted<U: UserValues>(
+pub(crate) fn add_posted<U: UserValues>(
     setting: &Setting<'_, U>,
     whole: Whole,
     parts: PartsHeld,
@@ -98,29 +110,30 @@ fn parts_of<U: UserValues>(setting: &Setting<'_, U>, whole: Whole) -> Result<Par
     ensures parts { IfOk result (λ p. seen p ≡ parts_in (user_rules (U.viol_of setting.now.users.now) (U.viol_at setting.now.users.now)) (env_of setting.now.cells.now) setting.now.model.now whole (enumerate_from 0 setting.now.model.now.posted.items)) }
     ensures weighed { IfOk result (λ p. HasWeights (listed_numbers p.numbers) p.weights.items) }
 {
-    let mut parts = PartsHeld {
-        numbers: Ok(Vec::new(setting.alloc)),
-        weights: Vec::new(setting.alloc),
-    };
+    let mut parts = no_parts(setting.alloc);
     for turn in 0..setting.model.posted.len() {
         parts = add_posted(setting, whole, parts, turn, setting.model.posted[turn])?;
     }
     Ok(parts)
 }
 
-/// The total of numbers, each times its weight, that was declared at this place.
-fn total_of(
+/// The total of the parts of a system or an objective that was declared at this place.
+pub(crate) fn total_of(
+    alloc: Global,
     turn: usize,
     place: Place,
-    numbers: Vec<i64>,
-    weights: &[i64],
+    parts: &PartsHeld,
 ) -> Result<Result<i64, Failure>, NoMemory>
-    requires { length numbers.items ≡ length weights.now }
-    ensures { IfOk result (λ o. o ≡ total_of turn place (Ok numbers.items) weights.now) }
+    requires { HasWeights (listed_numbers parts.now.numbers) parts.now.weights.items }
+    ensures { IfOk result (λ o. o ≡ total_of turn place (listed_numbers parts.now.numbers) parts.now.weights.items) }
 {
-    let mut inputs = numbers;
-    inputs.extend_from_slice(weights)?;
-    match weighted_total_value(&inputs, weights.len()) {
+    let numbers = match &parts.numbers {
+        Ok(numbers) => numbers,
+        Err(failure) => return Ok(Err(*failure)),
+    };
+    let mut inputs = Vec::from_slice(alloc, numbers)?;
+    inputs.extend_from_slice(&parts.weights)?;
+    match weighted_total_value(&inputs, parts.weights.len()) {
         Ok(total) => Ok(Ok(total)),
         Err(fault) => Ok(Err(Failure { turn, place, fault })),
     }
@@ -137,11 +150,8 @@ pub(crate) fn whole_outcome<U: UserValues>(
     requires kinds { HasKinds (kinds_in setting.now.model.now.vars.items) (env_of setting.now.cells.now) }
     ensures { IfOk result (λ o. o ≡ outcome_of_whole (user_rules (U.viol_of setting.now.users.now) (U.viol_at setting.now.users.now)) setting.now.model.now (env_of setting.now.cells.now) whole place) }
 {
-    let PartsHeld { numbers, weights } = parts_of(setting, whole)?;
-    match numbers {
-        Ok(numbers) => total_of(setting.model.posted.len(), place, numbers, &weights),
-        Err(failure) => Ok(Err(failure)),
-    }
+    let parts = parts_of(setting, whole)?;
+    total_of(setting.alloc, setting.model.posted.len(), place, &parts)
 }
 
 /// All systems, or all objectives.
@@ -159,66 +169,4 @@ pub(crate) fn totals_by(model: &Model, side: Side) -> &[Total]
         Side::Systems => &model.systems,
         Side::Objectives => &model.objectives,
     }
-}
-
-/// The system or the objective with a number.
-fn whole_by(side: Side, number: usize) -> Whole
-    ensures { result ≡ whole_by side number }
-{
-    match side {
-        Side::Systems => Whole::System(number),
-        Side::Objectives => Whole::Objective(number),
-    }
-}
-
-/// The totals so far and one more, or the least numbered failure.
-fn gather_total(
-    so_far: Result<Vec<i64>, Failure>,
-    total: Result<i64, Failure>,
-) -> Result<Result<Vec<i64>, Failure>, NoMemory>
-    ensures { IfOk result (λ r. listed_numbers r ≡ gather_total (listed_numbers so_far) total) }
-{
-    match (so_far, total) {
-        (Ok(mut totals), Ok(total)) => {
-            totals.push(total)?;
-            Ok(Ok(totals))
-        }
-        (Ok(_), Err(failure)) => Ok(Err(failure)),
-        (Err(failure), Ok(_)) => Ok(Err(failure)),
-        (Err(first), Err(second)) => Ok(Err(earlier(first, second))),
-    }
-}
-
-/// The totals so far and that of one more system or objective, or the least numbered failure.
-fn add_total<U: UserValues>(
-    setting: &Setting<'_, U>,
-    side: Side,
-    so_far: Result<Vec<i64>, Failure>,
-    number: usize,
-    total: &Total,
-) -> Result<Result<Vec<i64>, Failure>, NoMemory>
-    requires well_formed { IsWellFormed setting.now.model.now }
-    requires kinds { HasKinds (kinds_in setting.now.model.now.vars.items) (env_of setting.now.cells.now) }
-    ensures { IfOk result (λ r. listed_numbers r ≡ add_total (user_rules (U.viol_of setting.now.users.now) (U.viol_at setting.now.users.now)) setting.now.model.now (env_of setting.now.cells.now) side (listed_numbers so_far) (number, total.now)) }
-{
-    let total = whole_outcome(setting, whole_by(side, number), total.place)?;
-    gather_total(so_far, total)
-}
-
-/// The values of all systems or of all objectives, or the least numbered failure.
-#[tactic(auto, using(crate::proofs::TotalSteps::totals_all))]
-pub(crate) fn totals_in<U: UserValues>(
-    setting: &Setting<'_, U>,
-    side: Side,
-) -> Result<Result<Vec<i64>, Failure>, NoMemory>
-    requires well_formed { IsWellFormed setting.now.model.now }
-    requires kinds { HasKinds (kinds_in setting.now.model.now.vars.items) (env_of setting.now.cells.now) }
-    ensures { IfOk result (λ r. listed_numbers r ≡ totals_in (user_rules (U.viol_of setting.now.users.now) (U.viol_at setting.now.users.now)) setting.now.model.now (env_of setting.now.cells.now) side (enumerate_from 0 (totals_by setting.now.model.now side))) }
-{
-    let totals = totals_by(setting.model, side);
-    let mut so_far = Ok(Vec::new(setting.alloc));
-    for number in 0..totals.len() {
-        so_far = add_total(setting, side, so_far, number, &totals[number])?;
-    }
-    Ok(so_far)
 }

@@ -5,7 +5,7 @@ use Rattle.term_model.specs.Users.{user_rules}
 use Rattle.term_model.specs.Wholes.{listed_numbers}
 use Rattle.term_model.specs.declared.model.Total.{Total}
 use Rattle.term_model.proofs.TotalSteps.{totals_more}
-use Rattle.term_model.proofs.wholes.totals_in.Goals as goal
+use Rattle.term_model.proofs.all_parts.totals_in.Goals as goal
 
 pub loop-number-preserved : goal.loop-number-preserved
 loop-number-preserved g c =

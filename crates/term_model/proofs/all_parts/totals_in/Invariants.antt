@@ -4,7 +4,7 @@ use Rattle.term_model.specs.Fresh.{totals_in, totals_by}
 use Rattle.term_model.specs.Outcomes.{env_of}
 use Rattle.term_model.specs.Users.{user_rules}
 use Rattle.term_model.specs.Wholes.{listed_numbers}
-use Rattle.term_model.proofs.wholes.totals_in.Given as goal
+use Rattle.term_model.proofs.all_parts.totals_in.Given as goal
 
 abbrev pub invariant-loop-number : goal.invariant-loop-number
 invariant-loop-number g l =
