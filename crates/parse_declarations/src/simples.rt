@@ -42,7 +42,10 @@ fn at_extreme(tokens: &[Token]) -> bool
     at_one_of(tokens, &EXTREMES)
 }
 
-/// A simple statement, without the `;` behind it.
+/// The simple statement that stands next, as a part of this depth, and the tokens behind it. A `;` isn't read.
+///
+/// The first token that no derivation allows is refused, or the first that begins a part deeper than 200;
+/// memory may run out at any time.
 pub fn parse_simple(
     alloc: Global,
     tokens: &[Token],

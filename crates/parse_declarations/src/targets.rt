@@ -49,7 +49,7 @@ fn skip_step(tokens: &[Token]) -> Option<(Step, Place, &[Token])>
 }
 
 /// Behind a target: a sign and a value, `:=:` and another target, `++` or `--`, or nothing.
-/// A name alone with `=` behind it isn't read here.
+/// A name alone with `=` behind it isn't read here, since something new may be set to it.
 pub fn finish_write(
     alloc: Global,
     target: Expression,
