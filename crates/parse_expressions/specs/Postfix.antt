@@ -6,7 +6,7 @@ use Rattle.comet_syntax.specs.declared.token.Token.{Token}
 use Rattle.comet_syntax.specs.declared.token.Word.TheVariants as words
 use Rattle.comet_syntax.specs.declared.tree.expressions.Extreme.{Extreme}
 use Rattle.comet_syntax.specs.declared.tree.expressions.Name.{Name}
-use Rattle.comet_syntax.specs.Grammar.Symbols.{Symbol, same, literal, extreme, first_name, suffixes}
+use Rattle.comet_syntax.specs.Grammar.Symbols.{same, literal, extreme, first_name, suffixes}
 use Rattle.comet_syntax.specs.Grammar.Expressions.{postfix_left_brace}
 use Rattle.comet_syntax.specs.Grammar.Statements.{first_name_name}
 use Rattle.comet_syntax.specs.Written.Shown.{form, Grows, name, mark, word}

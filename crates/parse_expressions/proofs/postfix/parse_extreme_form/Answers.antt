@@ -1,6 +1,4 @@
-use Rattle.std.proofs.Common.{refl, arith, sym, ap, ◌∙◌, length}
-use Rattle.std.specs.Prelude.{true, false, [], ◌∷◌}
-use Rattle.comet_syntax.specs.Derivation.{here, there}
+use Rattle.std.proofs.Common.{refl, arith, sym, ap, ◌∙◌}
 use Rattle.comet_syntax.specs.Grammar.Symbols.{extreme}
 use Rattle.comet_syntax.specs.Written.Expressions.{two_in_pair, two_apart}
 use Rattle.parse_base.proofs.Machine.{solid_of}

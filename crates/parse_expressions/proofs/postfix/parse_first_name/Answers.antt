@@ -1,6 +1,5 @@
-use Rattle.std.proofs.Common.{refl, arith, sym, ap, ◌∙◌, length}
-use Rattle.std.specs.Prelude.{true, false, [], ◌∷◌}
-use Rattle.comet_syntax.specs.Derivation.{here, there}
+use Rattle.std.proofs.Common.{refl, arith, sym}
+use Rattle.comet_syntax.specs.Derivation.{here}
 use Rattle.comet_syntax.specs.Grammar.Symbols.{first_name}
 use Rattle.comet_syntax.specs.Grammar.Statements.{first_name_name}
 use Rattle.parse_base.proofs.Machine.{solid_of}

@@ -1,6 +1,4 @@
-use Rattle.std.proofs.Common.{refl, arith, sym, ap, ◌∙◌, length}
-use Rattle.std.specs.Prelude.{true, false, [], ◌∷◌}
-use Rattle.comet_syntax.specs.Derivation.{here, there}
+use Rattle.std.proofs.Common.{refl, arith, sym, ap, ◌∙◌}
 use Rattle.comet_syntax.specs.Grammar.Symbols.{literal}
 use Rattle.parse_base.proofs.Machine.{solid_of}
 use Rattle.parse_base.proofs.Steps.{passes, reads_same, fails_same, fails_at_same}

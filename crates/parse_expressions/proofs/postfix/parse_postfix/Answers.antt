@@ -1,5 +1,5 @@
-use Rattle.std.proofs.Common.{refl, arith, sym, ap, ◌∙◌, length}
-use Rattle.std.specs.Prelude.{true, false, [], ◌∷◌, ◌++◌}
+use Rattle.std.proofs.Common.{refl, arith, sym, ap}
+use Rattle.std.specs.Prelude.{◌∷◌, ◌++◌}
 use Rattle.comet_syntax.specs.Derivation.{here, there}
 use Rattle.comet_syntax.specs.declared.token.Word.TheVariants as words
 use Rattle.comet_syntax.specs.Grammar.Kinds.{a_name, a_word}

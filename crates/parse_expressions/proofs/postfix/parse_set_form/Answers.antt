@@ -1,6 +1,5 @@
-use Rattle.std.proofs.Common.{refl, arith, sym, ap, ◌∙◌, length}
-use Rattle.std.specs.Prelude.{true, false, [], ◌∷◌}
-use Rattle.comet_syntax.specs.Derivation.{here, there}
+use Rattle.std.proofs.Common.{arith, ap, ◌∙◌}
+use Rattle.std.specs.Prelude.{true, false}
 use Rattle.parse_base.proofs.Steps.{passes, reads_same, reads_plain, reads_placed, fails_same, fails_plain, fails_placed, fails_at_same, fails_at_token}
 use Rattle.parse_expressions.proofs.Trees.{written_set}
 use Rattle.parse_expressions.proofs.Suffixes.{is_primary, suffix_reads}
