@@ -5,7 +5,10 @@
 #![tactic(auto)]
 
 mod declarations;
+mod simples;
+mod targets;
 mod types;
 
 pub use declarations::{begins_declaration, parse_declaration};
+pub use simples::{begins_simple, parse_simple};
 pub use types::{begins_class, parse_class, parse_template};

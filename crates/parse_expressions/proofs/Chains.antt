@@ -1,6 +1,6 @@
 -- Chains of operands, and what goes on behind an operand.
-use Rattle.std.specs.Prelude.{ℕ, Bool, true, false, List, [], ◌∷◌, ◌++◌, ◌+◌, ◌<◌, ◌≡◌, ◌≤◌, ◌==◌, length, map, refl, Option, None, Some, ◌⊎◌}
-use Rattle.std.proofs.Common.{sym, ◌∙◌, ap, subst, arith, inl, inr, length-append}
+use Rattle.std.specs.Prelude.{ℕ, true, false, List, [], ◌∷◌, ◌++◌, ◌<◌, ◌≡◌, ◌≤◌, ◌==◌, length, map, refl}
+use Rattle.std.proofs.Common.{sym, ◌∙◌, ap, subst, arith, inl, inr}
 use Rattle.std.proofs.lemmas.Bool.{eqb-true}
 use Rattle.std.proofs.lemmas.List.{length-map}
 use Rattle.cbl_base.specs.declared.place.Place.{Place}
@@ -13,18 +13,18 @@ use Rattle.comet_syntax.specs.declared.tree.expressions.Comparison.{Comparison}
 use Rattle.comet_syntax.specs.declared.tree.expressions.Comparison.TheVariants as comparisons
 use Rattle.comet_syntax.specs.declared.tree.expressions.Expression.{Expression}
 use Rattle.comet_syntax.specs.declared.tree.expressions.Link.{Link, roll-Link, fold-roll-Link}
-use Rattle.comet_syntax.specs.Grammar.Kinds.{Kind, kind_of, next_in}
-use Rattle.comet_syntax.specs.Grammar.Symbols.{Part, Symbol, token, same, deeper, operand, product_tail, total_tail, range_tail, comparison_tail, and_tail, or_tail, branches}
+use Rattle.comet_syntax.specs.Grammar.Kinds.{next_in}
+use Rattle.comet_syntax.specs.Grammar.Symbols.{Part, Symbol, same, operand, product_tail, total_tail, range_tail, comparison_tail, and_tail, or_tail}
 use Rattle.comet_syntax.specs.Grammar.Expressions.{or_tail_or_or, and_tail_and_and, total_tail_plus, total_tail_minus, product_tail_star, product_tail_slash, product_tail_percent, comparison_tail_equal_equal, comparison_tail_not_equal, comparison_tail_less, comparison_tail_less_equal, comparison_tail_greater, comparison_tail_greater_equal}
 use Rattle.comet_syntax.specs.Grammar.Alternatives.{alternatives}
 use Rattle.comet_syntax.specs.Grammar.First.{first}
 use Rattle.comet_syntax.specs.Derivation.{OneOf, here, there}
-use Rattle.comet_syntax.specs.Written.Shown.{Shown, form, Grows, each}
-use Rattle.comet_syntax.specs.Written.Expressions.{Head, Writing, operand_head, at_operand, at_product, at_total, at_range, at_comparison, at_conjunction, link, LinkText, chain, chain_by, from_operand, from_product, from_total, from_conjunction, from_disjunction, from_range, from_comparison, from_whole, closed, compared, word_of_comparison, written, written_link, argument_text, expression_text, suffix_text, generator_layer, generators_layer, link_layer, GeneratorText, GeneratorsText, written_argument, written_suffix, written_generator, written_generators}
+use Rattle.comet_syntax.specs.Written.Shown.{form, Grows, each}
+use Rattle.comet_syntax.specs.Written.Expressions.{Head, Writing, operand_head, at_operand, at_product, at_range, at_comparison, at_conjunction, link, LinkText, chain, chain_by, from_operand, from_product, from_total, from_conjunction, from_disjunction, from_range, from_comparison, closed, compared, word_of_comparison, written, written_link, argument_text, expression_text, suffix_text, generator_layer, generators_layer, link_layer, GeneratorText, GeneratorsText, written_argument, written_suffix, written_generator, written_generators}
 use Rattle.parse_base.specs.declared.stop.Stop.{Stop}
 use Rattle.parse_base.specs.Promise.{Sees, Reads, Reaches, Fails, Continues}
 use Rattle.parse_expressions.specs.Levels.{IsDisjunction, IsConjunction, IsComparison, IsRange, IsTotal, IsProduct, IsOperand, IsMultiplying, IsAdding, IsConjoining, IsDisjoining, Starts, chained, closed_texts, word_of_chain}
-use Rattle.parse_base.proofs.Steps.{reads_all, reads_on, reads_none, reads_placed, reads_picked, reads_same, fails_placed, fails_picked, fails_on, fails_within, more_reads, sees, at_level, reads_end}
+use Rattle.parse_base.proofs.Steps.{reads_all, reads_on, reads_none, reads_placed, reads_picked, fails_placed, fails_picked, fails_within, more_reads, sees, at_level}
 
 pub joined : {d : ℕ} {body' : List Symbol} {ts mid rest : List Token} {from to : Grows} {h h' : Head} (body : List Symbol) → Reads 200 body d ts mid (λ behind. operand_head h (from behind))
     → Continues 200 body' d mid rest from to → h' ≡ h → Reads 200 (body ++ body') d ts rest (λ behind. operand_head h' (to behind))

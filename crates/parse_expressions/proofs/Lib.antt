@@ -1,4 +1,5 @@
 pub mod Chains
+pub mod Extremes
 pub mod Pairs
 pub mod Suffixes
 pub mod Trees

@@ -1,21 +1,21 @@
 -- What stands behind `min(` and `max(`.
-use Rattle.std.specs.Prelude.{ℕ, Bool, true, false, List, [], ◌∷◌, ◌++◌, ◌+◌, ◌<◌, ◌≡◌, ◌≤◌, length, map, refl, Option, None, Some}
-use Rattle.std.proofs.Common.{sym, ◌∙◌, ap, subst, arith}
+use Rattle.std.specs.Prelude.{ℕ, true, false, List, [], ◌∷◌, ◌++◌, ◌+◌, ◌≡◌, ◌≤◌, refl}
+use Rattle.std.proofs.Common.{sym, ◌∙◌, ap}
 use Rattle.cbl_base.specs.declared.place.Place.{Place}
 use Rattle.comet_syntax.specs.declared.token.Token.{Token}
 use Rattle.comet_syntax.specs.declared.token.TokenKind.TheVariants as kinds
 use Rattle.comet_syntax.specs.declared.token.Word.TheVariants as words
 use Rattle.comet_syntax.specs.declared.tree.expressions.Name.{Name}
 use Rattle.comet_syntax.specs.declared.tree.expressions.Extreme.{Extreme}
-use Rattle.comet_syntax.specs.Grammar.Kinds.{Kind, kind_of, next_in, a_word, a_name}
-use Rattle.comet_syntax.specs.Grammar.Symbols.{Part, Symbol, token, same, deeper, default, suffixes, called, pair, pair_named, first_name, unnamed}
+use Rattle.comet_syntax.specs.Grammar.Kinds.{next_in, a_word, a_name}
+use Rattle.comet_syntax.specs.Grammar.Symbols.{same, deeper, default, suffixes, called, pair, pair_named, first_name}
 use Rattle.comet_syntax.specs.Grammar.Expressions.{pair_first_name, pair_unnamed}
 use Rattle.comet_syntax.specs.Grammar.Statements.{first_name_name}
 use Rattle.comet_syntax.specs.Grammar.First.{first_unnamed}
-use Rattle.comet_syntax.specs.Derivation.{OneOf, here, there}
+use Rattle.comet_syntax.specs.Derivation.{here, there}
 use Rattle.comet_syntax.specs.Written.Shown.{Shown, form, plain, placed, Grows}
 use Rattle.comet_syntax.specs.Written.Shown as shown_as
-use Rattle.comet_syntax.specs.Written.Expressions.{Head, Writing, by_name, by_opening, by_extreme, by_other, opening, pair_head, two_in_pair, two_apart, whole, extreme_aggregate, pair_generators, at_product}
+use Rattle.comet_syntax.specs.Written.Expressions.{Writing, by_name, by_extreme, by_other, pair_head, two_in_pair, two_apart, whole, extreme_aggregate, pair_generators, at_product}
 use Rattle.parse_base.specs.Promise.{Reads, Continues}
 use Rattle.parse_expressions.specs.Levels.{IsPair, IsSecond, IsNamedAggregate, IsUnnamed, second_form, primary_text}
 use Rattle.parse_base.proofs.Steps.{reads_all, reads_same, reads_deeper, reads_picked, reads_default, reads_end, at_level}

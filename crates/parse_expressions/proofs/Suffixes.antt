@@ -9,23 +9,22 @@ use Rattle.comet_syntax.specs.declared.token.Word.TheVariants as words
 use Rattle.comet_syntax.specs.declared.token.Word.{Word}
 use Rattle.comet_syntax.specs.declared.tree.expressions.Name.{Name}
 use Rattle.comet_syntax.specs.declared.tree.expressions.Suffix.{Suffix}
-use Rattle.comet_syntax.specs.declared.tree.expressions.Argument.{Argument}
 use Rattle.comet_syntax.specs.declared.tree.expressions.Generator.{Generator}
 use Rattle.comet_syntax.specs.declared.tree.expressions.Aggregate.{Aggregate}
 use Rattle.comet_syntax.specs.declared.tree.expressions.Aggregate.TheVariants as aggregates
-use Rattle.comet_syntax.specs.Grammar.Kinds.{Kind, kind, kind_of, kind_eq, next_in, a_word}
-use Rattle.comet_syntax.specs.Grammar.Symbols.{Part, Symbol, token, same, deeper, suffixes, arguments_tail, argument, arguments, listed, generators_tail, generator, unnamed, generators, operand, product_tail, word, expression, condition, default, called, total_tail, range_tail, comparison_tail, and_tail, or_tail, branches}
+use Rattle.comet_syntax.specs.Grammar.Kinds.{kind, kind_eq, next_in, a_word}
+use Rattle.comet_syntax.specs.Grammar.Symbols.{Part, Symbol, token, same, deeper, suffixes, arguments_tail, arguments, listed, unnamed, generators, operand, product_tail, word, expression, condition, default, called, total_tail, range_tail, comparison_tail, and_tail, or_tail, branches}
 use Rattle.comet_syntax.specs.Grammar.Expressions.{listed_argument, arguments_listed, unnamed_sum, unnamed_all, unnamed_and, unnamed_or, unnamed_set_of, unnamed_arg_min, unnamed_arg_max}
 use Rattle.comet_syntax.specs.Grammar.Alternatives.{alternatives}
 use Rattle.comet_syntax.specs.Grammar.First.{first}
 use Rattle.comet_syntax.specs.Derivation.{OneOf, here, there, part, push}
-use Rattle.comet_syntax.specs.Written.Shown.{Shown, form, plain, Grows, each}
-use Rattle.comet_syntax.specs.Written.Expressions.{Head, Opening, by_opening, opening, Writing, written, written_suffix, written_argument, written_generator, from_primary, from_operand, closed, name_alone, postfix_by, more_argument, listed_text, arguments_text, more_generator, GeneratorText, GeneratorsText, aggregate_text, generators_text, at_product, condition_text}
+use Rattle.comet_syntax.specs.Written.Shown.{form, plain, Grows, each}
+use Rattle.comet_syntax.specs.Written.Expressions.{Head, Opening, by_opening, opening, Writing, written_suffix, written_generator, from_primary, from_operand, closed, name_alone, postfix_by, more_argument, listed_text, arguments_text, more_generator, GeneratorsText, aggregate_text, generators_text, at_product, condition_text}
 use Rattle.parse_base.specs.declared.stop.Stop.{Stop}
 use Rattle.parse_base.specs.Promise.{Sees, Reads, Reaches, Fails, halts, no_memory, Continues, settles}
 use Rattle.parse_expressions.specs.Levels.{IsPrimary, IsOperand, primary_text, behind_first, IsPlain, word_of_aggregate, IsUnnamed, suffixed, closed_suffixes, IsAfter, after_text}
 use Rattle.parse_base.proofs.Machine.{alone}
-use Rattle.parse_base.proofs.Steps.{reads_all, reads_on, reads_none, reads_same, reads_deeper, reads_plain, reads_placed, reads_picked, fails_plain, fails_placed, fails_picked, fails_same, fails_at_same, fails_within, more_reads, reaches_level, sees, at_level}
+use Rattle.parse_base.proofs.Steps.{reads_all, reads_on, reads_none, reads_placed, reads_picked, fails_placed, fails_picked, sees, at_level}
 use Rattle.parse_expressions.proofs.Chains.{each_push, map_push, none_of, some_of, is_operand}
 
 pub is_primary : {e : Writing} (h : Head) (r : Grows) → e ≡ from_primary h r → IsPrimary e

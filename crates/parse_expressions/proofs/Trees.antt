@@ -1,12 +1,11 @@
 -- The equations of what trees are written as.
-use Rattle.std.specs.Prelude.{ℕ, ℤ, Bool, List, [], ◌∷◌, Option, None, Some, ◌≡◌, map, refl, ◌++◌, length, ◌<◌}
-use Rattle.std.proofs.Common.{sym, ◌∙◌, ap, arith}
+use Rattle.std.specs.Prelude.{ℕ, ℤ, Bool, List, None, Some, ◌≡◌, map}
+use Rattle.std.proofs.Common.{sym, ◌∙◌, ap}
 use Rattle.std.specs.declared.boxed.Box.{Box}
 use Rattle.std.specs.declared.alloc.Global.{Global}
 use Rattle.std.specs.declared.vec.Vec.{Vec}
 use Rattle.cbl_base.specs.declared.place.Place.{Place}
 use Rattle.comet_syntax.specs.declared.tree.expressions.Name.{Name}
-use Rattle.comet_syntax.specs.declared.tree.expressions.ChainOperator.{ChainOperator}
 use Rattle.comet_syntax.specs.declared.tree.expressions.Comparison.{Comparison}
 use Rattle.comet_syntax.specs.declared.tree.expressions.UnaryOperator.{UnaryOperator}
 use Rattle.comet_syntax.specs.declared.tree.expressions.Extreme.{Extreme}
@@ -16,14 +15,14 @@ use Rattle.comet_syntax.specs.declared.tree.expressions.Expression.{Expression}
 use Rattle.comet_syntax.specs.declared.tree.expressions.Suffix.{Suffix}
 use Rattle.comet_syntax.specs.declared.tree.expressions.Generator.{Generator, roll-Generator, fold-roll-Generator}
 use Rattle.comet_syntax.specs.declared.tree.expressions.Generators.{Generators, roll-Generators, fold-roll-Generators}
-use Rattle.comet_syntax.specs.declared.tree.expressions.Link.{Link, roll-Link, fold-roll-Link}
+use Rattle.comet_syntax.specs.declared.tree.expressions.Link.{Link}
 use Rattle.comet_syntax.specs.declared.tree.expressions.Argument.TheOpen as layers
 use Rattle.comet_syntax.specs.declared.tree.expressions.Argument.TheFolds.{fold-roll-Expression, fold-roll-Argument, fold-roll-Suffix}
 use Rattle.comet_syntax.specs.declared.tree.expressions.Expression.TheVariants as trees
 use Rattle.comet_syntax.specs.declared.tree.expressions.Argument.TheVariants as arguments_as
 use Rattle.comet_syntax.specs.declared.tree.expressions.Suffix.TheVariants as suffixes_as
 use Rattle.comet_syntax.specs.Written.Shown.{Grows}
-use Rattle.comet_syntax.specs.Written.Expressions.{Writing, GeneratorText, GeneratorsText, LinkText, argument_text, expression_text, suffix_text, generator_layer, generators_layer, link_layer, written, written_argument, written_suffix, written_generator, written_generators, written_link, conditional, chain, comparison, range_of, unary, aggregate, postfix_by, number, truth, name_alone, call_of, extreme_of, parentheses, list_of, set_of, option_value, link}
+use Rattle.comet_syntax.specs.Written.Expressions.{Writing, GeneratorText, GeneratorsText, LinkText, argument_text, expression_text, suffix_text, generator_layer, generators_layer, link_layer, written, written_argument, written_suffix, written_generator, written_generators, written_link, conditional, chain, comparison, range_of, unary, aggregate, postfix_by, number, truth, name_alone, call_of, extreme_of, parentheses, list_of, set_of}
 use Rattle.parse_expressions.specs.Levels.{method_text}
 
 pub written_conditional : (a : Box Expression Global) (b : Box Expression Global) (c : Box Expression Global) → written (trees.Conditional a b c) ≡ conditional (written a.value) (written b.value) (written c.value)

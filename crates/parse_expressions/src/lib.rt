@@ -7,8 +7,11 @@
 mod expressions;
 mod make;
 mod operators;
+mod postfix;
+mod primaries;
 
-pub use expressions::{
-    MOST_DEPTH, finish_expression, finish_name, parse_after, parse_arguments, parse_expression,
-    parse_unnamed,
+pub use expressions::{MOST_DEPTH, finish_expression, parse_expression};
+pub use postfix::{
+    begins_postfix, parse_extreme_form, parse_first_name, parse_literal_form, parse_postfix,
 };
+pub use primaries::{finish_name, parse_after, parse_arguments, parse_generators, parse_unnamed};

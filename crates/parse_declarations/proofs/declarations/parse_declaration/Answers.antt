@@ -1,5 +1,5 @@
 use Rattle.std.proofs.Common.{[], ◌∷◌, refl, sym}
-use Rattle.std.specs.Prelude.{false, Bool}
+use Rattle.std.specs.Prelude.{false}
 use Rattle.comet_syntax.specs.Derivation.{here, there}
 use Rattle.parse_base.proofs.Steps.{reads_end, reads_plain, reads_placed, reads_same, fails_plain, fails_placed, fails_same, fails_at_token, fails_at_same, reads_picked, fails_picked, fails_closed, passes, sees, at_level}
 use Rattle.parse_base.proofs.Machine.{solid_of}

@@ -1,4 +1,4 @@
-use Rattle.std.proofs.Common.{ap, ◌∙◌, map}
+use Rattle.std.proofs.Common.{ap, ◌∙◌}
 use Rattle.comet_syntax.specs.Written.Expressions.{written, written_generators, aggregate}
 use Rattle.parse_expressions.proofs.Trees.{written_aggregate}
 use Rattle.parse_expressions.proofs.make.make_aggregate.Goals as goal

@@ -1,4 +1,4 @@
-use Rattle.std.proofs.Common.{ap, ◌∙◌, map}
+use Rattle.std.proofs.Common.{ap, ◌∙◌}
 use Rattle.comet_syntax.specs.Written.Expressions.{written, conditional}
 use Rattle.parse_expressions.proofs.Trees.{written_conditional}
 use Rattle.parse_expressions.proofs.make.make_conditional.Goals as goal
