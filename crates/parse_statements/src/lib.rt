@@ -4,4 +4,8 @@
 //! as it is written, from the left with no way back, or stops where every derivation of the tokens stops.
 #![tactic(auto)]
 
+mod heads;
 mod make_statements;
+mod statements;
+
+pub use statements::{begins_statement, parse_block, parse_statement};
