@@ -1,0 +1,15 @@
+pub mod Alike
+pub mod Blocks
+pub mod Declarations
+pub mod Ends
+pub mod Expressions
+pub mod Good
+pub mod Levels
+pub mod Listings
+pub mod Programs
+pub mod Runs
+pub mod Senses
+pub mod Statements
+pub mod Trees
+pub mod Values
+pub mod Writings
