@@ -31,7 +31,7 @@ pub mod tree;
 mod variables;
 mod word;
 
-pub use lexer::lex;
+pub use lexer::{lex, place_behind};
 pub use limits::{MOST_BYTES, MOST_PARENTHESES};
 pub use program::{Act, Declaration, SmallProgram};
 pub use small::read_small;

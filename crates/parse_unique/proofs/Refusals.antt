@@ -62,6 +62,10 @@ facts_of limit ts before (u ∷ more) WideNumber r = absurd r
 facts_of limit ts before (u ∷ more) UnexpectedEnd r = absurd r
 facts_of limit ts before (u ∷ more) NotBuilt r = absurd r
 
+-- a refused list is cut in two
+pub cut_of : (limit : ℕ) (ts before rest : List Token) (cause : FormCause) → Refused limit ts before rest cause → ts ≡ before ++ rest
+cut_of limit ts before rest cause r = let f : Facts limit ts before rest cause = facts_of limit ts before rest cause r in f.cut
+
 -- of two ways to cut a list, the same, or one is cut further on
 pub record Further (before rest before' : List Token) : Type 0 where
   pub next : Token
