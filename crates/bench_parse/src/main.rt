@@ -96,8 +96,7 @@ fn main(rt: HostRuntime) -> ExitCode {
     let Some(measured) = measure(&rt, text.as_str()) else {
         return ExitCode::FAILURE;
     };
-    let _ = println!(
-        rt;
+    let _ = println!(rt;
         "{} bytes, {} tokens, {} parts: lexed in {} microseconds, parsed in {} microseconds",
         text.len(),
         measured.tokens,

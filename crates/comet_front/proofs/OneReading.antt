@@ -28,6 +28,7 @@ small_one p ds es acts bs a b =
     declarations_or : List Declaration → Option (List Declaration × List Act) → List Declaration
     declarations_or other None = other
     declarations_or other (Some x) = x.0
+
     acts_or : List Act → Option (List Declaration × List Act) → List Act
     acts_or other None = other
     acts_or other (Some x) = x.1

@@ -7,8 +7,8 @@ ghost use Rattle.comet_parse.specs.Refusals.{IsStop, IsRefusal};
 
 use crate::stop::ParseStop;
 use crate::top::parse_parts;
-use comet_syntax::tree::Program;
 use comet_syntax::Token;
+use comet_syntax::tree::Program;
 use parse_base::{Stop, refuse};
 use std::alloc::Global;
 

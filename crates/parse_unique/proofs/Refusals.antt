@@ -83,6 +83,7 @@ head_of x y xs ys e = (ap (λ l. first_or x l) e, ap rest_of e)
     first_or : Token → List Token → Token
     first_or z [] = z
     first_or z (v ∷ vs) = v
+
     rest_of : List Token → List Token
     rest_of [] = []
     rest_of (v ∷ vs) = vs
