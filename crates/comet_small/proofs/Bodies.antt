@@ -1,16 +1,14 @@
 -- What stands behind the solver, as the code reads it.
-use Rattle.std.specs.Prelude.{◌≡◌, ℕ, Bool, true, false, List, [], ◌∷◌, ◌++◌, Option, Some, None, option_map, refl}
-use Rattle.std.specs.Str.{bytes_eq}
-use Rattle.std.proofs.Common.{ap, sym, ◌∙◌, append_assoc, append-nil}
+use Rattle.std.specs.Prelude.{◌≡◌, ℕ, true, false, List, [], ◌∷◌, ◌++◌, Option, Some, None, option_map, refl}
+use Rattle.std.proofs.Common.{ap, append_assoc}
 use Rattle.comet_syntax.specs.declared.program.Declaration.{Declaration}
 use Rattle.comet_syntax.specs.declared.program.Act.{Act}
 use Rattle.parse_unique.specs.Bare as bares
 use Rattle.parse_unique.specs.Bare.{Bare}
 use Rattle.comet_small.specs.declared.variables.Variable.{Variable}
-use Rattle.comet_small.specs.Variables.{is_new}
 use Rattle.comet_small.specs.Shape.{Parts, declaration_in, variable_in, is_close}
 use Rattle.comet_small.specs.Statement.{each, part_acts}
-use Rattle.comet_small.specs.Small.{start_of, is_free, new_variable, declared_as, declared, with_variable, with_declaration, with_no_declaration, behind_solver}
+use Rattle.comet_small.specs.Small.{new_variable, declared_as, declared, with_variable, with_declaration, with_no_declaration, behind_solver}
 
 -- declarations in front of those of what is left
 abbrev pub in_front : List Declaration → List Declaration × List Act → List Declaration × List Act

@@ -1,7 +1,7 @@
 -- The exits of functions that pass a stop on, and the next item of a list.
 use Rattle.std.specs.Prelude.{◌≡◌, refl, ◌<◌, ◌≤◌, ◌+◌, ℕ, List, [], ◌∷◌, length, drop, get_or, Result, IfErr}
 use Rattle.std.specs.Result.{IsErrAnd}
-use Rattle.std.proofs.Common.{sym, ◌∙◌, subst, add-one, ap, arith, zero, suc}
+use Rattle.std.proofs.Common.{sym, subst, add-one, ap, arith, zero, suc}
 use Rattle.std.proofs.Math.Seq.{drop-cons}
 use Rattle.std.proofs.lemmas.Result.{err_from_is_err_and}
 

@@ -24,7 +24,6 @@ use Rattle.comet_syntax.specs.declared.tree.statements.Statement.{Statement, rol
 use Rattle.comet_syntax.specs.declared.tree.statements.Statement.TheVariants as statements
 use Rattle.comet_syntax.specs.declared.tree.statements.Statement.TheOpen as forms
 use Rattle.comet_syntax.specs.declared.tree.statements.Statement.TheFolds.{fold-roll-Statement, map-Statement, ind-Statement}
-use Rattle.comet_syntax.specs.Tree.{Tree}
 use Rattle.parse_unique.specs.Bare as bares
 use Rattle.parse_unique.specs.Bare.{Bare, listed, bare_expression, bare_argument, bare_suffix, bare_generator, bare_generators, bare_link, bare_statement, bare_block, bare_declaration, bare_simple, argument_layer, expression_layer, suffix_layer, generator_layer, generators_layer, link_layer, statement_layer, block_layer}
 use Rattle.comet_small.specs.Shape.{name_in, method_in, declared_in, done_in, solver_in}

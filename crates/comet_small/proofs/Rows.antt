@@ -1,6 +1,6 @@
 -- Rows of items that act one after the other.
-use Rattle.std.specs.Prelude.{◌≡◌, ◌<◌, ◌≤◌, ◌+◌, ℕ, List, [], ◌∷◌, ◌++◌, Option, Some, None, length, map, drop, get_or, refl}
-use Rattle.std.proofs.Common.{ap, sym, ◌∙◌, subst, append_assoc, append-nil}
+use Rattle.std.specs.Prelude.{◌≡◌, ◌<◌, ◌≤◌, ◌+◌, ℕ, List, [], ◌++◌, Option, Some, None, length, map, drop, get_or, refl}
+use Rattle.std.proofs.Common.{ap, sym, ◌∙◌, append_assoc, append-nil}
 use Rattle.comet_syntax.specs.declared.program.Act.{Act}
 use Rattle.parse_unique.specs.Bare.{Bare, listed}
 use Rattle.comet_small.specs.Statement.{appended, each}

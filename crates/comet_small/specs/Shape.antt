@@ -1,5 +1,5 @@
 -- The parts of a tree that small programs have. A rule of this project.
-use Rattle.std.specs.Prelude.{Bool, true, false, ◌&&◌, ℕ, List, Option, Some, None, option_and_then, if◌then◌else◌, codes}
+use Rattle.std.specs.Prelude.{Bool, false, ◌&&◌, ℕ, List, Option, Some, None, option_and_then, if◌then◌else◌, codes}
 use Rattle.std.specs.Str.{bytes_eq}
 use Rattle.comet_syntax.specs.declared.tree.declarations.ClassKind.{ClassKind}
 use Rattle.comet_syntax.specs.declared.tree.declarations.ClassKind.TheVariants as classes
