@@ -1,9 +1,13 @@
+pub mod Chains
 pub mod Comments
 pub mod Cuts
 pub mod Digits
 pub mod Exits
 pub mod Fronts
 pub mod Lexing
+pub mod OneProgram
+pub mod OneTerm
+pub mod Parts
 pub mod Strings
 pub mod TokenFaults
 pub mod TokenKinds
