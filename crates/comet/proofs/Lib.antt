@@ -1,4 +1,5 @@
 pub mod Ending
 pub mod Fronts
 pub mod Loaded
+pub mod OneOutput
 pub mod Pieces

@@ -1,4 +1,4 @@
--- What is read of a file decides what its whole text spells, though it is cut behind the limit.
+-- What is read of a file decides what its whole text is, though it is cut behind the limit.
 use Rattle.std.proofs.Common.{◌≡◌, ◌+◌, ◌<◌, ◌≤◌, ◌⊎◌, ℕ, Bool, true, false, List, [], Option, Some, None, length, take, refl, sym, ◌∙◌, ap, subst, inl, inr, arith}
 use Rattle.std.specs.Prelude.{nat_le, Result, IfErr}
 use Rattle.std.specs.Result.{IsErrAnd}
@@ -7,14 +7,16 @@ use Rattle.std.proofs.lemmas.List.{take_all, length-take}
 use Rattle.std.specs.FinMap as map
 use Rattle.cbl_io.specs.Held.{Held, IsRead}
 use Rattle.cbl_base.specs.declared.place.Place.{Place}
-use Rattle.comet_syntax.specs.Tokens.TokenFault.{HasTokenFault, too_long, not_utf8, not_read}
+use Rattle.comet_syntax.specs.Tokens.TokenFault.{too_long, not_utf8, not_read}
 use Rattle.comet_syntax.specs.declared.stop.FormCause.{FormCause}
 use Rattle.comet_syntax.specs.declared.program.Declaration.{Declaration}
 use Rattle.comet_syntax.specs.declared.program.Act.{Act}
 use Rattle.comet_syntax.specs.declared.limits.TheConstants.{MOST_BYTES}
 use Rattle.stmt_run.specs.Meaning.{meaning_of}
-use Rattle.comet.specs.Output.{Gives, runs, not_built, ill_formed, GivesHeld}
-use Rattle.comet.specs.Loading.{HasProgram, IsTextStop, IsLoaded, IsWhatItGives, IsLoadStop}
+use Rattle.comet_front.specs.Reading.{HasProgram, IsIllFormed, no_tokens, no_tree, not_built}
+use Rattle.comet_front.proofs.OneReading.{one_program, not_both}
+use Rattle.comet.specs.Output.{Gives, runs, ill_formed, GivesHeld}
+use Rattle.comet.specs.Loading.{IsTextStop, IsLoaded, IsWhatItGives, IsLoadStop}
 use Rattle.comet.specs.Status.{cause_of}
 use Rattle.comet.specs.declared.report.Cause.{Cause}
 use Rattle.comet.specs.declared.report.Cause.TheVariants as causes
@@ -50,25 +52,25 @@ other_way (inl e) = inl (sym e)
 other_way (inr (x, y)) = inr (y, x)
 
 -- and they give the same
+long_refused : {a b : List ℕ} {place : Place} {form : FormCause} → IsIllFormed a place form → MOST_BYTES < length a → MOST_BYTES < length b → IsIllFormed b place form
+long_refused (no_tokens (too_long h)) p q = no_tokens (too_long q)
+long_refused (no_tokens (not_utf8 short h k)) p q = absurd (omega (arith, p, short))
+long_refused (no_tokens (not_read short h k)) p q = absurd (omega (arith, p, short))
+long_refused (no_tree r) p q = absurd (omega (arith, p, r.listed.short))
+long_refused (not_built r) p q = absurd (omega (arith, p, r.has.listed.short))
+
 gives_alike : {a b : List ℕ} {cause : Cause} {printed : List ℕ} → SameOrLong a b → Gives a cause printed → Gives b cause printed
 gives_alike {cause = cause} {printed = printed} (inl e) gives = subst (λ text. Gives text cause printed) e gives
-gives_alike (inr (x, y)) (runs r) = absurd (omega (arith, x, r.listed.short))
-gives_alike (inr (x, y)) (not_built r) = absurd (omega (arith, x, r.listed.short))
-gives_alike {b = b} (inr (x, y)) (ill_formed r) = ill_formed (record { place = r.place; form = r.form; fault = long_fault r.fault x y; ends = r.ends; prints = r.prints })
-  where
-    long_fault : {a c : List ℕ} {place : Place} {form : FormCause} → HasTokenFault a place form → MOST_BYTES < length a → MOST_BYTES < length c → HasTokenFault c place form
-    long_fault (too_long h) p q = too_long q
-    long_fault (not_utf8 short h k) p q = absurd (omega (arith, p, short))
-    long_fault (not_read short h k) p q = absurd (omega (arith, p, short))
+gives_alike (inr (x, y)) (runs r) = absurd (omega (arith, x, r.has.has.listed.short))
+gives_alike (inr (x, y)) (ill_formed r) = ill_formed (record { place = r.place; form = r.form; refused = long_refused r.refused x y; ends = r.ends; prints = r.prints })
 
--- the text that is held gives the meaning of the one program that the bytes spell
+-- the text that is held gives the meaning of the one program that the bytes are
 only_meaning : {text : List ℕ} {declarations : List Declaration} {acts : List Act} {cause : Cause} {printed : List ℕ} →
     HasProgram text declarations acts → Gives text cause printed → printed ≡ (meaning_of declarations acts).printed
-only_meaning {declarations = declarations} {acts = acts} has (runs r) =
-    let one : (r.declarations ≡ declarations) × (r.acts ≡ acts) = has.only r.declarations r.acts r.spelled in
+only_meaning {text = text} {declarations = declarations} {acts = acts} has (runs r) =
+    let one : (r.declarations ≡ declarations) × (r.acts ≡ acts) = one_program text r.declarations declarations r.acts acts r.has has in
     r.prints ∙ ap (λ ds. (meaning_of ds r.acts).printed) one.0 ∙ ap (λ xs. (meaning_of declarations xs).printed) one.1
-only_meaning {declarations = declarations} {acts = acts} has (not_built r) = absurd (r.not_small declarations acts has.spelled)
-only_meaning has (ill_formed r) = absurd (has.no_fault r.place r.form r.fault)
+only_meaning {text = text} {declarations = declarations} {acts = acts} has (ill_formed r) = absurd (not_both text declarations acts r.place r.form has r.refused)
 
 pub loaded : (told : Option Held) (name bytes : List ℕ) (declarations : List Declaration) (acts : List Act) (held : Held) →
     IsRead told name MOST_BYTES bytes → HasProgram bytes declarations acts → told ≡ Some held → IsLoaded name held declarations acts
@@ -78,7 +80,7 @@ loaded told name bytes declarations acts held read has is_told =
     let found : map.get held name ≡ Some whole = known.1 in
     let alike : SameOrLong bytes whole = read_alike bytes whole known.2 in
     let meant : Gives bytes (cause_of (meaning_of declarations acts).end) (meaning_of declarations acts).printed =
-    runs (record { tokens = has.tokens; listed = has.listed; declarations = declarations; acts = acts; spelled = has.spelled; ends = refl; prints = refl }) in
+    runs (record { declarations = declarations; acts = acts; has = has; ends = refl; prints = refl }) in
     record {
       gives = subst (λ o. GivesHeld o (cause_of (meaning_of declarations acts).end) (meaning_of declarations acts).printed) (sym found) (gives_alike alike meant);
       only = λ cause printed given. only_meaning has (gives_alike (other_way alike) (subst (λ o. GivesHeld o cause printed) found given));

@@ -3,10 +3,6 @@ use Rattle.std.specs.Prelude.{◌≡◌, ℕ, List, [], Option, Some, None}
 use Rattle.cbl_io.specs.Faults.{HasRisen}
 use Rattle.cbl_io.specs.Held.{Held}
 use Rattle.cbl_base.specs.declared.place.Place.{Place}
-use Rattle.comet_syntax.specs.Small.{Spells}
-use Rattle.comet_syntax.specs.Tokens.TokenFault.{HasTokenFault}
-use Rattle.comet_syntax.specs.Tokens.TokenList.{HasTokens}
-use Rattle.comet_syntax.specs.declared.token.Token.{Token}
 use Rattle.comet_syntax.specs.declared.stop.FormCause.{FormCause}
 use Rattle.comet_syntax.specs.declared.program.Declaration.{Declaration}
 use Rattle.comet_syntax.specs.declared.program.Act.{Act}
@@ -16,14 +12,6 @@ use Rattle.comet.specs.Status.{cause_of}
 use Rattle.comet.specs.declared.report.Cause.{Cause}
 use Rattle.comet.specs.declared.report.Cause.TheVariants as causes
 use Rattle.std.specs.FinMap as map
-
--- The text has a token list and spells this small program, and no other.
-pub record HasProgram (text : List ℕ) (declarations : List Declaration) (acts : List Act) : Type 0 where
-  pub tokens : List Token
-  pub listed : HasTokens text tokens
-  pub no_fault : (place : Place) (form : FormCause) → HasTokenFault text place form → ⊥
-  pub spelled : Spells text declarations acts
-  pub only : (ds : List Declaration) (as' : List Act) → Spells text ds as' → (ds ≡ declarations) × (as' ≡ acts)
 
 -- why a text has no program: it is refused, or there is no memory
 abbrev pub IsTextStop : List ℕ → Cause → Type 0

@@ -1,55 +1,39 @@
--- The output of a whole run: the words name a file, its text has at most one token list and spells at
--- most one small program, and that program's meaning says what is printed and how the run ends. A text
--- without a token list is refused at its place, and one that spells no small program isn't built yet.
+-- The output of a whole run: the words name a file, its text is at most one small program, and that
+-- program's meaning says what is printed and how the run ends. Every other text is refused at one place.
 use Rattle.std.specs.Prelude.{◌≡◌, ◌≢◌, ◌++◌, ℕ, List, [], Option, Some, None}
 use Rattle.std.specs.FinMap as map
 use Rattle.cbl_io.specs.Held.{Held}
 use Rattle.cbl_base.specs.declared.place.Place.{Place}
-use Rattle.comet_syntax.specs.Small.{Spells}
-use Rattle.comet_syntax.specs.Tokens.TokenFault.{HasTokenFault}
-use Rattle.comet_syntax.specs.Tokens.TokenList.{HasTokens}
-use Rattle.comet_syntax.specs.declared.token.Token.{Token}
 use Rattle.comet_syntax.specs.declared.stop.FormCause.{FormCause}
 use Rattle.comet_syntax.specs.declared.program.Declaration.{Declaration}
 use Rattle.comet_syntax.specs.declared.program.Act.{Act}
-use Rattle.comet_syntax.specs.declared.stop.FormCause.TheVariants.{NotBuilt}
-use Rattle.stmt_run.specs.Meaning.{meaning_of, first_place}
+use Rattle.comet_front.specs.Reading.{HasProgram, IsIllFormed}
+use Rattle.stmt_run.specs.Meaning.{meaning_of}
 use Rattle.comet.specs.Status.{cause_of}
 use Rattle.comet.specs.Words.{program_named}
 use Rattle.comet.specs.declared.report.Cause.{Cause}
 use Rattle.comet.specs.declared.report.Cause.TheVariants as causes
 use Rattle.comet.specs.declared.report.FileRole.TheVariants.{Program}
 
--- what a text with tokens that spells a small program gives
+-- what a text that is a small program gives
 pub record Runs (text : List ℕ) (cause : Cause) (printed : List ℕ) : Type 0 where
-  pub tokens : List Token
-  pub listed : HasTokens text tokens
   pub declarations : List Declaration
   pub acts : List Act
-  pub spelled : Spells text declarations acts
+  pub has : HasProgram text declarations acts
   pub ends : cause ≡ cause_of (meaning_of declarations acts).end
   pub prints : printed ≡ (meaning_of declarations acts).printed
 
--- a text with tokens that spells none isn't built yet
-pub record IsNotBuilt (text : List ℕ) (cause : Cause) (printed : List ℕ) : Type 0 where
-  pub tokens : List Token
-  pub listed : HasTokens text tokens
-  pub not_small : (declarations : List Declaration) (acts : List Act) → Spells text declarations acts → ⊥
-  pub ends : cause ≡ causes.IllFormed first_place NotBuilt
-  pub prints : printed ≡ []
-
--- a text without a token list is refused at its place for its cause
-pub record IsIllFormed (text : List ℕ) (cause : Cause) (printed : List ℕ) : Type 0 where
+-- what a text that is refused gives
+pub record Refuses (text : List ℕ) (cause : Cause) (printed : List ℕ) : Type 0 where
   pub place : Place
   pub form : FormCause
-  pub fault : HasTokenFault text place form
+  pub refused : IsIllFormed text place form
   pub ends : cause ≡ causes.IllFormed place form
   pub prints : printed ≡ []
 
 pub data Gives (text : List ℕ) (cause : Cause) (printed : List ℕ) : Type 0 where
   runs : Runs text cause printed → Gives text cause printed
-  not_built : IsNotBuilt text cause printed → Gives text cause printed
-  ill_formed : IsIllFormed text cause printed → Gives text cause printed
+  ill_formed : Refuses text cause printed → Gives text cause printed
 
 -- what a name gives, by what it holds
 abbrev pub GivesHeld : Option (List ℕ) → Cause → List ℕ → Type 0

@@ -4,13 +4,8 @@ ghost use Rattle.cbl_io.specs.Held.{Held};
 ghost use Rattle.comet.specs.declared.report.Cause.{Cause};
 ghost use Rattle.comet.specs.Output.{RunOutput};
 
-use comet_syntax::laws::{one_program, one_token_fault};
-
 /// Words and held files have at most one output: one cause, and one list of printed bytes.
 pub fn one_output()
     ensures { (words : List (List ℕ)) (held : Held) (cause other : Cause) (printed others : List ℕ) →
         RunOutput words held cause printed → RunOutput words held other others → (cause ≡ other) × (printed ≡ others) }
-{
-    one_program();
-    one_token_fault();
-}
+{}

@@ -2,9 +2,8 @@
 //!
 //! `comet_run` reads the program that the words name, runs it, writes what it printed, and says on the
 //! standard error why it ended. It knows nothing of how a text is read or how a program runs: it uses
-//! that `lex` tells the one fault of a text without tokens, that `read_small` finds the one small
-//! program that a text spells or refuses exactly where there is none, and that `run` meets the
-//! program's meaning.
+//! that `read_program` gives the one small program that a text is, or its refusal, and that `run` meets
+//! the program's meaning.
 #![tactic(auto)]
 
 pub mod laws;

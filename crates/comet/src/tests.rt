@@ -143,7 +143,7 @@ fn what_is_not_small_is_refused(rt: HostRuntime) -> Result<(), Fail> {
 }
 
 /// The refused texts, and the lines that tell why.
-const ILL_FORMED: [(&[u8], u32, u32, FormCause, &str); 6] = [
+const ILL_FORMED: [(&[u8], u32, u32, FormCause, &str); 9] = [
     (
         b"x = 1; /* ",
         1,
@@ -178,6 +178,27 @@ const ILL_FORMED: [(&[u8], u32, u32, FormCause, &str); 6] = [
         1,
         FormCause::BadToken,
         "comet: 1:1: bad token\n",
+    ),
+    (
+        b"Solver<LS> m(",
+        1,
+        14,
+        FormCause::UnexpectedEnd,
+        "comet: 1:14: unexpected end of text\n",
+    ),
+    (
+        b"x = 1;\n\n",
+        1,
+        1,
+        FormCause::NotBuilt,
+        "comet: 1:1: not built yet\n",
+    ),
+    (
+        b"x := a < b\n< c;",
+        2,
+        1,
+        FormCause::Unexpected,
+        "comet: 2:1: unexpected token\n",
     ),
     (
         b"cout << 1;",

@@ -3,9 +3,10 @@ ghost use Rattle.std.specs.Prelude.{◌≡◌, ◌≢◌, ◌↔◌, ◌++◌, �
 ghost use Rattle.cbl_io.specs.Appended.{Appends, AppendsFront};
 ghost use Rattle.cbl_io.specs.Faults.{HasRisen};
 ghost use Rattle.cbl_io.specs.Held.{Held};
+ghost use Rattle.comet_front.specs.Reading.{HasProgram};
 ghost use Rattle.stmt_run.specs.Meaning.{meaning_of};
 ghost use Rattle.comet.specs.Line.{line_of};
-ghost use Rattle.comet.specs.Loading.{HasProgram, IsLoaded, IsLoadStop, IsTextStop};
+ghost use Rattle.comet.specs.Loading.{IsLoaded, IsLoadStop, IsTextStop};
 ghost use Rattle.comet.specs.Output.{RunOutput, Decides, EndsAsMeant};
 ghost use Rattle.comet.specs.Status.{status_of, cause_of};
 ghost use Rattle.comet.specs.Words.{program_named, texts};
@@ -13,10 +14,9 @@ ghost use Rattle.comet.specs.Words.{program_named, texts};
 use crate::line::say;
 use crate::report::{Cause, FileRole, Report};
 use crate::words::program_name;
-use cbl_base::Place;
 use cbl_io::{Files, ReadStop, Sink, write_all};
-use comet_syntax::laws::one_token_fault;
-use comet_syntax::{FormCause, LexStop, MOST_BYTES, SmallProgram, SmallStop, lex, read_small};
+use comet_front::{TextStop, read_program};
+use comet_syntax::{MOST_BYTES, SmallProgram};
 use std::alloc::Global;
 use stmt_run::run;
 
@@ -103,7 +103,7 @@ fn run_words<F: Files, O: Sink>(
     }
 }
 
-/// Reads a program's file, and the small program that its text spells.
+/// Reads a program's file, and the small program that its text is.
 fn load<F: Files>(alloc: Global, files: &mut F, name: &str) -> Result<SmallProgram, Cause>
     ensures loaded { IfOk result (λ program. (held : Held) → F.held files.old ≡ Some held →
         IsLoaded name.now held program.declarations.items program.acts.items) }
@@ -119,25 +119,15 @@ fn load<F: Files>(alloc: Global, files: &mut F, name: &str) -> Result<SmallProgr
     Ok(program)
 }
 
-/// The small program that a text spells. The refusal is the text's first fault where it has no token
-/// list, and otherwise `NotBuilt` at 1:1.
+/// The small program that a text is, or the cause of a run that is refused for it.
 fn program_of(alloc: Global, text: &[u8]) -> Result<SmallProgram, Cause>
     ensures found { IfOk result (λ program. HasProgram text.now program.declarations.items program.acts.items) }
     ensures refused { IfErr result (IsTextStop text.now) }
 {
-    one_token_fault();
-    let tokens = match lex(alloc, text) {
-        Ok(tokens) => tokens,
-        Err(LexStop::Fault(place, form)) => return Err(Cause::IllFormed(place, form)),
-        Err(LexStop::NoMemory) => return Err(Cause::NoMemory),
-    };
-    match read_small(alloc, text) {
+    match read_program(alloc, text) {
         Ok(program) => Ok(program),
-        Err(SmallStop::NotSmall) => Err(Cause::IllFormed(
-            Place { line: 1, col: 1 },
-            FormCause::NotBuilt,
-        )),
-        Err(SmallStop::NoMemory) => Err(Cause::NoMemory),
+        Err(TextStop::Fault(place, form)) => Err(Cause::IllFormed(place, form)),
+        Err(TextStop::NoMemory) => Err(Cause::NoMemory),
     }
 }
 

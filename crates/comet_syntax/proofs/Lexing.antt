@@ -7,7 +7,7 @@ use Rattle.std.proofs.Math.Seq.{take-append_seam, drop-append_seam}
 use Rattle.std.proofs.lemmas.List.{take-append-drop, length-take-le, append_cancel_left}
 use Rattle.std.proofs.lemmas.List.Folds.{list_all-append}
 use Rattle.std.proofs.lemmas.Slice.Eq.{bytes_eq-Decides}
-use Rattle.comet_syntax.specs.Lexeme.{is_space, is_letter, is_digit, is_word_byte, is_word, is_number, is_sign, signs, IsBlank, IsLexeme, a_word, a_number, a_sign, Next}
+use Rattle.comet_syntax.specs.Lexeme.{is_space, is_letter, is_digit, is_word_byte, is_word, is_number, is_sign, signs, IsLexeme, a_word, a_number, a_sign}
 
 pub or_cases : (a b : Bool) → (a || b) ≡ true → (a ≡ true) ⊎ (b ≡ true)
 or_cases true b h = inl refl
@@ -131,78 +131,8 @@ lexeme_head (c ∷ cs) (a_word h) = (c, cs, refl, letter_no_space c (and_left _ 
 lexeme_head (c ∷ cs) (a_number h) = (c, cs, refl, digit_no_space c (and_left _ _ h))
 lexeme_head (c ∷ cs) (a_sign h) = (c, cs, refl, not_false (is_space c) (and_right (not (is_word_byte c)) _ (sign_begins (c ∷ cs) h)))
 
--- what stands behind the white space
-pub behind_space : List ℕ → List ℕ
-behind_space text = drop (length (take_while is_space text)) text
-
-pub next_front : {text w r : List ℕ} → Next text w r → behind_space text ≡ w ++ r
-unfolding behind_space
-next_front {text} {w} {r} n =
-    let (c, cs, e, no_space) = lexeme_head w n.is_lexeme in
-    let whole : text ≡ n.space ++ (c ∷ (cs ++ r)) = n.spelled ∙ ap (λ x. n.space ++ (x ++ r)) e in
-    let found : length (take_while is_space text) ≡ length n.space =
-    found_length is_space text ∙ ap (prefix_len is_space) whole ∙ prefix_is is_space n.space c (cs ++ r) n.blank no_space in
-    rw found (ap (drop (length n.space)) n.spelled ∙ drop-append_seam n.space (w ++ r))
-
--- a text has one next lexeme at most
-pub next_one : {text w r v s : List ℕ} → Next text w r → Next text v s → (w ≡ v) × (r ≡ s)
-next_one {text} {w} {r} {v} {s} n m =
-    let whole : w ++ r ≡ v ++ s = sym (next_front n) ∙ next_front m in
-    let low : length w < length v → ⊥ = λ h. n.longest v s whole h m.is_lexeme in
-    let high : length v < length w → ⊥ = λ h. m.longest w r (sym whole) h n.is_lexeme in
-    let same : length w ≡ length v = omega arith in
-    let fronts : w ≡ v = sym (take-append_seam w r) ∙ ap (λ x. take (length w) x) whole ∙ ap (λ x. take x (v ++ s)) same ∙ take-append_seam v s in
-    (fronts, append_cancel_left v r s (ap (λ x. x ++ r) (sym fronts) ∙ whole))
-
 pub clash : (b : Bool) → b ≡ true → b ≡ false → ⊥
 clash b h k = cc
-
--- two different lexemes are never both the next one
-pub apart : (v w : List ℕ) {text r s : List ℕ} → bytes_eq v w ≡ false → Next text v r → Next text w s → ⊥
-apart v w e n m = clash (bytes_eq v w) ((bytes_eq-Decides v w).1 (next_one n m).0) e
-
-pub next_shorter : {text w r : List ℕ} → Next text w r → length r < length text
-next_shorter {text} {w} {r} n =
-    let (c, cs, e, no_space) = lexeme_head w n.is_lexeme in
-    let sizes : length text ≡ length n.space + (length (c ∷ cs) + length r) = ap length n.spelled ∙ ap (λ x. length (n.space ++ (x ++ r))) e ∙ simp length-append in
-    omega arith
-
--- a text of nothing but white space has no lexeme
-pub blank_ends : {text w r : List ℕ} → IsBlank text → Next text w r → ⊥
-blank_ends {text} {w} {r} blank n =
-    let (c, cs, e, no_space) = lexeme_head w n.is_lexeme in
-    let whole : text ≡ n.space ++ (c ∷ (cs ++ r)) = n.spelled ∙ ap (λ x. n.space ++ (x ++ r)) e in
-    let all : list_all is_space (n.space ++ (c ∷ (cs ++ r))) ≡ true = subst (λ x. list_all is_space x ≡ true) whole blank in
-    let parts : (list_all is_space n.space && list_all is_space (c ∷ (cs ++ r))) ≡ true = sym (list_all-append is_space n.space (c ∷ (cs ++ r))) ∙ all in
-    let space : is_space c ≡ true = and_left _ _ (and_right (list_all is_space n.space) _ parts) in
-    clash (is_space c) space no_space
-
-space_split : (text : List ℕ) → text ≡ take (length (take_while is_space text)) text ++ behind_space text
-unfolding behind_space
-space_split text = sym (take-append-drop (length (take_while is_space text)) text)
-
--- the code finds the longest
-pub next_found : (text : List ℕ) (len : ℕ) → len ≤ length (behind_space text) → IsLexeme (take len (behind_space text))
-    → ((w r : List ℕ) → behind_space text ≡ w ++ r → IsLexeme w → length w ≤ len)
-    → Next text (take len (behind_space text)) (drop len (behind_space text))
-next_found text len within is_lexeme longest = record {
-  space = take (length (take_while is_space text)) text;
-  blank = subst (λ n. list_all is_space (take n text) ≡ true) (sym (found_length is_space text)) (all_prefix is_space text);
-  spelled = space_split text ∙ ap (λ x. take (length (take_while is_space text)) text ++ x) (sym (take-append-drop len (behind_space text)));
-  is_lexeme = is_lexeme;
-  longest = λ longer behind e h l.
-      let size : length (take len (behind_space text)) ≡ len = length-take-le len (behind_space text) within in
-      let most : length longer ≤ len = longest longer behind (sym (take-append-drop len (behind_space text)) ∙ e) l in
-      omega arith;
-}
-
-pub next_none : (text : List ℕ) → ((w r : List ℕ) → behind_space text ≡ w ++ r → IsLexeme w → length w ≤ 0)
-    → (w r : List ℕ) → Next text w r → ⊥
-next_none text none w r n =
-    let (c, cs, e, no_space) = lexeme_head w n.is_lexeme in
-    let short : length w ≤ 0 = none w r (next_front n) n.is_lexeme in
-    let long : length w ≡ length (c ∷ cs) = ap length e in
-    omega arith
 
 -- a front whose bytes pass is no longer than what a test finds
 pub longest_run : (p : ℕ → Bool) (xs w r : List ℕ) → xs ≡ w ++ r → list_all p w ≡ true → length w ≤ length (take_while p xs)
@@ -268,23 +198,6 @@ longest_sign c cs [] r len letter digit most e h = omega arith
 longest_sign c cs (d ∷ ds) r len letter digit most e h =
     let same : c ≡ d = cc in
     most (d ∷ ds) r e (begins_sign d ds (subst (λ x. is_letter x ≡ false) same letter) (subst (λ x. is_digit x ≡ false) same digit) h)
-
--- the same, in the steps of the code
-behind_is : (text t : List ℕ) (n : ℕ) → n ≡ length (take_while is_space text) → t ≡ drop n text → t ≡ behind_space text
-unfolding behind_space
-behind_is text t n e f = f ∙ ap (λ m. drop m text) e
-
-pub next_at : (text t w r : List ℕ) (n len : ℕ) → n ≡ length (take_while is_space text) → t ≡ drop n text → w ≡ take len t → r ≡ drop len t
-    → len ≤ length t → IsLexeme (take len t) → ((v s : List ℕ) → t ≡ v ++ s → IsLexeme v → length v ≤ len) → Next text w r
-next_at text t w r n len e f g h within lexeme longest =
-    let same : t ≡ behind_space text = behind_is text t n e f in
-    let found = next_found text len (subst (λ x. len ≤ length x) same within) (subst (λ x. IsLexeme (take len x)) same lexeme) (subst (λ x. (v s : List ℕ) → x ≡ v ++ s → IsLexeme v → length v ≤ len) same longest) in
-    subst (λ x. Next text x r) (sym (g ∙ ap (take len) same)) (subst (λ x. Next text (take len (behind_space text)) x) (sym (h ∙ ap (drop len) same)) found)
-
-pub none_at : (text t : List ℕ) (n len : ℕ) → n ≡ length (take_while is_space text) → t ≡ drop n text → len ≡ 0
-    → ((v s : List ℕ) → t ≡ v ++ s → IsLexeme v → length v ≤ len) → (w r : List ℕ) → Next text w r → ⊥
-none_at text t n len e f size longest =
-    next_none text (λ v s h l. let short : length v ≤ len = longest v s (behind_is text t n e f ∙ h) l in omega arith)
 
 pub words_of : (xs : List ℕ) (x : ℕ) (ys : List ℕ) (len : ℕ) → xs ≡ x ∷ ys → is_letter x ≡ true → len ≡ length (take_while is_word_byte xs) → IsLexeme (take len xs)
 words_of xs x ys len e letter size = subst (λ n. IsLexeme (take n xs)) (sym size) (subst (λ z. IsLexeme (take (length (take_while is_word_byte z)) z)) (sym e) (word_found x ys letter))

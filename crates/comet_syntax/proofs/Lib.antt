@@ -1,13 +1,9 @@
-pub mod Chains
 pub mod Comments
 pub mod Cuts
 pub mod Digits
 pub mod Exits
 pub mod Fronts
 pub mod Lexing
-pub mod OneProgram
-pub mod OneTerm
-pub mod Parts
 pub mod Strings
 pub mod TokenFaults
 pub mod TokenKinds

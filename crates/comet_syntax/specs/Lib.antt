@@ -1,17 +1,13 @@
 pub mod Derivation
-pub mod Expression
 pub mod Grammar
 pub mod Lexeme
 pub mod Name
 pub mod Number
 pub mod Place
-pub mod Reading
 pub mod Refusal
-pub mod Small
 pub mod Spells
 pub mod Tokens
 pub mod Tree
 pub mod TreeCode
-pub mod Variables
 pub mod Word
 pub mod Written

@@ -1,19 +1,10 @@
 //! Laws over the definitions alone.
 ghost use Rattle.std.specs.Prelude.{◌≡◌, ℕ, List};
-ghost use Rattle.comet_syntax.specs.declared.program.Declaration.{Declaration};
-ghost use Rattle.comet_syntax.specs.declared.program.Act.{Act};
-ghost use Rattle.comet_syntax.specs.Small.{Spells};
 ghost use Rattle.cbl_base.specs.declared.place.Place.{Place};
 ghost use Rattle.comet_syntax.specs.declared.stop.FormCause.{FormCause};
 ghost use Rattle.comet_syntax.specs.declared.token.Token.{Token};
 ghost use Rattle.comet_syntax.specs.Tokens.TokenList.{HasTokens};
 ghost use Rattle.comet_syntax.specs.Tokens.TokenFault.{HasTokenFault};
-
-/// A text spells at most one small program.
-pub fn one_program()
-    ensures { (text : List ℕ) (ds es : List Declaration) (acts bs : List Act) →
-        Spells text ds acts → Spells text es bs → (ds ≡ es) × (acts ≡ bs) }
-{}
 
 /// A text has at most one token list.
 pub fn one_token_list()

@@ -2,11 +2,9 @@
 ghost use Rattle.std.specs.Prelude.{◌≡◌, true, false, ◌<◌, ◌≤◌, ◌&&◌, ◌||◌, ◌++◌, ℕ, List, length, map, take, IfOk, IfErr, IfSome, IfNone, MatchOption, MatchResult};
 ghost use Rattle.std.specs.List.{take_while, list_all, list_any};
 ghost use Rattle.std.specs.Str.{bytes_eq};
-ghost use Rattle.comet_syntax.specs.Lexeme.{IsBlank, IsLexeme, Next, NextAll, NotNext};
+ghost use Rattle.comet_syntax.specs.Lexeme.{IsLexeme};
 ghost use Rattle.comet_syntax.specs.Lexeme as lexeme;
 ghost use Rattle.comet_syntax.specs.Name as names;
-
-use crate::stop::SmallStop;
 
 /// The signs of the whole language.
 const SIGNS: [&str; 36] = [
@@ -73,13 +71,6 @@ const KEYWORDS: [&str; 51] = [
     "Solution",
 ];
 
-/// A lexeme of a text, and what stands behind it.
-#[derive(Drop)]
-pub struct Lexeme<'a> {
-    pub bytes: &'a [u8],
-    pub rest: &'a [u8],
-}
-
 pub fn is_space(c: u8) -> bool
     ensures { result ≡ lexeme.is_space c }
 {
@@ -127,12 +118,6 @@ fn is_keyword(bytes: &[u8]) -> bool
     is_among(&KEYWORDS, bytes)
 }
 
-fn space_len(text: &[u8]) -> usize
-    ensures { result ≡ length (take_while lexeme.is_space text.now) }
-{
-    text.iter().take_while(|c| is_space(**c)).count()
-}
-
 fn word_len(text: &[u8]) -> usize
     ensures { result ≡ length (take_while lexeme.is_word_byte text.now) }
 {
@@ -143,13 +128,6 @@ fn number_len(text: &[u8]) -> usize
     ensures { result ≡ length (take_while lexeme.is_digit text.now) }
 {
     text.iter().take_while(|c| is_digit(**c)).count()
-}
-
-/// Whether nothing but white space is left.
-pub fn is_blank(text: &[u8]) -> bool
-    ensures { result ≡ lexeme.is_blank text.now }
-{
-    text.iter().all(|c| is_space(*c))
 }
 
 fn are_digits(bytes: &[u8]) -> bool
@@ -226,58 +204,4 @@ pub fn lexeme_len(text: &[u8]) -> usize
             }
         }
     }
-}
-
-/// The next lexeme of a text. `None` exactly where there is none.
-pub fn next_lexeme(text: &[u8]) -> Option<Lexeme>
-    ensures some { IfSome result (λ next. Next text.now next.bytes.now next.rest.now) }
-    ensures none { IfNone result ((bytes rest : List ℕ) → Next text.now bytes rest → ⊥) }
-{
-    let (_, text) = text.split_at(space_len(text));
-    let len = lexeme_len(text);
-    if len == 0 {
-        return None;
-    }
-    let (bytes, rest) = text.split_at(len);
-    Some(Lexeme { bytes, rest })
-}
-
-/// What stands behind a lexeme, where it is the next one of the text. `None` exactly where it isn't.
-pub fn skip<'a>(text: &'a [u8], bytes: &[u8]) -> Option<&'a [u8]>
-    ensures some { IfSome result (λ rest. Next text.now bytes.now rest.now) }
-    ensures none { IfNone result (NotNext text.now bytes.now) }
-{
-    match next_lexeme(text) {
-        Some(next) => {
-            if next.bytes == bytes {
-                Some(next.rest)
-            } else {
-                None
-            }
-        }
-        None => None,
-    }
-}
-
-/// What stands behind a lexeme, which has to be the next one of the text. `NotSmall` exactly where it
-/// isn't.
-pub fn expect<'a>(text: &'a [u8], bytes: &[u8]) -> Result<&'a [u8], SmallStop>
-    ensures ok { IfOk result (λ rest. Next text.now bytes.now rest.now) }
-    ensures refused { IfErr result (λ stop. NotNext text.now bytes.now) }
-{
-    skip(text, bytes).ok_or(SmallStop::NotSmall)
-}
-
-/// What stands behind these lexemes, which have to be the next ones of the text. `NotSmall` exactly
-/// where they aren't.
-pub fn expect_all<'a>(text: &'a [u8], lexemes: &[&str]) -> Result<&'a [u8], SmallStop>
-    ensures ok { IfOk result (λ rest. NextAll text.now (map (λ bytes. bytes.now) lexemes.now) rest.now) }
-    ensures refused { IfErr result (λ stop.
-        (rest : List ℕ) → NextAll text.now (map (λ bytes. bytes.now) lexemes.now) rest → ⊥) }
-{
-    let mut rest = text;
-    for lexeme in lexemes {
-        rest = expect(rest, lexeme.as_bytes())?;
-    }
-    Ok(rest)
 }

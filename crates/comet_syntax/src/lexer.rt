@@ -47,7 +47,7 @@ fn next_place(place: Place, byte: u8) -> Place
 }
 
 /// The place behind some bytes that stand at a place.
-fn place_behind(place: Place, bytes: &[u8]) -> Place
+pub fn place_behind(place: Place, bytes: &[u8]) -> Place
     requires line { place.line + length bytes.now < 2 ^ 32 }
     requires column { place.col + length bytes.now < 2 ^ 32 }
     ensures { result ≡ fold places.next_place place bytes.now }

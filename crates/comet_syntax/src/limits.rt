@@ -2,6 +2,3 @@
 
 /// How many bytes a text has at most.
 pub const MOST_BYTES: usize = 1_048_576;
-
-/// How deep parentheses stand in an expression at most.
-pub const MOST_PARENTHESES: usize = 198;

@@ -1,0 +1,11 @@
+use Rattle.comet_front.proofs.OneReading.{one_program, one_refusal_of, not_both}
+use Rattle.comet_front.proofs.laws.one_reading.Goals as goal
+
+pub returns-clause-program : goal.returns-clause-program
+returns-clause-program c = λ text ds es acts bs x y. one_program text ds es acts bs x y
+
+pub returns-clause-refusal : goal.returns-clause-refusal
+returns-clause-refusal c = λ text place other cause another x y. one_refusal_of text place other cause another x y
+
+pub returns-clause-either : goal.returns-clause-either
+returns-clause-either c = λ text ds acts place cause x y. not_both text ds acts place cause x y

@@ -1,0 +1,12 @@
+//! From a text to the small program that it is, or its refusal.
+//!
+//! It knows nothing of files, nor of what a program means. The layers above use that a text is one small
+//! program or is refused at one place for one cause.
+#![tactic(auto)]
+
+pub mod laws;
+mod reading;
+mod stop;
+
+pub use reading::read_program;
+pub use stop::TextStop;

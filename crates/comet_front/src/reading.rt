@@ -1,0 +1,74 @@
+//! The small program of a text.
+ghost use Rattle.std.specs.Prelude.{◌≡◌, ◌≤◌, List, length, drop, IfOk, IfErr};
+ghost use Rattle.comet_syntax.specs.declared.limits.TheConstants.{MOST_BYTES};
+ghost use Rattle.comet_syntax.specs.Tokens.TokenList.{HasTokens};
+ghost use Rattle.comet_parse.specs.Refusals.{IsRefusal};
+ghost use Rattle.comet_front.specs.Reading.{HasProgram, HasTree, IsTextStop, place_left};
+
+use crate::stop::TextStop;
+use cbl_base::Place;
+use comet_parse::{ParseStop, parse};
+use comet_small::small_of;
+use comet_syntax::tree::Program;
+use comet_syntax::{FormCause, LexStop, SmallProgram, SmallStop, Token, lex, place_behind};
+use std::alloc::Global;
+
+/// The place of a text's first byte.
+const FIRST_PLACE: Place = Place { line: 1, col: 1 };
+
+/// The small program that a text is. `Fault` exactly where it is refused, at its place and for its
+/// cause; `NoMemory` where there was none.
+pub fn read_program(alloc: Global, text: &[u8]) -> Result<SmallProgram, TextStop>
+    ensures found { IfOk result (λ program. HasProgram text.now program.declarations.items program.acts.items) }
+    ensures refused { IfErr result (IsTextStop text.now) }
+{
+    let program = read_tree(alloc, text)?;
+    match small_of(alloc, &program) {
+        Ok(small) => Ok(small),
+        Err(SmallStop::NotSmall) => Err(TextStop::Fault(FIRST_PLACE, FormCause::NotBuilt)),
+        Err(SmallStop::NoMemory) => Err(TextStop::NoMemory),
+    }
+}
+
+/// The tree of a text.
+fn read_tree(alloc: Global, text: &[u8]) -> Result<Program, TextStop>
+    ensures found { IfOk result (HasTree text.now) }
+    ensures refused { IfErr result (IsTextStop text.now) }
+{
+    let tokens = match lex(alloc, text) {
+        Ok(tokens) => tokens,
+        Err(LexStop::Fault(place, cause)) => return Err(TextStop::Fault(place, cause)),
+        Err(LexStop::NoMemory) => return Err(TextStop::NoMemory),
+    };
+    match parse(alloc, tokens.as_slice()) {
+        Ok(program) => Ok(program),
+        Err(stop) => Err(refusal(text, tokens.as_slice(), stop)),
+    }
+}
+
+/// The refusal of a text whose tokens are refused.
+fn refusal(text: &[u8], tokens: &[Token], stop: ParseStop) -> TextStop
+    requires listed { HasTokens text.now tokens.now }
+    requires refused { IsRefusal 200 tokens.now stop }
+    ensures { IsTextStop text.now result }
+{
+    match stop {
+        ParseStop::Fault { token, cause } => {
+            let place = place_left(text, tokens, token);
+            TextStop::Fault(place, cause)
+        }
+        ParseStop::NoMemory => TextStop::NoMemory,
+    }
+}
+
+/// The place of the token of this number from 0, or that behind the text's last byte where there are no
+/// more tokens.
+fn place_left(text: &[u8], tokens: &[Token], token: u32) -> Place
+    requires { length text.now ≤ MOST_BYTES }
+    ensures { result ≡ place_left text.now (drop token tokens.now) }
+{
+    match tokens.get(token as usize) {
+        Some(token) => token.place,
+        None => place_behind(FIRST_PLACE, text),
+    }
+}

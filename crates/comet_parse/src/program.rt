@@ -1,0 +1,51 @@
+//! Programs: all the tokens, or the refusal of their list.
+ghost use Rattle.std.specs.Prelude.{◌<◌, ◌^◌, length, IfOk, IfErr};
+ghost use Rattle.comet_syntax.specs.declared.tree.program.Program.{Program as ProgramOf};
+ghost use Rattle.comet_syntax.specs.Spells.{Spells, SpellsAtAnyDepth};
+ghost use Rattle.parse_unique.specs.Bare.{SameProgram};
+ghost use Rattle.comet_parse.specs.Refusals.{IsStop, IsRefusal};
+
+use crate::stop::ParseStop;
+use crate::top::parse_parts;
+use comet_syntax::Token;
+use comet_syntax::tree::Program;
+use parse_base::{Stop, refuse};
+use std::alloc::Global;
+
+/// The program that the tokens spell, with nothing nested deeper than 200: the only one. There are fewer than
+/// 2^32 tokens.
+///
+/// A list that spells none is refused at the first token that can't stand where it stands, or behind the last
+/// token, or at the first one that begins a part nested too deeply. `NoMemory` where there was no memory.
+pub fn parse(alloc: Global, tokens: &[Token]) -> Result<Program, ParseStop>
+    requires { length tokens.now < 2 ^ 32 }
+    ensures spells { IfOk result (λ p. Spells 200 p tokens.now) }
+    ensures only { IfOk result (λ p. (other : ProgramOf) → SpellsAtAnyDepth other tokens.now → SameProgram other p) }
+    ensures refused { IfErr result (λ s. IsRefusal 200 tokens.now s) }
+{
+    match parse_parts(alloc, tokens, 0) {
+        Ok((parts, rest)) => {
+            if rest.is_empty() {
+                Ok(Program { parts })
+            } else {
+                Err(refusal(tokens, refuse(rest)))
+            }
+        }
+        Err(stop) => Err(refusal(tokens, stop)),
+    }
+}
+
+// The refusal of the tokens, where reading stops.
+fn refusal(tokens: &[Token], stop: Stop) -> ParseStop
+    requires few { length tokens.now < 2 ^ 32 }
+    requires stop { IsStop 200 tokens.now stop }
+    ensures { IsRefusal 200 tokens.now result }
+{
+    match stop {
+        Stop::Fault { left, cause } => ParseStop::Fault {
+            token: (tokens.len() - left) as u32,
+            cause,
+        },
+        Stop::NoMemory => ParseStop::NoMemory,
+    }
+}

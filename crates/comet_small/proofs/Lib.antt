@@ -1,0 +1,6 @@
+pub mod Bodies
+pub mod Chains
+pub mod Closing
+pub mod Exits
+pub mod Layers
+pub mod Rows
