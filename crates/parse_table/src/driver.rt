@@ -1,18 +1,29 @@
 //! What a row of the table says: a text, and its tree or its refusal.
 use crate::{placed_tree_text, tree_text};
+use cbl_base::Place;
 use comet_parse::{ParseStop, parse};
 use comet_syntax::tree::Program;
-use comet_syntax::{FormCause, LexStop, lex, place_behind};
-use cbl_base::Place;
+use comet_syntax::{FormCause, LexStop, MOST_BYTES, Token, lex, place_behind};
 use std::alloc::Global;
+use std::cmp::min;
 use std::process::Abort;
-use std::test::Fail;
 
-/// A text that is refused: where, and why.
+/// Why a text has no tree.
 #[derive(Drop)]
 enum Refused {
     At(Place, FormCause),
     NoMemory,
+}
+
+/// The place of the token of this number from 0, or that behind the text's last byte.
+fn place_of(text: &[u8], tokens: &[Token], number: u32) -> Place {
+    match tokens.get(number as usize) {
+        Some(token) => token.place,
+        None => {
+            let shown = &text[..min(text.len(), MOST_BYTES)];
+            place_behind(Place { line: 1, col: 1 }, shown)
+        }
+    }
 }
 
 /// The tree of a text.
@@ -22,16 +33,13 @@ fn read(alloc: Global, text: &[u8]) -> Result<Program, Refused> {
         Err(LexStop::Fault(place, cause)) => return Err(Refused::At(place, cause)),
         Err(LexStop::NoMemory) => return Err(Refused::NoMemory),
     };
-    if tokens.len() > 1_048_576 {
+    if tokens.len() > MOST_BYTES {
         return Err(Refused::NoMemory);
     }
     match parse(alloc, tokens.as_slice()) {
         Ok(program) => Ok(program),
         Err(ParseStop::Fault { token, cause }) => {
-            let place = match tokens.get(token as usize) {
-                Some(found) => found.place,
-                None => place_behind(Place { line: 1, col: 1 }, text),
-            };
+            let place = place_of(text, tokens.as_slice(), token);
             Err(Refused::At(place, cause))
         }
         Err(ParseStop::NoMemory) => Err(Refused::NoMemory),
@@ -52,25 +60,58 @@ fn cause_text(cause: FormCause) -> &'static str {
     }
 }
 
-/// The tree of a text, or its refusal as `line:column: cause`.
-fn answer(alloc: Global, text: &[u8]) -> Result<String, Fail> {
+/// The tree of a text as a text, with its places or without them, or its refusal as `line:column: cause`.
+/// `None` where there was no memory.
+fn answer(alloc: Global, text: &[u8], placed: bool) -> Option<String> {
     let mut out = String::new(alloc);
     match read(alloc, text) {
         Ok(program) => {
-            let written = tree_text(alloc, &program)?;
-            out.push_str(str::from_utf8(written.as_slice())?)?;
+            let written = if placed {
+                placed_tree_text(alloc, &program).ok()?
+            } else {
+                tree_text(alloc, &program).ok()?
+            };
+            out.push_str(str::from_utf8(written.as_slice()).ok()?).ok()?;
         }
         Err(Refused::At(place, cause)) => {
-            write!(out, "{}:{}: {}", place.line, place.col, cause_text(cause))?;
+            write!(out, "{}:{}: {}", place.line, place.col, cause_text(cause)).ok()?;
         }
-        Err(Refused::NoMemory) => out.push_str("no memory")?,
+        Err(Refused::NoMemory) => return None,
     }
-    Ok(out)
+    Some(out)
 }
 
-/// Asserts that a text has this tree, or this refusal as `line:column: cause`.
-pub fn row(rt: &impl Abort, alloc: Global, text: &str, expected: &str) -> Result<(), Fail> {
-    let found = answer(alloc, text.as_bytes())?;
-    assert_eq!(rt; found.as_str(), expected, "at {text}");
-    Ok(())
+/// The rows of a test.
+#[derive(Drop)]
+pub struct Table<'a, R: Abort> {
+    rt: &'a R,
+    pub alloc: Global,
+}
+
+impl<'a, R: Abort> Table<'a, R> {
+    pub fn new(rt: &'a R, alloc: Global) -> Table<'a, R> {
+        Table { rt, alloc }
+    }
+
+    fn compare(&self, text: &[u8], expected: &str, placed: bool) {
+        match answer(self.alloc, text, placed) {
+            Some(found) => assert_eq!(self.rt; found.as_str(), expected),
+            None => assert!(self.rt; false, "no memory for {expected}"),
+        }
+    }
+
+    /// Asserts that a text has this tree, or this refusal.
+    pub fn row(&self, text: &str, expected: &str) {
+        self.compare(text.as_bytes(), expected, false)
+    }
+
+    /// The same of bytes that may not be UTF-8.
+    pub fn bytes_row(&self, text: &[u8], expected: &str) {
+        self.compare(text, expected, false)
+    }
+
+    /// Asserts that a text has this tree with these places.
+    pub fn placed_row(&self, text: &str, expected: &str) {
+        self.compare(text.as_bytes(), expected, true)
+    }
 }
