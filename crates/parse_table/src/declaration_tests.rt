@@ -8,7 +8,8 @@ fn numbers_and_sets(rt: HostRuntime) {
     table.row("int x = 1 + 2;", "(int x = (1 + 2))");
     table.row("int x[R];", "(int x [R])");
     table.row("int x[R] = 0;", "(int x [R] = 0)");
-    table.row("int x[i in R, j in S] = i * j;",
+    table.row(
+        "int x[i in R, j in S] = i * j;",
         "(int x [i in R, j in S] = (i * j))",
     );
     table.row("int x[1..2, S];", "(int x [(1 .. 2), S])");
@@ -45,10 +46,12 @@ fn variables(rt: HostRuntime) {
     table.row("var{int} x(m, R) := 3;", "(var{int} x (m, R) := 3)");
     table.row("var{int} x(m) <- y + 1;", "(var{int} x (m) <- (y + 1))");
     table.row("var{int} x(m)<-3;", "(var{int} x (m) <- 3)");
-    table.row("var{int} x[R](m, D) := d.get();",
+    table.row(
+        "var{int} x[R](m, D) := d.get();",
         "(var{int} x [R] (m, D) := (d .get()))",
     );
-    table.row("inc{int} x[i in R, S](m) <- q[i];",
+    table.row(
+        "inc{int} x[i in R, S](m) <- q[i];",
         "(inc{int} x [i in R, S] (m) <- (q [i]))",
     );
     table.row("var{int} x;", "1:11: unexpected token");
@@ -60,10 +63,12 @@ fn variables(rt: HostRuntime) {
     table.row("var{bool} x(m);", "1:5: unexpected token");
     table.row("var{int}[] x(m);", "1:9: unexpected token");
     table.row("var x(m);", "1:5: unexpected token");
-    table.row("var{set{int}} s(m) <- setof(i in R) (x > i);",
+    table.row(
+        "var{set{int}} s(m) <- setof(i in R) (x > i);",
         "(var{set{int}} s (m) <- (setof (i in R) (paren (x > i))))",
     );
-    table.row("inc{set{int}} s[i in R](m) <- {i};",
+    table.row(
+        "inc{set{int}} s[i in R](m) <- {i};",
         "(inc{set{int}} s [i in R] (m) <- {i})",
     );
     table.row("var{set{int}} s(m);", "1:19: unexpected token");
@@ -79,22 +84,28 @@ fn objects(rt: HostRuntime) {
     table.row("LocalSolver m();", "(LocalSolver m())");
     table.row("ConstraintSystem<LS> S(m);", "(ConstraintSystem<LS> S(m))");
     table.row("ConstraintSystem S(m);", "(ConstraintSystem S(m))");
-    table.row("FunctionExpr<LS> f(x + 1);", "(FunctionExpr<LS> f((x + 1)))");
+    table.row(
+        "FunctionExpr<LS> f(x + 1);",
+        "(FunctionExpr<LS> f((x + 1)))",
+    );
     table.row("FunctionExpr f(x);", "(FunctionExpr f(x))");
     table.row("FunctionSum<LS> f(m);", "(FunctionSum<LS> f(m))");
     table.row("FunctionSum f(m);", "(FunctionSum f(m))");
-    table.row("UniformDistribution d(1..3);",
+    table.row(
+        "UniformDistribution d(1..3);",
         "(UniformDistribution d((1 .. 3)))",
     );
     table.row("InputFile f(\"data\", 1);", "(InputFile f(\"data\", 1))");
     table.row("MinNeighborSelector N();", "(MinNeighborSelector N())");
     table.row("BestMonitor B();", "(BestMonitor B())");
     table.row("Solution s(m);", "(Solution s(m))");
-    table.row("Solution s = new Solution(m);",
+    table.row(
+        "Solution s = new Solution(m);",
         "(Solution s = new Solution(m))",
     );
     // which class is made isn't the grammar's matter
-    table.row("Solver<LS> m = new ConstraintSystem<A>(\"b\", 1);",
+    table.row(
+        "Solver<LS> m = new ConstraintSystem<A>(\"b\", 1);",
         "(Solver<LS> m = new ConstraintSystem<A>(\"b\", 1))",
     );
     table.row("Solver m();", "1:8: unexpected token");

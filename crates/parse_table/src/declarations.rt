@@ -9,11 +9,7 @@ use comet_syntax::tree::{
 };
 
 /// Writes a word, and a name in angle brackets where there is one.
-pub fn write_generic(
-    writer: &mut Writer,
-    word: &str,
-    name: Option<&Name>,
-) -> Result<(), NoMemory> {
+pub fn write_generic(writer: &mut Writer, word: &str, name: Option<&Name>) -> Result<(), NoMemory> {
     writer.words(word)?;
     match name {
         Some(name) => {
@@ -65,10 +61,7 @@ fn write_dimension(writer: &mut Writer, dimension: &Dimension) -> Result<(), NoM
 }
 
 /// Writes ` [dimension, dimension]`, where there are dimensions.
-fn write_dimensions(
-    writer: &mut Writer,
-    dimensions: Option<&Dimensions>,
-) -> Result<(), NoMemory> {
+fn write_dimensions(writer: &mut Writer, dimensions: Option<&Dimensions>) -> Result<(), NoMemory> {
     let Some(dimensions) = dimensions else {
         return Ok(());
     };
@@ -82,12 +75,7 @@ fn write_dimensions(
 }
 
 /// Writes `(word name`.
-fn write_head(
-    writer: &mut Writer,
-    word: &str,
-    place: Place,
-    name: &Name,
-) -> Result<(), NoMemory> {
+fn write_head(writer: &mut Writer, word: &str, place: Place, name: &Name) -> Result<(), NoMemory> {
     writer.mark(word, place)?;
     writer.words_name(" ", name)
 }
@@ -158,10 +146,7 @@ fn write_object(
 }
 
 /// Writes a declaration.
-pub fn write_declaration(
-    writer: &mut Writer,
-    declaration: &Declaration,
-) -> Result<(), NoMemory> {
+pub fn write_declaration(writer: &mut Writer, declaration: &Declaration) -> Result<(), NoMemory> {
     match declaration {
         Declaration::Int {
             place,

@@ -219,8 +219,14 @@ fn statements(rt: HostRuntime) -> Result<(), Fail> {
     // the block of a function has depth 1
     tree_row(&table, FUNCTION, FUNCTION_TREE, 199)?;
     refusal_row(&table, FUNCTION, 200, "1:219: nested too deeply")?;
-    // the test of the 200th `if` is too deep
+    Ok(())
+}
+
+#[test]
+fn branches(rt: HostRuntime) -> Result<(), Fail> {
+    let table = Table::new(&rt, rt.alloc());
     tree_row(&table, BRANCHES, BRANCHES_TREE, 199)?;
+    // the test of the 200th `if` is too deep
     refusal_row(&table, BRANCHES, 200, "1:1398: nested too deeply")?;
     Ok(())
 }

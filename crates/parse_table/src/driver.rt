@@ -1,4 +1,5 @@
 //! What a row of the table says: a text, and its tree or its refusal.
+use crate::writer::Places;
 use crate::{placed_tree_text, tree_text};
 use cbl_base::Place;
 use comet_parse::{ParseStop, parse};
@@ -62,14 +63,13 @@ fn cause_text(cause: FormCause) -> &'static str {
 
 /// The tree of a text as a text, with its places or without them, or its refusal as `line:column: cause`.
 /// `None` where there was no memory.
-fn answer(alloc: Global, text: &[u8], placed: bool) -> Option<String> {
+fn answer(alloc: Global, text: &[u8], places: Places) -> Option<String> {
     let mut out = String::new(alloc);
     match read(alloc, text) {
         Ok(program) => {
-            let written = if placed {
-                placed_tree_text(alloc, &program).ok()?
-            } else {
-                tree_text(alloc, &program).ok()?
+            let written = match places {
+                Places::Omitted => tree_text(alloc, &program).ok()?,
+                Places::Written => placed_tree_text(alloc, &program).ok()?,
             };
             out.push_str(str::from_utf8(written.as_slice()).ok()?).ok()?;
         }
@@ -93,25 +93,37 @@ impl<'a, R: Abort> Table<'a, R> {
         Table { rt, alloc }
     }
 
-    fn compare(&self, text: &[u8], expected: &str, placed: bool) {
-        match answer(self.alloc, text, placed) {
-            Some(found) => assert_eq!(self.rt; found.as_str(), expected),
-            None => assert!(self.rt; false, "no memory for {expected}"),
+    fn compare(&self, found: Option<String>, expected: &str, text: &str) {
+        match found {
+            Some(found) => assert_eq!(self.rt; found.as_str(), expected, "at {text}"),
+            None => assert!(self.rt; false, "no memory at {text}"),
         }
     }
 
     /// Asserts that a text has this tree, or this refusal.
     pub fn row(&self, text: &str, expected: &str) {
-        self.compare(text.as_bytes(), expected, false)
+        self.compare(
+            answer(self.alloc, text.as_bytes(), Places::Omitted),
+            expected,
+            text,
+        )
     }
 
-    /// The same of bytes that may not be UTF-8.
+    /// Asserts that bytes that may not be UTF-8 have this refusal.
     pub fn bytes_row(&self, text: &[u8], expected: &str) {
-        self.compare(text, expected, false)
+        self.compare(
+            answer(self.alloc, text, Places::Omitted),
+            expected,
+            expected,
+        )
     }
 
     /// Asserts that a text has this tree with these places.
     pub fn placed_row(&self, text: &str, expected: &str) {
-        self.compare(text.as_bytes(), expected, true)
+        self.compare(
+            answer(self.alloc, text.as_bytes(), Places::Written),
+            expected,
+            text,
+        )
     }
 }

@@ -27,12 +27,8 @@ fn binding_levels(rt: HostRuntime) {
     table.row("x = 1..2 + 3..4;", "1:13: unexpected token");
     // a conditional is the weakest, and groups to the right
     table.row("x = a || b ? c : d;", "(x = ((a || b) ? c : d))");
-    table.row("x = a ? b : c ? d : e;",
-        "(x = (a ? b : (c ? d : e)))",
-    );
-    table.row("x = a ? b ? c : d : e;",
-        "(x = (a ? (b ? c : d) : e))",
-    );
+    table.row("x = a ? b : c ? d : e;", "(x = (a ? b : (c ? d : e)))");
+    table.row("x = a ? b ? c : d : e;", "(x = (a ? (b ? c : d) : e))");
     table.row("x = a ? b || c : d..e;", "(x = (a ? (b || c) : (d .. e)))");
     table.row("x = a ? b;", "1:10: unexpected token");
     table.row("x = a ? : b;", "1:9: unexpected token");
@@ -93,12 +89,17 @@ fn calls_and_suffixes(rt: HostRuntime) {
     table.row("x = a[1](2);", "1:9: unexpected token");
     table.row("x = a[1][2];", "(x = (a [1] [2]))");
     table.row("x = a[1, 2];", "(x = (a [1, 2]))");
-    table.row("x = a[i + 1, j ? 1 : 2];", "(x = (a [(i + 1), (j ? 1 : 2)]))");
+    table.row(
+        "x = a[i + 1, j ? 1 : 2];",
+        "(x = (a [(i + 1), (j ? 1 : 2)]))",
+    );
     table.row("x = a[];", "1:7: unexpected token");
     table.row("x = a[1, 2, 3];", "1:11: unexpected token");
     table.row("x = a[\"b\"];", "1:7: unexpected token");
+    table.row("x = a[i in R];", "1:9: unexpected token");
     table.row("x = S.violations();", "(x = (S .violations()))");
-    table.row("x = S.f(\"a\", b).g()[1, 2].h(3);",
+    table.row(
+        "x = S.f(\"a\", b).g()[1, 2].h(3);",
         "(x = (S .f(\"a\", b) .g() [1, 2] .h(3)))",
     );
     table.row("x = a.b;", "1:8: unexpected token");

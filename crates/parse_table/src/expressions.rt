@@ -1,9 +1,9 @@
 //! Expressions: each operation in parentheses, each literal and call as in a program.
 use crate::part::{Part, comma_before, push};
-use crate::writer::Writer;
 use crate::words::{
     aggregate_word, chain_operator, comparison_operator, extreme_word, truth_word, unary_operator,
 };
+use crate::writer::Writer;
 use cbl_base::{NoMemory, Place};
 use comet_syntax::tree::{Argument, Expression, Generator, Generators, Link, Name, Suffix};
 
@@ -266,10 +266,7 @@ fn push_suffixes<'a>(todo: &mut Vec<Part<'a>>, suffixes: &'a [Suffix]) -> Result
 }
 
 /// The first argument, and the rest behind a comma.
-fn push_arguments<'a>(
-    todo: &mut Vec<Part<'a>>,
-    arguments: &'a [Argument],
-) -> Result<(), NoMemory> {
+fn push_arguments<'a>(todo: &mut Vec<Part<'a>>, arguments: &'a [Argument]) -> Result<(), NoMemory> {
     let Some(argument) = arguments.first() else {
         return Ok(());
     };

@@ -54,7 +54,8 @@ fn postfix_forms_and_new(rt: HostRuntime) {
     // `new` stands behind a name and `=`
     table.row("x = new Solution(m);", "(x = new Solution(m))");
     table.row("m = new Solver<LS>();", "(m = new Solver<LS>())");
-    table.row("f = new InputFile(\"a\", b);",
+    table.row(
+        "f = new InputFile(\"a\", b);",
         "(f = new InputFile(\"a\", b))",
     );
     table.row("a[1] = new Solution(m);", "1:8: unexpected token");
@@ -72,7 +73,10 @@ fn printing_and_moves(rt: HostRuntime) {
     let table = Table::new(&rt, rt.alloc());
     table.row("cout << 1 << endl;", "(cout << 1 << endl)");
     table.row("cout << \"a\" << x + 1;", "(cout << \"a\" << (x + 1))");
-    table.row("cout << a < b << c ? 1 : 2;", "(cout << (a < b) << (c ? 1 : 2))");
+    table.row(
+        "cout << a < b << c ? 1 : 2;",
+        "(cout << (a < b) << (c ? 1 : 2))",
+    );
     table.row("cout << endl << endl;", "(cout << endl << endl)");
     table.row("cout;", "1:5: unexpected token");
     table.row("cout << ;", "1:9: unexpected token");

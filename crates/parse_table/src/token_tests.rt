@@ -18,9 +18,7 @@ fn tokens_of_programs(rt: HostRuntime) {
     table.row("x = 1 /* 2;", "1:7: bad token");
     table.row("x = 1;\n// \u{e9}\n  y = 2 3;", "3:9: unexpected token");
     // strings
-    table.row("cout << \"a\\n\\t\\\"\\\\b\";",
-        "(cout << \"a\n\t\"\\b\")",
-    );
+    table.row("cout << \"a\\n\\t\\\"\\\\b\";", "(cout << \"a\n\t\"\\b\")");
     table.row("cout << \"/* \u{e9} //\";", "(cout << \"/* \u{e9} //\")");
     table.row("cout << \"\";", "(cout << \"\")");
     table.row("cout << \"a;", "1:9: bad token");
@@ -46,9 +44,7 @@ fn tokens_of_programs(rt: HostRuntime) {
 #[test]
 fn numbers(rt: HostRuntime) {
     let table = Table::new(&rt, rt.alloc());
-    table.row("x = 9223372036854775807;",
-        "(x = 9223372036854775807)",
-    );
+    table.row("x = 9223372036854775807;", "(x = 9223372036854775807)");
     table.row("x = 000;", "(x = 0)");
     table.row("int x = 9999999999999999999;", "1:9: number too wide");
     table.row("x = 9223372036854775808;", "1:5: number too wide");

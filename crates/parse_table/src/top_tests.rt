@@ -7,7 +7,8 @@ fn top_parts(rt: HostRuntime) {
     table.row("", "");
     table.row("import cotls;", "(import cotls)");
     table.row("include \"LocalSolver\";", "(include \"LocalSolver\")");
-    table.row("x = 1; import a; include \"b\"; ;",
+    table.row(
+        "x = 1; import a; include \"b\"; ;",
         "(x = 1) (import a) (include \"b\") ;",
     );
     table.row("import \"a\";", "1:8: unexpected token");
@@ -16,13 +17,16 @@ fn top_parts(rt: HostRuntime) {
     table.row("{ import a; }", "1:3: unexpected token");
     table.row("if (a) include \"b\";", "1:8: unexpected token");
     table.row("function void f() {}", "(function void f() { })");
-    table.row("function int f(int a, int[] b, bool c, range d, set{int} e) { return a; }",
+    table.row(
+        "function int f(int a, int[] b, bool c, range d, set{int} e) { return a; }",
         "(function int f(int a, int[] b, bool c, range d, set{int} e) { (return a) })",
     );
-    table.row("function bool f(var{int} x, inc{int} y, var{int}[] z, inc{int}[] w) {}",
+    table.row(
+        "function bool f(var{int} x, inc{int} y, var{int}[] z, inc{int}[] w) {}",
         "(function bool f(var{int} x, inc{int} y, var{int}[] z, inc{int}[] w) { })",
     );
-    table.row("function void f(Solver<LS> m, LocalSolver n, ConstraintSystem<LS> S, ConstraintSystem T, BestMonitor B) {}",
+    table.row(
+        "function void f(Solver<LS> m, LocalSolver n, ConstraintSystem<LS> S, ConstraintSystem T, BestMonitor B) {}",
         "(function void f(Solver<LS> m, LocalSolver n, ConstraintSystem<LS> S, ConstraintSystem T, BestMonitor B) { })",
     );
     table.row("function void f() {} f();", "(function void f() { }) f()");
@@ -35,7 +39,10 @@ fn top_parts(rt: HostRuntime) {
     table.row("function void f() ;", "1:19: unexpected token");
     table.row("function void f(bool[] b) {}", "1:21: unexpected token");
     table.row("function void f(int[3] b) {}", "1:21: unexpected token");
-    table.row("function void f(var{set{int}} s) {}", "1:21: unexpected token");
+    table.row(
+        "function void f(var{set{int}} s) {}",
+        "1:21: unexpected token",
+    );
     table.row("function void f(Solver m) {}", "1:24: unexpected token");
     table.row("function void f(Solution s) {}", "1:17: unexpected token");
     table.row("{ function void f() {} }", "1:3: unexpected token");
