@@ -89,6 +89,7 @@ pub struct Table<'a, R: Abort> {
 }
 
 impl<'a, R: Abort> Table<'a, R> {
+    /// A table whose rows are asserted by this handle.
     pub fn new(rt: &'a R, alloc: Global) -> Table<'a, R> {
         Table { rt, alloc }
     }
@@ -109,7 +110,7 @@ impl<'a, R: Abort> Table<'a, R> {
         )
     }
 
-    /// Asserts that bytes that may not be UTF-8 have this refusal.
+    /// The same of bytes that may not be UTF-8.
     pub fn bytes_row(&self, text: &[u8], expected: &str) {
         self.compare(
             answer(self.alloc, text, Places::Omitted),

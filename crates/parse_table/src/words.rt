@@ -4,6 +4,7 @@ use comet_syntax::tree::{
     WithMode, WriteOperator,
 };
 
+/// The sign of an operator of a chain.
 pub fn chain_operator(operator: ChainOperator) -> &'static str {
     match operator {
         ChainOperator::Or => "||",
@@ -16,6 +17,7 @@ pub fn chain_operator(operator: ChainOperator) -> &'static str {
     }
 }
 
+/// The sign of a comparison.
 pub fn comparison_operator(comparison: Comparison) -> &'static str {
     match comparison {
         Comparison::Equal => "==",
@@ -27,7 +29,7 @@ pub fn comparison_operator(comparison: Comparison) -> &'static str {
     }
 }
 
-/// Behind an opening parenthesis.
+/// The sign of an operator in front, behind an opening parenthesis.
 pub fn unary_operator(operator: UnaryOperator) -> &'static str {
     match operator {
         UnaryOperator::Negative => "(-",
@@ -35,6 +37,7 @@ pub fn unary_operator(operator: UnaryOperator) -> &'static str {
     }
 }
 
+/// The keyword of an extreme of two.
 pub fn extreme_word(extreme: Extreme) -> &'static str {
     match extreme {
         Extreme::Min => "min",
@@ -42,7 +45,7 @@ pub fn extreme_word(extreme: Extreme) -> &'static str {
     }
 }
 
-/// Behind an opening parenthesis.
+/// The keyword of a selector with a key, behind an opening parenthesis.
 pub fn selector_word(extreme: Extreme) -> &'static str {
     match extreme {
         Extreme::Min => "(selectMin",
@@ -50,7 +53,7 @@ pub fn selector_word(extreme: Extreme) -> &'static str {
     }
 }
 
-/// Behind an opening parenthesis.
+/// The keyword of an aggregate, behind an opening parenthesis.
 pub fn aggregate_word(aggregate: Aggregate) -> &'static str {
     match aggregate {
         Aggregate::Sum => "(sum",
@@ -65,10 +68,12 @@ pub fn aggregate_word(aggregate: Aggregate) -> &'static str {
     }
 }
 
+/// The keyword of a truth value.
 pub fn truth_word(value: bool) -> &'static str {
     if value { "true" } else { "false" }
 }
 
+/// The keyword of a type of incremental variables.
 pub fn incremental_word(word: Incremental) -> &'static str {
     match word {
         Incremental::Var => "var",
@@ -76,6 +81,7 @@ pub fn incremental_word(word: Incremental) -> &'static str {
     }
 }
 
+/// The keyword of what a function gives.
 pub fn kind_word(kind: ResultKind) -> &'static str {
     match kind {
         ResultKind::Void => "void",
@@ -84,7 +90,7 @@ pub fn kind_word(kind: ResultKind) -> &'static str {
     }
 }
 
-/// Behind an opening parenthesis.
+/// The keywords of a `with`, behind an opening parenthesis.
 pub fn with_words(mode: WithMode) -> &'static str {
     match mode {
         WithMode::Atomic => "(with atomic",
@@ -92,6 +98,7 @@ pub fn with_words(mode: WithMode) -> &'static str {
     }
 }
 
+/// The sign of a write, with a space before and behind it.
 pub fn write_operator(operator: WriteOperator) -> &'static str {
     match operator {
         WriteOperator::Set => " = ",
@@ -102,6 +109,7 @@ pub fn write_operator(operator: WriteOperator) -> &'static str {
     }
 }
 
+/// The sign of a step behind a space, and a closing parenthesis.
 pub fn step_operator(step: Step) -> &'static str {
     match step {
         Step::Increment => " ++)",

@@ -20,6 +20,7 @@ pub struct Writer {
 }
 
 impl Writer {
+    /// Writes bytes as they stand.
     pub fn bytes(&mut self, bytes: &[u8]) -> Result<(), NoMemory> {
         for byte in bytes {
             self.out.push(*byte)?;
@@ -45,6 +46,7 @@ impl Writer {
         self.words("\"")
     }
 
+    /// Writes a name, and its place behind it.
     pub fn name(&mut self, name: &Name) -> Result<(), NoMemory> {
         self.bytes(name.text.as_slice())?;
         self.place(name.place)
@@ -56,6 +58,7 @@ impl Writer {
         self.name(name)
     }
 
+    /// Writes a number in decimal.
     pub fn number(&mut self, value: i64) -> Result<(), NoMemory> {
         let mut buffer = Buffer::new();
         self.words(buffer.format(value))
