@@ -163,6 +163,51 @@ fn blocks(rt: HostRuntime) -> Result<(), Fail> {
     Ok(())
 }
 
+#[test]
+fn heads(rt: HostRuntime) -> Result<(), Fail> {
+    let table = Table::new(&rt, rt.alloc());
+    // the simple statement in a `for` is no part of its own
+    let step = Levels {
+        between: "for (;; x++) ;",
+        ..BRACES
+    };
+    let step_tree = Levels {
+        between: "(for (;; (x ++)) ;)",
+        ..BRACES_TREE
+    };
+    tree_row(&table, step, step_tree, 198)?;
+    refusal_row(&table, step, 199, "1:208: nested too deeply")?;
+    // a generator is a part, and its expression is none deeper
+    let over = Levels {
+        between: "forall (i in R) ;",
+        ..BRACES
+    };
+    let over_tree = Levels {
+        between: "(forall (i in R) ;)",
+        ..BRACES_TREE
+    };
+    tree_row(&table, over, over_tree, 198)?;
+    refusal_row(&table, over, 199, "1:208: nested too deeply")?;
+    // so is what stands in the brackets of a declaration
+    let dimension = Levels {
+        between: "int x[i in R];",
+        ..BRACES
+    };
+    let dimension_tree = Levels {
+        between: "(int x [i in R])",
+        ..BRACES_TREE
+    };
+    tree_row(&table, dimension, dimension_tree, 198)?;
+    refusal_row(&table, dimension, 199, "1:206: nested too deeply")?;
+    // the name in a `parall` is none
+    let shares = Levels {
+        between: "parall (i in R) ;",
+        ..BRACES
+    };
+    refusal_row(&table, shares, 199, "1:213: nested too deeply")?;
+    Ok(())
+}
+
 const ENDS: Levels = Levels {
     before: "",
     open: "{",
