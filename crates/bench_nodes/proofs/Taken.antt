@@ -1,12 +1,9 @@
--- Nodes of numbers take numbers.
-use Rattle.std.proofs.Common.{◌≡◌, ◌+◌, ℕ, ℤ, Bool, true, List, length, refl, ap, sym, ◌∙◌, subst}
+-- Inputs made of numbers are numbers, and a total takes them.
+use Rattle.std.proofs.Common.{◌≡◌, ◌+◌, ℕ, ℤ, Bool, true, List, length, refl, ap, sym, ◌∙◌, subst, eq-eqb}
 use Rattle.std.specs.Prelude.{IsTrue, ◌&&◌, ◌==◌}
-use Rattle.std.proofs.Common.{eq-eqb}
 use Rattle.cbl_base.specs.declared.input.Input.{Input}
-use Rattle.cbl_base.specs.Inputs.{InputKind, kinds_of, all_numbers, as_inputs}
-use Rattle.cbl_base.specs.NumberRule.{NumberRule, rule_of_numbers}
+use Rattle.cbl_base.specs.Inputs.{kinds_of, all_numbers, as_inputs}
 use Rattle.cbl_base.proofs.InputLemmas.{all_numbers-as_inputs, length-kinds_of}
-use Rattle.cbl_operations.specs.SetForms.{rule_of_keys}
 use Rattle.cbl_violations.specs.Violations.WeightedTotal.{weighted_total}
 use Rattle.bench_nodes.specs.RoundTrips.{AreNumbers}
 use Rattle.std.proofs.lemmas.List.{length-map}
@@ -14,14 +11,6 @@ use Rattle.cbl_base.specs.declared.input.Input.TheVariants.{Int}
 
 both : (a b : Bool) → a ≡ true → b ≡ true → IsTrue (a && b)
 both a b x y = rw (x, y) refl
-
-pub takes_numbers : (rule : NumberRule) (count : ℕ) (inputs : List Input) → AreNumbers count inputs → rule.takes count ≡ true → IsTrue ((rule_of_numbers rule).takes (kinds_of inputs))
-takes_numbers rule count inputs are takes =
-    both (all_numbers (kinds_of inputs)) (rule.takes (length (kinds_of inputs))) are.numbers (ap rule.takes are.as_many ∙ takes)
-
-pub takes_keys : (keys : List ℤ) (f : List ℤ → List ℤ) (count : ℕ) (inputs : List Input) → AreNumbers count inputs → length keys ≡ count → IsTrue ((rule_of_keys keys f).takes (kinds_of inputs))
-takes_keys keys f count inputs are long =
-    both (all_numbers (kinds_of inputs)) (length (kinds_of inputs) == length keys) are.numbers (eq-eqb (length (kinds_of inputs)) (length keys) (are.as_many ∙ sym long))
 
 pub numbers_taken : (xs : List ℤ) (count : ℕ) (inputs : List Input) → inputs ≡ as_inputs xs → length xs ≡ count → AreNumbers count inputs
 numbers_taken xs count inputs are long = record {

@@ -1,5 +1,5 @@
 -- A change and the change back leave all as it was.
-use Rattle.std.proofs.Common.{inl, inr, ◌≡◌, ℕ, zero, suc, ℤ, ◌<◌, true, false, List, [], ◌∷◌, length, get_or, set, refl, ap, sym, ◌∙◌, subst, arith}
+use Rattle.std.proofs.Common.{inl, inr, ◌≡◌, ℕ, zero, suc, ℤ, ◌<◌, true, false, List, [], ◌∷◌, set, refl, ap, sym, ◌∙◌, subst, arith}
 use Rattle.std.specs.Prelude.{pos, not, ◌&&◌, ◌||◌, Some, slice_get}
 use Rattle.std.specs.Ordering.{int_eq}
 use Rattle.std.proofs.lemmas.Bool.{cases_Bool}
@@ -45,7 +45,6 @@ set_there_and_back : (inputs : List Input) (trip : RoundTrip) (place : ℕ) (s t
     → without_members r (with_members a s) ≡ t → without_members a (with_members r t) ≡ s
     → AreNoMembers a s × AreMembers r s → AreNoMembers r t × AreMembers a t → IsRoundTrip inputs trip
 set_there_and_back inputs trip place s t a r at f b is_t is_s fits fits' =
-    let middle : List Input = set inputs place (Set t) in
     let after : after_changes inputs trip.forth.items ≡ set inputs place (Set t) = ap (λ cs. after_changes inputs cs) f ∙ set_written inputs place a r s at ∙ ap (λ u. set inputs place (Set u)) is_t in
     let at' : slice_get (set inputs place (Set t)) place ≡ Some (Set t) = read_written inputs place (Set s) (Set t) at in
     record {
