@@ -139,6 +139,7 @@ fn trip_at(
 fn member_trip(alloc: Global, place: u32, set: &IntSet, member: i64) -> Result<RoundTrip, NoMemory>
     ensures { IfOk result (λ trip. (inputs : List Input) → slice_get inputs place ≡ Some (Set set.now) → IsRoundTrip inputs trip) }
 {
+    // what it ensures says that the members rise
     let _rising = set.as_slice();
     if set.contains(member) {
         let loses = set_trip(alloc, place, &[], &[member])?;
