@@ -1,2 +1,4 @@
-pub mod Behind
+pub mod Building
+pub mod Keeping
+pub mod Made
 pub mod Refusals

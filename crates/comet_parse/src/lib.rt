@@ -5,11 +5,11 @@
 //! that it refuses a list at the token and for the cause that the definition of a refusal names.
 #![tactic(auto)]
 
+mod building;
+mod keeping;
 pub mod laws;
-mod parameters;
 mod program;
 mod stop;
-mod top;
 
 pub use program::parse;
 pub use stop::ParseStop;

@@ -2,14 +2,16 @@
 ghost use Rattle.std.specs.Prelude.{◌<◌, ◌^◌, length, IfOk, IfErr};
 ghost use Rattle.comet_syntax.specs.declared.tree.program.Program.{Program as ProgramOf};
 ghost use Rattle.comet_syntax.specs.Spells.{Spells, SpellsAtAnyDepth};
+ghost use Rattle.parse_machine.specs.Listing.{IsStop};
 ghost use Rattle.parse_unique.specs.Bare.{SameProgram};
-ghost use Rattle.comet_parse.specs.Refusals.{IsStop, IsRefusal};
+ghost use Rattle.comet_parse.specs.Refusals.{IsRefusal};
 
+use crate::building::build;
 use crate::stop::ParseStop;
-use crate::top::parse_parts;
 use comet_syntax::Token;
 use comet_syntax::tree::Program;
-use parse_base::{Stop, refuse};
+use parse_base::Stop;
+use parse_machine::list;
 use std::alloc::Global;
 
 /// The program that the tokens spell, with nothing nested deeper than 200: the only one. There are fewer than
@@ -23,14 +25,11 @@ pub fn parse(alloc: Global, tokens: &[Token]) -> Result<Program, ParseStop>
     ensures only { IfOk result (λ p. (other : ProgramOf) → SpellsAtAnyDepth other tokens.now → SameProgram other p) }
     ensures refused { IfErr result (λ s. IsRefusal 200 tokens.now s) }
 {
-    match parse_parts(alloc, tokens, 0) {
-        Ok((parts, rest)) => {
-            if rest.is_empty() {
-                Ok(Program { parts })
-            } else {
-                Err(refusal(tokens, refuse(rest)))
-            }
-        }
+    match list(alloc, tokens) {
+        Ok(log) => match build(alloc, log, tokens) {
+            Ok(program) => Ok(program),
+            Err(_) => Err(ParseStop::NoMemory),
+        },
         Err(stop) => Err(refusal(tokens, stop)),
     }
 }

@@ -101,7 +101,7 @@ is_postfix e primary all is = ap bare_expression (is ∙ sym (trees.rolls-Postfi
 pub is_method : (s : Suffix) (n : Name) (a : Vec Argument Global) → s ≡ suffixes.Method n a → bare_suffix s ≡ bares.method n (listed (map bare_argument a.items))
 is_method s n a is = ap bare_suffix (is ∙ sym (suffixes.rolls-Method n a)) ∙ suffix_rolled (layers.Method n a)
 
-pub is_declaration : (s : Statement) (d : Declaration) → s ≡ statements.Declaration d → bare_statement s ≡ bares.declaration (bare_declaration d)
+pub is_declaration : (s : Statement) (d : Box Declaration Global) → s ≡ statements.Declaration d → bare_statement s ≡ bares.declaration (bare_declaration d.value)
 is_declaration s d is = ap bare_statement (is ∙ sym (statements.rolls-Declaration d)) ∙ statement_rolled (forms.Declaration d)
 
 pub is_simple : (s : Statement) (x : Simple) → s ≡ statements.Simple x → bare_statement s ≡ bares.simple (bare_simple x)
@@ -122,7 +122,7 @@ no_method s h = every_suffix (λ b. method_in b ≡ None) s at
     at (layers.Method n a) is = absurd (h n a (sym is ∙ suffixes.rolls-Method n a))
     at z is = refl
 
-pub no_declaration : (s : Statement) → ((d : Declaration) → s ≡ statements.Declaration d → ⊥) → declared_in (bare_statement s) ≡ None
+pub no_declaration : (s : Statement) → ((d : Box Declaration Global) → s ≡ statements.Declaration d → ⊥) → declared_in (bare_statement s) ≡ None
 no_declaration s h = every_statement (λ b. declared_in b ≡ None) s at
   where
     at : (z : StatementLayer) → roll-Statement z ≡ s → declared_in (bare_statement_layer z) ≡ None

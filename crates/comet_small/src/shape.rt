@@ -81,7 +81,7 @@ fn declared_in(statement: &Statement) -> Option<&Declaration>
     ensures { option_map (λ declaration. bare_declaration declaration.now) result ≡ shapes.declared_in (bare_statement statement.now) }
 {
     match statement {
-        Statement::Declaration(declaration) => Some(declaration),
+        Statement::Declaration(declaration) => Some(&**declaration),
         _ => None,
     }
 }

@@ -130,3 +130,7 @@ undone_form n body Made fits d items a b L may s u = takes_gives body a (λ v c.
     let h : Level n m.0 × (form n body ∷ texts body v k.0 ≡ text n m.0 k.0) = fits v m.0 k.2 m.1 k.0 (subst (MayStand n body) k.1 may) in
     (m.0, stack n c, m.2.0, (k.0, ap (λ z. form n body ∷ z) k.1 ∙ h.1, h.0, subst (λ z. Stands items z k.0) (sym m.2.1) k.3)))
     (takes_both body a (Stood body items L) (λ v c. (x : Value n) × Made v x × Puts n x c b) (splits body d items a L s) u)
+
+-- the values of a form's symbols stand there
+pub ready_form : (body : List Symbol) (d : ℕ) (items : List Item) (a : State) (L : List Shown) → Stands (push body d items) a L → Takes body a (λ v b. Unit {0})
+ready_form body d items a L s = takes_then body a (Stood body items L) (λ v b. Unit {0}) (λ v c q. tt) (splits body d items a L s)

@@ -11,6 +11,7 @@ use comet_syntax::tree::{
     Generator, Generators, Item, Link, Maker, Name, Parameter, ResultKind, Simple, Statement,
     Suffix, TopPart, VariableStart, WithMode,
 };
+use std::alloc::Global;
 
 /// A stack for each type of value. Lists stand in theirs the last member first.
 #[derive(Drop)]
@@ -65,6 +66,64 @@ pub struct Stacks {
     pub writes: Vec<WriteRest>,
     pub items: Vec<Item>,
     pub item_lists: Vec<Vec<Item>>,
+}
+
+impl Stacks {
+    /// Empty stacks.
+    pub fn new(alloc: Global) -> Stacks {
+        Stacks {
+            places: Vec::new(alloc),
+            names: Vec::new(alloc),
+            texts: Vec::new(alloc),
+            expressions: Vec::new(alloc),
+            optional: Vec::new(alloc),
+            links: Vec::new(alloc),
+            compared: Vec::new(alloc),
+            up_to: Vec::new(alloc),
+            branches: Vec::new(alloc),
+            called: Vec::new(alloc),
+            suffixes: Vec::new(alloc),
+            lists: Vec::new(alloc),
+            arguments: Vec::new(alloc),
+            pairs: Vec::new(alloc),
+            pair_rests: Vec::new(alloc),
+            all_generators: Vec::new(alloc),
+            generator_lists: Vec::new(alloc),
+            generators: Vec::new(alloc),
+            templates: Vec::new(alloc),
+            classes: Vec::new(alloc),
+            declarations: Vec::new(alloc),
+            int_rests: Vec::new(alloc),
+            variable_rests: Vec::new(alloc),
+            variable_starts: Vec::new(alloc),
+            makers: Vec::new(alloc),
+            all_dimensions: Vec::new(alloc),
+            second_dimensions: Vec::new(alloc),
+            dimensions: Vec::new(alloc),
+            dimension_rests: Vec::new(alloc),
+            programs: Vec::new(alloc),
+            tops: Vec::new(alloc),
+            results: Vec::new(alloc),
+            parameter_lists: Vec::new(alloc),
+            parameters: Vec::new(alloc),
+            parameter_types: Vec::new(alloc),
+            brackets: Vec::new(alloc),
+            blocks: Vec::new(alloc),
+            statement_lists: Vec::new(alloc),
+            statements: Vec::new(alloc),
+            otherwise: Vec::new(alloc),
+            for_starts: Vec::new(alloc),
+            for_steps: Vec::new(alloc),
+            events: Vec::new(alloc),
+            modes: Vec::new(alloc),
+            simples: Vec::new(alloc),
+            named_rests: Vec::new(alloc),
+            new_values: Vec::new(alloc),
+            writes: Vec::new(alloc),
+            items: Vec::new(alloc),
+            item_lists: Vec::new(alloc),
+        }
+    }
 }
 
 /// Takes the top of a stack.

@@ -1,8 +1,0 @@
-use Rattle.parse_expressions.proofs.Trees.{written_suffix_index, written_suffix_cell}
-use Rattle.parse_expressions.proofs.make.make_index.Goals as goal
-
-pub returns-in-None : goal.returns-in-None
-returns-in-None c = rw c.in-None.is (written_suffix_index c.args.place c.args.index)
-
-pub returns-in-Some : goal.returns-in-Some
-returns-in-Some c = rw c.in-Some.is (written_suffix_cell c.args.place c.args.index c.in-Some.second)

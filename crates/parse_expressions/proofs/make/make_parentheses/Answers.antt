@@ -1,8 +1,0 @@
-use Rattle.std.proofs.Common.{ap, ◌∙◌}
-use Rattle.comet_syntax.specs.Written.Expressions.{written, parentheses}
-use Rattle.parse_expressions.proofs.Trees.{written_parentheses}
-use Rattle.parse_expressions.proofs.make.make_parentheses.Goals as goal
-
-pub returns-clause-ok : goal.returns-clause-ok
-returns-clause-ok c = written_parentheses c.args.place c.in_ok-inner.inner
-    ∙ ap (λ x. parentheses c.args.place (written x)) c.in_ok-inner.ensures.ok
