@@ -5,7 +5,7 @@ use Rattle.parse_machine.specs.declared.form.Form.TheVariants as forms
 use Rattle.parse_machine.specs.Forms.{part_in, body_in}
 use Rattle.parse_stacks.specs.Undoing.{Values}
 use Rattle.parse_stacks.specs.Values.{Value}
-use Rattle.build_expressions.specs.MadeExpressions as expressions
+use Rattle.build_expressions.specs.Made as expressions
 use Rattle.build_declarations.specs.MadeDeclarations as declarations
 use Rattle.build_declarations.specs.MadePrograms as programs
 use Rattle.build_statements.specs.MadeStatements as statements

@@ -1,0 +1,2 @@
+mod DeclarationFits
+mod ProgramFits

@@ -1,0 +1,25 @@
+use Rattle.std.proofs.Common.{refl}
+use Rattle.build_declarations.proofs.declarations.undo_number_rest.Goals as goal
+
+pub returns : goal.returns
+returns c = (
+  c.take-name.result,
+  _,
+  c.take-name.ensures,
+  (
+    c.take-dimensions.result,
+    _,
+    c.take-dimensions.ensures,
+    (
+      c.take-solver.result,
+      _,
+      c.take-solver.ensures,
+      (
+        c.take-domain.result,
+        _,
+        c.take-domain.ensures,
+        (c.take-start.result, _, c.take-start.ensures, (_, refl, (c.in_ok-put.ensures, refl))),
+      ),
+    ),
+  ),
+)

@@ -1,0 +1,2 @@
+pub mod MadeDeclarations
+pub mod MadePrograms
