@@ -1,16 +1,15 @@
 -- What each form of declarations makes is written as the form and its values.
-use Rattle.std.specs.Prelude.{List, ◌∷◌, None, Some, reverse, ◌≡◌, refl}
+use Rattle.std.specs.Prelude.{List, ◌∷◌, reverse, ◌≡◌}
 use Rattle.std.proofs.Common.{sym, ◌∙◌, ap, subst}
 use Rattle.comet_syntax.specs.declared.tree.declarations.Dimension.{Dimension}
-use Rattle.comet_syntax.specs.declared.tree.declarations.Incremental.TheVariants as incrementals
 use Rattle.comet_syntax.specs.declared.tree.declarations.Maker.TheVariants as makers
 use Rattle.comet_syntax.specs.declared.tree.expressions.Name.{Name}
-use Rattle.comet_syntax.specs.Grammar.Declarations.{dimension_rest_called, dimension_rest_in, dimension_name, dimension_unnamed, maker_left_parenthesis, maker_equal}
+use Rattle.comet_syntax.specs.Grammar.Declarations.{dimension_rest_called, dimension_name, dimension_unnamed, maker_left_parenthesis, maker_equal}
 use Rattle.comet_syntax.specs.Grammar.Symbols.{dimension, dimension_rest, maker}
 use Rattle.comet_syntax.specs.declared.token.Word.TheVariants as words
 use Rattle.comet_syntax.specs.Written.Shown.{Shown, form, name, word}
 use Rattle.comet_syntax.specs.Written.Expressions.{Writing, Opening, by_name, by_opening, written}
-use Rattle.comet_syntax.specs.Written.Declarations.{arguments_in, dimension_by, dimension_head, dimensions_text, domain_text, maker_text, made_text, second_dimension, start_text, variable_start_text, whole_text, written_class, written_declaration, written_dimension}
+use Rattle.comet_syntax.specs.Written.Declarations.{arguments_in, dimension_by, dimension_head, dimensions_text, domain_text, made_text, second_dimension, start_text, variable_start_text, written_declaration, written_dimension}
 use Rattle.parse_machine.specs.Forms.{part_in_declaration, body_in_declaration}
 use Rattle.parse_machine.specs.declared.form.DeclarationForm.{DeclarationForm}
 use Rattle.parse_machine.specs.declared.form.DeclarationForm.TheVariants as forms

@@ -1,5 +1,5 @@
 -- What each form of programs, of parameters and of classes makes is written as the form and its values.
-use Rattle.std.specs.Prelude.{true, false, List, [], ◌∷◌, None, Some, reverse, ◌≡◌}
+use Rattle.std.specs.Prelude.{true, false, List, [], ◌∷◌, reverse, ◌≡◌}
 use Rattle.std.proofs.Common.{sym, ◌∙◌, ap}
 use Rattle.cbl_base.specs.declared.place.Place.{Place}
 use Rattle.comet_syntax.specs.declared.token.Word.TheVariants as words
@@ -9,8 +9,8 @@ use Rattle.comet_syntax.specs.declared.tree.program.Parameter.{Parameter}
 use Rattle.comet_syntax.specs.declared.tree.program.ResultKind.{ResultKind}
 use Rattle.comet_syntax.specs.declared.tree.program.TopPart.TheVariants as tops
 use Rattle.comet_syntax.specs.declared.tree.statements.Block.{Block}
-use Rattle.comet_syntax.specs.Grammar.Programs.{program_top, parameters_parameter, parameters_tail_comma, top_function}
-use Rattle.comet_syntax.specs.Grammar.Symbols.{program, top, parameters, parameters_tail}
+use Rattle.comet_syntax.specs.Grammar.Programs.{top_function}
+use Rattle.comet_syntax.specs.Grammar.Symbols.{top, parameters_tail}
 use Rattle.comet_syntax.specs.Written.Shown.{Shown, Grows, form, each, mark, name, word}
 use Rattle.comet_syntax.specs.Written.Declarations.{template_text, written_class}
 use Rattle.comet_syntax.specs.Written.Statements.{written_block}

@@ -1,8 +1,6 @@
 -- What each form of declarations makes of the values of its symbols.
 -- Definitions of this project.
-use Rattle.std.specs.Prelude.{List, [], ◌∷◌, Option, None, Some, reverse, ◌≡◌}
-use Rattle.std.specs.declared.alloc.Global.{Global}
-use Rattle.std.specs.declared.vec.Vec.{Vec}
+use Rattle.std.specs.Prelude.{List, [], ◌∷◌, None, Some, reverse, ◌≡◌}
 use Rattle.cbl_base.specs.declared.place.Place.{Place}
 use Rattle.comet_syntax.specs.declared.tree.declarations.Class.{Class}
 use Rattle.comet_syntax.specs.declared.tree.declarations.Declaration.{Declaration}

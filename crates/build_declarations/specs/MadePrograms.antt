@@ -22,7 +22,6 @@ use Rattle.parse_machine.specs.declared.form.ProgramForm.TheVariants as forms
 use Rattle.parse_stacks.specs.Undoing.{Values, Ready, Undone}
 use Rattle.parse_stacks.specs.Values.{Value}
 use Rattle.parse_stacks.specs.declared.stacks.Stacks.{Stacks}
-use Rattle.parse_stacks.specs.declared.tails.ParameterType.{ParameterType}
 use Rattle.build_declarations.specs.declared.classes.Templated.{Templated}
 use Rattle.build_declarations.specs.declared.classes.Templated.TheVariants as templated
 

@@ -58,7 +58,8 @@ pub fn undo_solver(stacks: &mut Stacks) -> Result<(), NoMemory>
 // A class that has no name in angle brackets
 pub fn undo_class(stacks: &mut Stacks, kind: ClassKind) -> Result<(), NoMemory>
     requires { IsReady forms.ClassNameSolution stacks.old }
-    ensures { IfOk result (λ _. Undone class_name class_name_solution (λ v x. x ≡ record { place = v.0; kind = kind }) stacks.old stacks.new) }
+    ensures { IfOk result (λ _. Undone class_name class_name_solution
+        (λ v x. x ≡ record { place = v.0; kind = kind }) stacks.old stacks.new) }
 {
     let place = take(&mut stacks.places);
     put(&mut stacks.classes, Class { place, kind })?;
@@ -68,7 +69,8 @@ pub fn undo_class(stacks: &mut Stacks, kind: ClassKind) -> Result<(), NoMemory>
 // A class that may have one
 pub fn undo_templated(stacks: &mut Stacks, class: Templated) -> Result<(), NoMemory>
     requires { IsReady forms.ClassNameFunctionExpr stacks.old }
-    ensures { IfOk result (λ _. Undone class_name class_name_function_expr (λ v x. x ≡ record { place = v.0; kind = templated_class class v.1.0 }) stacks.old stacks.new) }
+    ensures { IfOk result (λ _. Undone class_name class_name_function_expr
+        (λ v x. x ≡ record { place = v.0; kind = templated_class class v.1.0 }) stacks.old stacks.new) }
 {
     let place = take(&mut stacks.places);
     let template = take(&mut stacks.templates);

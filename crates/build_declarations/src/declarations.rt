@@ -147,7 +147,8 @@ fn undo_set(stacks: &mut Stacks) -> Result<(), NoMemory>
 // `var{` or `inc{` and what stands behind it
 fn undo_variable(stacks: &mut Stacks, word: Incremental) -> Result<(), NoMemory>
     requires { IsReady forms.DeclarationVar stacks.old }
-    ensures { IfOk result (λ _. Undone declaration declaration_var (λ v x. x ≡ variable_declaration v.0 word v.1.1.0) stacks.old stacks.new) }
+    ensures { IfOk result (λ _. Undone declaration declaration_var
+        (λ v x. x ≡ variable_declaration v.0 word v.1.1.0) stacks.old stacks.new) }
 {
     let place = take(&mut stacks.places);
     let rest = take(&mut stacks.variable_rests);
@@ -311,7 +312,8 @@ pub fn undo_declaration(
     form: DeclarationForm,
 ) -> Result<(), NoMemory>
     requires { Ready (body_in_declaration form) stacks.old }
-    ensures { IfOk result (λ _. Undone (part_in_declaration form) (body_in_declaration form) (Made form) stacks.old stacks.new) }
+    ensures { IfOk result (λ _. Undone (part_in_declaration form) (body_in_declaration form)
+        (Made form) stacks.old stacks.new) }
 {
     match form {
         DeclarationForm::DeclarationInt => undo_int(stacks),

@@ -26,7 +26,8 @@ fn make_called(
     suffixes: Vec<Suffix>,
     behind: Behind,
 ) -> Result<Dimension, NoMemory>
-    ensures { IfOk result (λ d. IsUnnamedDimension (raised (named_operand name called suffixes) behind) d) }
+    ensures { IfOk result (λ d. IsUnnamedDimension
+        (raised (named_operand name called suffixes) behind) d) }
 {
     let operand = name_operand(alloc, name, called, suffixes)?;
     let dimension = make_unnamed(alloc, operand, behind)?;

@@ -56,7 +56,8 @@ pub fn undo_parameter(stacks: &mut Stacks) -> Result<(), NoMemory>
 // A type that is its word alone, or `set{int}`
 pub fn undo_kind(stacks: &mut Stacks, kind: ParameterKind) -> Result<(), NoMemory>
     requires { IsReady forms.ParameterKindBool stacks.old }
-    ensures { IfOk result (λ _. Undone parameter_kind parameter_kind_bool (λ v x. x ≡ record { kind = kind; place = v.0 }) stacks.old stacks.new) }
+    ensures { IfOk result (λ _. Undone parameter_kind parameter_kind_bool
+        (λ v x. x ≡ record { kind = kind; place = v.0 }) stacks.old stacks.new) }
 {
     let place = take(&mut stacks.places);
     put(&mut stacks.parameter_types, ParameterType { kind, place })?;
@@ -78,7 +79,9 @@ pub fn undo_int_kind(stacks: &mut Stacks) -> Result<(), NoMemory>
 // `var{int}` or `var{int}[]`, and the same with `inc`
 pub fn undo_variable_kind(stacks: &mut Stacks, word: Incremental) -> Result<(), NoMemory>
     requires { IsReady forms.ParameterKindVar stacks.old }
-    ensures { IfOk result (λ _. Undone parameter_kind parameter_kind_var (λ v x. x ≡ record { kind = variable_kind word v.1.1.1.1.0; place = v.0 }) stacks.old stacks.new) }
+    ensures { IfOk result (λ _. Undone parameter_kind parameter_kind_var
+        (λ v x. x ≡ record { kind = variable_kind word v.1.1.1.1.0; place = v.0 })
+        stacks.old stacks.new) }
 {
     let place = take(&mut stacks.places);
     let is_array = take(&mut stacks.brackets);

@@ -103,7 +103,8 @@ fn undo_statement_part(stacks: &mut Stacks) -> Result<(), NoMemory>
 /// what is made of them there.
 pub fn undo_program(alloc: Global, stacks: &mut Stacks, form: ProgramForm) -> Result<(), NoMemory>
     requires { Ready (body_in_program form) stacks.old }
-    ensures { IfOk result (λ _. Undone (part_in_program form) (body_in_program form) (Made form) stacks.old stacks.new) }
+    ensures { IfOk result (λ _. Undone (part_in_program form) (body_in_program form)
+        (Made form) stacks.old stacks.new) }
 {
     match form {
         ProgramForm::ProgramNone => put(&mut stacks.programs, Vec::new(alloc)),

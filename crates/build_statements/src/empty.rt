@@ -1,25 +1,75 @@
-//! The forms of optional parts that are left out are undone.
-ghost use Rattle.std.specs.Prelude.{◌≡◌, [], ◌∷◌, None, reverse, IfOk};
-ghost use Rattle.std.specs.declared.alloc.Global.{Global};
-ghost use Rattle.std.specs.declared.vec.Vec.{Vec};
+//! The forms of parts that are left out are undone.
+ghost use Rattle.std.specs.Prelude.{IfOk};
+ghost use Rattle.parse_machine.specs.declared.form.StatementForm.TheVariants as forms;
+ghost use Rattle.build_statements.specs.MadeStatements.{IsUndone};
 
 use cbl_base::NoMemory;
-use parse_stacks::put;
+use parse_stacks::{Stacks, put};
 use std::alloc::Global;
 
-/// A part that is left out.
-pub fn undo_none<T: Drop>(stack: &mut Vec<Option<T>>) -> Result<(), NoMemory>
-    ensures { IfOk result (λ _. reverse stack.new.items ≡ None ∷ reverse stack.old.items) }
+/// No `else`.
+pub fn undo_no_otherwise(stacks: &mut Stacks) -> Result<(), NoMemory>
+    ensures { IfOk result (λ _. IsUndone forms.OtherwiseNone stacks.old stacks.new) }
 {
-    put(stack, None)?;
+    put(&mut stacks.otherwise, None)?;
     Ok(())
 }
 
-/// A list without members.
-pub fn undo_no_members<T: Drop>(alloc: Global, stack: &mut Vec<Vec<T>>) -> Result<(), NoMemory>
-    ensures { IfOk result (λ _. (all : Vec T Global) × (all.items ≡ []) × (reverse stack.new.items ≡ all ∷ reverse stack.old.items)) }
+/// No value and no condition.
+pub fn undo_no_value(stacks: &mut Stacks) -> Result<(), NoMemory>
+    ensures { IfOk result (λ _. IsUndone forms.OptionalValueNone stacks.old stacks.new) }
 {
-    let all = Vec::new(alloc);
-    put(stack, all)?;
+    put(&mut stacks.optional, None)?;
+    Ok(())
+}
+
+/// No start of a `for`.
+pub fn undo_no_for_start(stacks: &mut Stacks) -> Result<(), NoMemory>
+    ensures { IfOk result (λ _. IsUndone forms.ForStartNone stacks.old stacks.new) }
+{
+    put(&mut stacks.for_starts, None)?;
+    Ok(())
+}
+
+/// No step of a `for`.
+pub fn undo_no_for_step(stacks: &mut Stacks) -> Result<(), NoMemory>
+    ensures { IfOk result (λ _. IsUndone forms.ForStepNone stacks.old stacks.new) }
+{
+    put(&mut stacks.for_steps, None)?;
+    Ok(())
+}
+
+/// No names in a `whenever`.
+pub fn undo_no_events(stacks: &mut Stacks) -> Result<(), NoMemory>
+    ensures { IfOk result (λ _. IsUndone forms.EventsNone stacks.old stacks.new) }
+{
+    put(&mut stacks.events, None)?;
+    Ok(())
+}
+
+/// No statements.
+pub fn undo_no_statements(alloc: Global, stacks: &mut Stacks) -> Result<(), NoMemory>
+    ensures { IfOk result (λ _. IsUndone forms.StatementsNone stacks.old stacks.new) }
+{
+    let none = Vec::new(alloc);
+    put(&mut stacks.statement_lists, none)?;
+    Ok(())
+}
+
+/// No more generators.
+pub fn undo_no_generators(alloc: Global, stacks: &mut Stacks) -> Result<(), NoMemory>
+    ensures { IfOk result (λ _. IsUndone forms.GeneratorsTailNone stacks.old stacks.new) }
+{
+    let none = Vec::new(alloc);
+    put(&mut stacks.generator_lists, none)?;
+    Ok(())
+}
+
+/// No more items.
+pub fn undo_no_items(alloc: Global, stacks: &mut Stacks) -> Result<(), NoMemory>
+    ensures { IfOk result (λ _. IsUndone forms.ItemsTailNone stacks.old stacks.new) }
+{
+    let none = Vec::new(alloc);
+    put(&mut stacks.item_lists, none)?;
     Ok(())
 }

@@ -2,7 +2,10 @@
 ghost use Rattle.std.specs.Prelude.{IfOk};
 ghost use Rattle.build_statements.specs.MadeStatements.{IsReady, IsUndone};
 
-use crate::empty::{undo_no_members, undo_none};
+use crate::empty::{
+    undo_no_events, undo_no_for_start, undo_no_for_step, undo_no_generators, undo_no_items,
+    undo_no_otherwise, undo_no_statements, undo_no_value,
+};
 use crate::heads::{
     undo_events, undo_for_start, undo_for_step, undo_otherwise, undo_value, undo_with_mode,
 };
@@ -36,7 +39,7 @@ pub fn undo_statement(
 {
     match form {
         StatementForm::BlockLeftBrace => undo_block(stacks),
-        StatementForm::StatementsNone => undo_no_members(alloc, &mut stacks.statement_lists),
+        StatementForm::StatementsNone => undo_no_statements(alloc, stacks),
         StatementForm::StatementsStatement => undo_more_statements(stacks),
         StatementForm::StatementBlock => undo_block_alone(stacks),
         StatementForm::StatementSemicolon => undo_empty(stacks),
@@ -54,22 +57,22 @@ pub fn undo_statement(
         StatementForm::StatementWhenever => undo_whenever(alloc, stacks),
         StatementForm::StatementWith => undo_with(alloc, stacks),
         StatementForm::StatementParall => undo_parall(alloc, stacks),
-        StatementForm::OtherwiseNone => undo_none(&mut stacks.otherwise),
+        StatementForm::OtherwiseNone => undo_no_otherwise(stacks),
         StatementForm::OtherwiseElse => undo_otherwise(stacks),
-        StatementForm::OptionalValueNone => undo_none(&mut stacks.optional),
+        StatementForm::OptionalValueNone => undo_no_value(stacks),
         StatementForm::OptionalValueExpression => undo_value(stacks),
-        StatementForm::ForStartNone => undo_none(&mut stacks.for_starts),
+        StatementForm::ForStartNone => undo_no_for_start(stacks),
         StatementForm::ForStartInt => undo_for_start(stacks),
-        StatementForm::ForStepNone => undo_none(&mut stacks.for_steps),
+        StatementForm::ForStepNone => undo_no_for_step(stacks),
         StatementForm::ForStepSimple => undo_for_step(stacks),
-        StatementForm::EventsNone => undo_none(&mut stacks.events),
+        StatementForm::EventsNone => undo_no_events(stacks),
         StatementForm::EventsInt => undo_events(stacks),
         StatementForm::WithModeAtomic => undo_with_mode(stacks, WithMode::Atomic),
         StatementForm::WithModeDelay => undo_with_mode(stacks, WithMode::Delay),
         StatementForm::GeneratorsGenerator => undo_generators_form(alloc, stacks),
-        StatementForm::GeneratorsTailNone => undo_no_members(alloc, &mut stacks.generator_lists),
+        StatementForm::GeneratorsTailNone => undo_no_generators(alloc, stacks),
         StatementForm::GeneratorsTailComma => undo_generators_more(stacks),
-        StatementForm::ConditionNone => undo_none(&mut stacks.optional),
+        StatementForm::ConditionNone => undo_no_value(stacks),
         StatementForm::ConditionColon => undo_condition(stacks),
         StatementForm::GeneratorName => undo_generator(stacks),
         StatementForm::SimpleFirstName => undo_named(alloc, stacks),
@@ -94,7 +97,7 @@ pub fn undo_statement(
         StatementForm::ItemExpression => undo_item(stacks),
         StatementForm::ItemString => undo_string(stacks),
         StatementForm::ItemEndl => undo_end_line(stacks),
-        StatementForm::ItemsTailNone => undo_no_members(alloc, &mut stacks.item_lists),
+        StatementForm::ItemsTailNone => undo_no_items(alloc, stacks),
         StatementForm::ItemsTailLessLess => undo_more_items(stacks),
     }
 }
