@@ -1,2 +1,2 @@
-mod DeclarationFits
-mod ProgramFits
+pub mod DeclarationFits
+pub mod ProgramFits

@@ -1,2 +1,2 @@
-mod Fitting
-mod Trees
+pub mod Fitting
+pub mod Trees

@@ -52,10 +52,7 @@ pub fn make_simple_alone(simple: Simple) -> Statement
 }
 
 // A value, if there is one, on the heap.
-fn box_value(
-    alloc: Global,
-    value: Option<Expression>,
-) -> Result<Option<Box<Expression>>, NoMemory>
+fn box_value(alloc: Global, value: Option<Expression>) -> Result<Option<Box<Expression>>, NoMemory>
     ensures { IfOk result (λ b. unboxed b ≡ value) }
 {
     match value {

@@ -169,11 +169,7 @@ pub fn undo_select(alloc: Global, stacks: &mut Stacks) -> Result<(), NoMemory>
 }
 
 /// `selectMin (generators) (key) body` or `selectMax (generators) (key) body`
-pub fn undo_select_by(
-    alloc: Global,
-    stacks: &mut Stacks,
-    extreme: Extreme,
-) -> Result<(), NoMemory>
+pub fn undo_select_by(alloc: Global, stacks: &mut Stacks, extreme: Extreme) -> Result<(), NoMemory>
     requires { IsReady forms.StatementSelectMin stacks.old }
     ensures { IfOk result (λ _. Undone statement statement_select_min
         (λ v x. written_statement x ≡ select_by_text extreme v.0 (generators_text (written_generators v.1.1.0)) (whole_text v.1.1.1.1.1.0) (written_statement v.1.1.1.1.1.1.1.0))

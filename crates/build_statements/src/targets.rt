@@ -71,11 +71,7 @@ fn make_new(
 }
 
 /// A target, and what is done with it.
-pub fn finish_target(
-    alloc: Global,
-    target: Expression,
-    rest: WriteRest,
-) -> Result<Simple, NoMemory>
+pub fn finish_target(alloc: Global, target: Expression, rest: WriteRest) -> Result<Simple, NoMemory>
     ensures { IfOk result (λ s. written_simple s ≡ done_text (written target) rest) }
 {
     match rest {
