@@ -1,0 +1,2 @@
+pub mod ThereAndBack
+pub mod Taken
