@@ -1,6 +1,6 @@
 -- A derivation of tokens, from the left: what is still to come is a list of tokens and of parts with their depths; a part is replaced by one of its forms, a token is read.
 -- The words are the textbooks'; that an optional part is left out only where the next token can't begin it is a rule of the language.
-use Rattle.std.specs.Prelude.{ℕ, Bool, true, false, List, [], ◌∷◌, ◌++◌, ◌+◌, ◌≡◌, ◌≤◌}
+use Rattle.std.specs.Prelude.{ℕ, Bool, true, false, List, [], ◌∷◌, ◌+◌, ◌≡◌}
 use Rattle.comet_syntax.specs.declared.token.Token.{Token}
 use Rattle.comet_syntax.specs.Grammar.Kinds.{Kind, kind, next_in}
 use Rattle.comet_syntax.specs.Grammar.Symbols.{Part, Symbol, token, same, deeper, default}

@@ -1,12 +1,11 @@
 -- Which tokens are possible, which are too deep, and how a list of tokens that no tree spells is refused.
 -- A token is possible where some cut tree stands for the tokens through it. The list is refused at the first token that isn't possible, or behind the last one; but where some token before begins a part that is too deep, at the first such token.
 -- A rule of this project.
-use Rattle.std.specs.Prelude.{ℕ, Bool, true, false, List, [], ◌∷◌, ◌++◌, ◌+◌, ◌≡◌, ◌≤◌, length, ◌⊎◌}
+use Rattle.std.specs.Prelude.{ℕ, List, [], ◌∷◌, ◌++◌, ◌+◌, ◌≡◌, ◌≤◌, length}
 use Rattle.comet_syntax.specs.declared.token.Token.{Token}
 use Rattle.comet_syntax.specs.declared.stop.FormCause.{FormCause}
 use Rattle.comet_syntax.specs.declared.stop.FormCause.TheVariants.{Unexpected, UnexpectedEnd, TooDeep}
-use Rattle.comet_syntax.specs.Grammar.Kinds.{next_in}
-use Rattle.comet_syntax.specs.Grammar.Symbols.{Part, program}
+use Rattle.comet_syntax.specs.Grammar.Symbols.{program}
 use Rattle.comet_syntax.specs.Derivation.{Item, want, part, Event, Derives}
 
 -- a whole tree: nothing is to come, and no token is left

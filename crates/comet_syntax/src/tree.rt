@@ -19,5 +19,6 @@ pub use expressions::{
 };
 pub use program::{Function, Parameter, ParameterKind, Program, ResultKind, TopPart};
 pub use statements::{
-    Block, Events, ForStart, Item, Simple, Statement, Step, WithMode, WriteOperator,
+    Block, Events, ForHead, ForStart, Item, NewObject, Simple, Statement, Step, Watched, WithMode,
+    WriteOperator,
 };

@@ -33,7 +33,7 @@ use Rattle.comet_syntax.specs.Spells.{Spells}
 use Rattle.comet_syntax.specs.Written.Shown.{Shown, form, Grows, each, word, mark, name}
 use Rattle.comet_syntax.specs.Written.Expressions.{Writing, whole, at_postfix, written_argument, generators_text}
 use Rattle.comet_syntax.specs.Written.Declarations.{start_text, dimension_by, written_dimension, second_dimension, dimensions_text, domain_text, variable_start_text, maker_text, incremental_text, int_in_braces, written_declaration}
-use Rattle.comet_syntax.specs.Written.Statements.{write_text, step_text, written_item, more_item, items_text, written_simple, value_text, for_start_text, for_step_text, events_text, block_text, statement_by, statement_text, block_layer, written_statement, written_block, if_text, while_text, for_text, over_text, select_by_text, neighbor_text, whenever_text, with_text, parall_text}
+use Rattle.comet_syntax.specs.Written.Statements.{write_text, step_text, written_item, more_item, items_text, written_simple, value_text, unboxed, for_head_text, for_start_text, for_step_text, events_text, block_text, statement_by, statement_text, block_layer, written_statement, written_block, if_text, while_text, for_text, over_text, select_by_text, neighbor_text, whenever_text, with_text, parall_text}
 use Rattle.comet_syntax.specs.Written.Programs.{written_top, more_top, written_program}
 use Rattle.parse_unique.specs.Bare as bares
 use Rattle.parse_unique.specs.Bare.{Bare, optional, bare_expression, bare_argument, bare_arguments, bare_dimension, bare_dimensions, bare_start, bare_maker, bare_declaration, bare_item, bare_simple, bare_for_start, bare_statement, bare_block, bare_top, bare_program, SameProgram}
@@ -105,13 +105,13 @@ items_are [] = refl
 items_are (x ∷ i) = cong2 {C = Grows} (λ (t : Grows) (u : Grows) (behind : List Shown). word words.LessLess (t (u (form parts.items_tail [] ∷ behind)))) (item_is x) (more_items i)
 
 simple_is : (s : Simple) → (sense (bare_simple s)).text ≡ written_simple s
-simple_is (simples.Write t o e) = cong2 (λ x y. write_text o x (whole y)) (expression_is t) (expression_is e)
-simple_is (simples.Swap l r) = cong2 swap_by (expression_is l) (expression_is r)
-simple_is (simples.Step t s) = ap (step_text s) (expression_is t)
+simple_is (simples.Write t o e) = cong2 (λ x y. write_text o x (whole y)) (expression_is t.value) (expression_is e.value)
+simple_is (simples.Swap l r) = cong2 swap_by (expression_is l.value) (expression_is r.value)
+simple_is (simples.Step t s) = ap (step_text s) (expression_is t.value)
 simple_is (simples.Postfix e) = ap alone_by (expression_is e)
-simple_is (simples.New n c a) = ap (new_simple_by n c) (arguments_are a.items)
+simple_is (simples.New n) = ap (new_simple_by n.value.name n.value.class) (arguments_are n.value.arguments.items)
 simple_is (simples.Print p i) = ap {B = Grows} (λ (x : Grows) (behind : List Shown). form parts.simple simple_cout ∷ mark words.Cout p (x behind)) (items_are i.items)
-simple_is (simples.Call p e) = ap (call_by p) (expression_is e)
+simple_is (simples.Call p e) = ap (call_by p) (expression_is e.value)
 
 -- statements
 value_is : (o : Option Expression) → value_by (sense (optional bare_expression o)).only ≡ value_text o
@@ -161,21 +161,22 @@ alone = map-Statement S B Statement Block (λ s. s.0) (λ b. b.0)
 in_statement : (y : layers.Statement-F S B) → OfStatement (roll-Statement (alone y))
 in_statement (layers.Block b) = rolled (alone (layers.Block b)) (ap block_statement_by b.1)
 in_statement (layers.Empty p) = rolled (alone (layers.Empty p)) refl
-in_statement (layers.Declaration d) = rolled (alone (layers.Declaration d)) (ap declaration_by (declaration_is d))
+in_statement (layers.Declaration d) = rolled (alone (layers.Declaration d)) (ap declaration_by (declaration_is d.value))
 in_statement (layers.Simple s) = rolled (alone (layers.Simple s)) (ap simple_by (simple_is s))
-in_statement (layers.Return p e) = rolled (alone (layers.Return p e)) (ap {B = Grows} (λ (x : Grows) (behind : List Shown). statement_by statement_return words.Return p (x (word words.Semicolon behind))) (value_is e))
-in_statement (layers.If p t y None) = rolled (alone (layers.If p t y None)) (cong2 (λ x u. if_text p (whole x) u None) (expression_is t) y.value.1)
-in_statement (layers.If p t y (Some n)) = rolled (alone (layers.If p t y (Some n))) (cong3 (λ x u v. if_text p (whole x) u (Some v)) (expression_is t) y.value.1 n.value.1)
-in_statement (layers.While p t b) = rolled (alone (layers.While p t b)) (cong2 (λ x u. while_text p (whole x) u) (expression_is t) b.value.1)
-in_statement (layers.For p i t s b) = rolled (alone (layers.For p i t s b))
-    (cong3 (λ x y u. for_text p x y u (sense (bare_statement b.value.0)).text) (for_start_is i) (value_is t) (for_step_is s) ∙ ap (for_text p (for_start_text i) (value_text t) (for_step_text s)) b.value.1)
-in_statement (layers.ForAll p g b) = rolled (alone (layers.ForAll p g b)) (cong2 (λ x u. over_text statement_for_all words.ForAll p (generators_text x) u) (generators_is g) b.value.1)
-in_statement (layers.Select p g b) = rolled (alone (layers.Select p g b)) (cong2 (λ x u. over_text statement_select words.Select p (generators_text x) u) (generators_is g) b.value.1)
-in_statement (layers.SelectBy p e g k b) = rolled (alone (layers.SelectBy p e g k b)) (cong3 (λ x y u. select_by_text e p (generators_text x) (whole y) u) (generators_is g) (expression_is k) b.value.1)
-in_statement (layers.Neighbor p k n b) = rolled (alone (layers.Neighbor p k n b)) (cong2 (λ x u. neighbor_text p (whole x) n u) (expression_is k) b.value.1)
-in_statement (layers.Whenever p v n o b) = rolled (alone (layers.Whenever p v n o b)) (cong2 (λ x u. whenever_text p (at_postfix x) n (events_text o) u) (expression_is v) b.value.1)
-in_statement (layers.With p m n b) = rolled (alone (layers.With p m n b)) (ap (with_text p m n) b.1)
-in_statement (layers.Parall p n e b) = rolled (alone (layers.Parall p n e b)) (cong2 (λ x u. parall_text p n (whole x) u) (expression_is e) b.value.1)
+in_statement (layers.Return p e) = rolled (alone (layers.Return p e)) (ap {B = Grows} (λ (x : Grows) (behind : List Shown). statement_by statement_return words.Return p (x (word words.Semicolon behind))) (value_is (unboxed e)))
+in_statement (layers.If p t y None) = rolled (alone (layers.If p t y None)) (cong2 (λ x u. if_text p (whole x) u None) (expression_is t.value) y.value.1)
+in_statement (layers.If p t y (Some n)) = rolled (alone (layers.If p t y (Some n))) (cong3 (λ x u v. if_text p (whole x) u (Some v)) (expression_is t.value) y.value.1 n.value.1)
+in_statement (layers.While p t b) = rolled (alone (layers.While p t b)) (cong2 (λ x u. while_text p (whole x) u) (expression_is t.value) b.value.1)
+in_statement (layers.For p h b) = rolled (alone (layers.For p h b))
+    (cong3 (λ x y u. for_text p x y u (sense (bare_statement b.value.0)).text) (for_start_is h.value.start) (value_is h.value.test) (for_step_is h.value.step) ∙ ap (for_head_text p h.value) b.value.1)
+in_statement (layers.ForAll p g b) = rolled (alone (layers.ForAll p g b)) (cong2 (λ x u. over_text statement_for_all words.ForAll p (generators_text x) u) (generators_is g.value) b.value.1)
+in_statement (layers.Select p g b) = rolled (alone (layers.Select p g b)) (cong2 (λ x u. over_text statement_select words.Select p (generators_text x) u) (generators_is g.value) b.value.1)
+in_statement (layers.SelectBy p e g k b) = rolled (alone (layers.SelectBy p e g k b)) (cong3 (λ x y u. select_by_text e p (generators_text x) (whole y) u) (generators_is g.value) (expression_is k.value) b.value.1)
+in_statement (layers.Neighbor p k n b) = rolled (alone (layers.Neighbor p k n b)) (cong2 (λ x u. neighbor_text p (whole x) n u) (expression_is k.value) b.value.1)
+in_statement (layers.Whenever p w b) = rolled (alone (layers.Whenever p w b))
+    (cong2 (λ x u. whenever_text p (at_postfix x) w.value.event (events_text w.value.names) u) (expression_is w.value.variable) b.value.1)
+in_statement (layers.With p m n b) = rolled (alone (layers.With p m n b)) (ap (with_text p m n) b.value.1)
+in_statement (layers.Parall p n e b) = rolled (alone (layers.Parall p n e b)) (cong2 (λ x u. parall_text p n (whole x) u) (expression_is e.value) b.value.1)
 
 abbrev alone_block : layers.Block-F S B → layers.Block-F Statement Block
 alone_block = map-Block S B Statement Block (λ s. s.0) (λ b. b.0)
@@ -193,7 +194,7 @@ block_is = ind-Block OfStatement OfBlock (λ x y is. subst (λ z. OfStatement (r
 top_is : (t : TopPart) → (sense (bare_top t)).text ≡ written_top t
 top_is (tops.Import n) = refl
 top_is (tops.Include t) = refl
-top_is (tops.Function f) = ap (function_by f.place f.result f.name f.parameters.items) (block_is f.body)
+top_is (tops.Function f) = ap (function_by f.value.place f.value.result f.value.name f.value.parameters.items) (block_is f.value.body)
 top_is (tops.Statement s) = ap top_statement_by (statement_is s)
 
 abbrev more_top_by : Grows → Grows

@@ -76,7 +76,7 @@ top_puts (tops.Import n) = formed top top_import (tree (Bare.import n)) (λ k. r
 top_puts (tops.Include t) = formed top top_include (tree (Bare.include t)) (λ k. refl)
     (signs words.Include ⊳ (shows (plain (kinds.Str t)) (sign (kinds.Str t)) (λ X. refl) (λ X. refl) ⊳ signs words.Semicolon)) (λ s. refl)
 top_puts (tops.Function f) = formed top top_function (tree (bare_top (tops.Function f))) (λ k. refl)
-    (marks words.Function f.place ⊳ (result_puts f.result ⊳ (names f.name ⊳ (signs words.LeftParenthesis ⊳ (parameters_puts f.parameters.items ⊳ (signs words.RightParenthesis ⊳ whole_block_puts f.body)))))) (λ s. refl)
+    (marks words.Function f.value.place ⊳ (result_puts f.value.result ⊳ (names f.value.name ⊳ (signs words.LeftParenthesis ⊳ (parameters_puts f.value.parameters.items ⊳ (signs words.RightParenthesis ⊳ whole_block_puts f.value.body)))))) (λ s. refl)
 top_puts (tops.Statement s) = formed top top_statement (tree (Bare.top_statement (bare_statement s))) (λ k. refl) (statement_puts s) (λ s. refl)
 
 all_puts : (all : List TopPart) → Fine 1 (ends (each more_top all (form program [] ∷ []))) (valued (each more_top all (form program [] ∷ [])) ≡ rest_of (map bare_top all) ∷ [])

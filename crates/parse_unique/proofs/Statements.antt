@@ -12,6 +12,7 @@ use Rattle.comet_syntax.specs.declared.tree.statements.Events.{Events}
 use Rattle.comet_syntax.specs.declared.tree.statements.ForStart.{ForStart}
 use Rattle.comet_syntax.specs.declared.tree.statements.Item.{Item}
 use Rattle.comet_syntax.specs.declared.tree.statements.Item.TheVariants as items
+use Rattle.comet_syntax.specs.declared.tree.statements.NewObject.{NewObject}
 use Rattle.comet_syntax.specs.declared.tree.statements.Simple.{Simple}
 use Rattle.comet_syntax.specs.declared.tree.statements.Simple.TheVariants as simples
 use Rattle.comet_syntax.specs.declared.tree.statements.Step.{Step}
@@ -24,9 +25,9 @@ use Rattle.comet_syntax.specs.Grammar.Statements.{block_left_brace, statements_s
 use Rattle.comet_syntax.specs.Grammar.Symbols.{block, statements, optional_value, for_start, for_step, events, with_mode, simple, named_simple, new_value, write, first_name, item, items_tail, extreme}
 use Rattle.comet_syntax.specs.Written.Shown.{Shown, form, plain, Grows, mark}
 use Rattle.comet_syntax.specs.Written.Expressions.{Head, by_name, by_opening, by_literal, by_brace, by_extreme, by_other, Writing, extreme_form, written_generators, generators_text}
-use Rattle.comet_syntax.specs.Written.Statements.{simple_head, target_text, equal_head, set_text, write_text, step_text, written_item, more_item, items_text, written_simple, in_parentheses, value_text, for_start_text, for_step_text, events_text, mode_text, more_statement, block_text}
+use Rattle.comet_syntax.specs.Written.Statements.{simple_head, target_text, equal_head, set_text, write_text, step_text, written_item, more_item, items_text, new_text, written_simple, in_parentheses, value_text, for_start_text, for_step_text, events_text, mode_text, more_statement, block_text}
 use Rattle.parse_unique.specs.Bare as bares
-use Rattle.parse_unique.specs.Bare.{Bare, optional, bare_expression, bare_generators, bare_arguments, bare_item, bare_simple, bare_for_start}
+use Rattle.parse_unique.specs.Bare.{Bare, optional, bare_expression, bare_generators, bare_arguments, bare_item, bare_new, bare_simple, bare_for_start}
 use Rattle.parse_unique.proofs.Values.{Value, sign, marked, nothing, tree, tail, of_name, mode_is, events_are, events_in, Stack, named_simple_step, part_step, valued, ends}
 use Rattle.parse_unique.proofs.Listings.{Fine, more_ends, fine_map, Pushes, steady, ◌⊳◌, signs, marks, names, shows, formed, left_out, Conses, formed_cons, EachOf, none, and_one, list_rest, rests}
 use Rattle.parse_unique.proofs.Levels.{Starts, at_behind}
@@ -97,16 +98,20 @@ print_puts p (x ∷ i) = formed simple simple_cout (tree (Bare.print p (Bare.mor
     (marks words.Cout p ⊳ (signs words.LessLess ⊳ (item_puts x ⊳ rests more_item (more_items i) (λ X. form items_tail [] ∷ X) (left_out items_tail nothing (λ k. refl) (λ s. refl)))))
     (λ s. ap (λ y. tree (Bare.print p (Bare.more (bare_item x) y)) ∷ s) (list_rest (map bare_item i)))
 
+new_puts : (n : NewObject) → Pushes (new_text n) (tree (bare_new n) ∷ [])
+new_puts n = equal_puts n.name (λ m. Bare.new m n.class (bare_arguments n.arguments.items))
+    (formed new_value new_value_new (of_name (λ m. Bare.new m n.class (bare_arguments n.arguments.items))) (λ k. refl) (signs words.New ⊳ made_puts n.class n.arguments.items) (λ s. refl))
+
 pub simple_puts : (x : Simple) → Pushes (written_simple x) (tree (bare_simple x) ∷ [])
-simple_puts (simples.Write t o e) = write_puts o (good_expression t) (expression_puts e)
-simple_puts (simples.Swap l r) = target_puts (good_expression l) (formed write write_swap (tail (λ x. Bare.swap x (bare_expression r))) (λ k. refl) (signs words.Swap ⊳ put_postfix (good_expression r)) (λ s. refl))
-simple_puts (simples.Step t x) = step_puts x (good_expression t)
+simple_puts (simples.Write t o e) = write_puts o (good_expression t.value) (expression_puts e.value)
+simple_puts (simples.Swap l r) = target_puts (good_expression l.value)
+    (formed write write_swap (tail (λ x. Bare.swap x (bare_expression r.value))) (λ k. refl) (signs words.Swap ⊳ put_postfix (good_expression r.value)) (λ s. refl))
+simple_puts (simples.Step t x) = step_puts x (good_expression t.value)
 simple_puts (simples.Postfix e) = target_puts (good_expression e) (left_out write (tail Bare.alone) (λ k. refl) (λ s. refl))
-simple_puts (simples.New n c a) = equal_puts n (λ m. Bare.new m c (bare_arguments a.items))
-    (formed new_value new_value_new (of_name (λ m. Bare.new m c (bare_arguments a.items))) (λ k. refl) (signs words.New ⊳ made_puts c a.items) (λ s. refl))
+simple_puts (simples.New n) = new_puts n.value
 simple_puts (simples.Print p i) = print_puts p i.items
-simple_puts (simples.Call p e) = formed simple simple_call (tree (Bare.call_chosen p (bare_expression e))) (λ k. refl)
-    (marks words.Call p ⊳ (signs words.LeftParenthesis ⊳ (expression_puts e ⊳ signs words.RightParenthesis))) (λ s. refl)
+simple_puts (simples.Call p e) = formed simple simple_call (tree (Bare.call_chosen p (bare_expression e.value))) (λ k. refl)
+    (marks words.Call p ⊳ (signs words.LeftParenthesis ⊳ (expression_puts e.value ⊳ signs words.RightParenthesis))) (λ s. refl)
 
 -- the parts of statements
 pub parentheses_puts : {w : Grows} {v : Value} → Pushes w (v ∷ []) → Pushes (in_parentheses w) (sign (kinds.Word words.LeftParenthesis) ∷ v ∷ sign (kinds.Word words.RightParenthesis) ∷ [])

@@ -137,12 +137,12 @@ module _ where
   in_expression (layers.Comparison a o p b) = expression_rolled (alone_E (layers.Comparison a o p b)) (cong2 (λ x y. comparison x o p y) a.value.1 b.value.1)
   in_expression (layers.Range a p b) = expression_rolled (alone_E (layers.Range a p b)) (cong2 (λ x y. range_of x p y) a.value.1 b.value.1)
   in_expression (layers.Unary o p a) = expression_rolled (alone_E (layers.Unary o p a)) (ap (unary o p) a.value.1)
-  in_expression (layers.Aggregate o p g a) = expression_rolled (alone_E (layers.Aggregate o p g a)) (cong2 (λ x y. aggregate o p x y) g.1 a.value.1)
+  in_expression (layers.Aggregate o p g a) = expression_rolled (alone_E (layers.Aggregate o p g a)) (cong2 (λ x y. aggregate o p x y) g.value.1 a.value.1)
   in_expression (layers.Postfix a l) = expression_rolled (alone_E (layers.Postfix a l)) (cong2 (λ w x. postfix_by w.primary_rest w.head x) a.value.1 (suffixes l.items))
   in_expression (layers.Number n p) = expression_rolled (alone_E (layers.Number n p)) refl
   in_expression (layers.Truth b p) = expression_rolled (alone_E (layers.Truth b p)) refl
   in_expression (layers.Name n) = expression_rolled (alone_E (layers.Name n)) refl
-  in_expression (layers.Call n a) = expression_rolled (alone_E (layers.Call n a)) (ap (call_of n) (arguments a.items))
+  in_expression (layers.Call n a) = expression_rolled (alone_E (layers.Call n a)) (ap (call_of n.value) (arguments a.items))
   in_expression (layers.Extreme e p a b) = expression_rolled (alone_E (layers.Extreme e p a b)) (cong2 (λ x y. extreme_of e p x y) a.value.1 b.value.1)
   in_expression (layers.Parentheses p a) = expression_rolled (alone_E (layers.Parentheses p a)) (ap (parentheses p) a.value.1)
   in_expression (layers.List p a) = expression_rolled (alone_E (layers.List p a)) (ap (list_of p) (arguments a.items))

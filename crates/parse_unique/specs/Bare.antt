@@ -28,9 +28,11 @@ use Rattle.comet_syntax.specs.declared.tree.declarations.VariableStart.TheVarian
 use Rattle.comet_syntax.specs.declared.tree.declarations.Declaration.{Declaration}
 use Rattle.comet_syntax.specs.declared.tree.declarations.Declaration.TheVariants as declarations
 use Rattle.comet_syntax.specs.declared.tree.statements.Events.{Events}
+use Rattle.comet_syntax.specs.declared.tree.statements.ForHead.{ForHead}
 use Rattle.comet_syntax.specs.declared.tree.statements.ForStart.{ForStart}
 use Rattle.comet_syntax.specs.declared.tree.statements.Item.{Item}
 use Rattle.comet_syntax.specs.declared.tree.statements.Item.TheVariants as items
+use Rattle.comet_syntax.specs.declared.tree.statements.NewObject.{NewObject}
 use Rattle.comet_syntax.specs.declared.tree.statements.Simple.{Simple}
 use Rattle.comet_syntax.specs.declared.tree.statements.Simple.TheVariants as simples
 use Rattle.comet_syntax.specs.declared.tree.statements.Statement.{Statement}
@@ -38,13 +40,16 @@ use Rattle.comet_syntax.specs.declared.tree.statements.Statement.TheOpen as stat
 use Rattle.comet_syntax.specs.declared.tree.statements.Statement.TheFolds.{fold-Statement}
 use Rattle.comet_syntax.specs.declared.tree.statements.Block.{Block, fold-Block}
 use Rattle.comet_syntax.specs.declared.tree.statements.Step.{Step}
+use Rattle.comet_syntax.specs.declared.tree.statements.Watched.{Watched}
 use Rattle.comet_syntax.specs.declared.tree.statements.WithMode.{WithMode}
 use Rattle.comet_syntax.specs.declared.tree.statements.WriteOperator.{WriteOperator}
+use Rattle.comet_syntax.specs.declared.tree.program.Function.{Function}
 use Rattle.comet_syntax.specs.declared.tree.program.Parameter.{Parameter}
 use Rattle.comet_syntax.specs.declared.tree.program.Program.{Program}
 use Rattle.comet_syntax.specs.declared.tree.program.ResultKind.{ResultKind}
 use Rattle.comet_syntax.specs.declared.tree.program.TopPart.{TopPart}
 use Rattle.comet_syntax.specs.declared.tree.program.TopPart.TheVariants as tops
+use Rattle.comet_syntax.specs.Written.Statements.{unboxed}
 
 pub data Bare : Type 0 where
   -- a list
@@ -141,12 +146,12 @@ expression_layer (layers.Chain first links) = chain first.value (listed links.it
 expression_layer (layers.Comparison left c place right) = comparison left.value c place right.value
 expression_layer (layers.Range low place high) = range low.value place high.value
 expression_layer (layers.Unary operator place e) = unary operator place e.value
-expression_layer (layers.Aggregate a place g body) = aggregate a place g body.value
+expression_layer (layers.Aggregate a place g body) = aggregate a place g.value body.value
 expression_layer (layers.Postfix primary all) = postfix primary.value (listed all.items)
 expression_layer (layers.Number n place) = number n place
 expression_layer (layers.Truth b place) = truth b place
 expression_layer (layers.Name n) = name n
-expression_layer (layers.Call n a) = call n (listed a.items)
+expression_layer (layers.Call n a) = call n.value (listed a.items)
 expression_layer (layers.Extreme e place left right) = extreme e place left.value right.value
 expression_layer (layers.Parentheses place inner) = parentheses place inner.value
 expression_layer (layers.List place a) = list place (listed a.items)
@@ -220,35 +225,44 @@ bare_item (items.Expression e) = value (bare_expression e)
 bare_item (items.Str t) = text t
 bare_item items.EndLine = end_line
 
+abbrev pub bare_new : NewObject → Bare
+bare_new n = new n.name n.class (bare_arguments n.arguments.items)
+
 abbrev pub bare_simple : Simple → Bare
-bare_simple (simples.Write target operator e) = write (bare_expression target) operator (bare_expression e)
-bare_simple (simples.Swap left right) = swap (bare_expression left) (bare_expression right)
-bare_simple (simples.Step target s) = step (bare_expression target) s
+bare_simple (simples.Write target operator e) = write (bare_expression target.value) operator (bare_expression e.value)
+bare_simple (simples.Swap left right) = swap (bare_expression left.value) (bare_expression right.value)
+bare_simple (simples.Step target s) = step (bare_expression target.value) s
 bare_simple (simples.Postfix e) = alone (bare_expression e)
-bare_simple (simples.New n c a) = new n c (bare_arguments a.items)
+bare_simple (simples.New n) = bare_new n.value
 bare_simple (simples.Print place i) = print place (listed (map bare_item i.items))
-bare_simple (simples.Call place e) = call_chosen place (bare_expression e)
+bare_simple (simples.Call place e) = call_chosen place (bare_expression e.value)
 
 abbrev pub bare_for_start : ForStart → Bare
 bare_for_start s = for_start s.name (bare_expression s.value)
+
+abbrev pub bare_for : Place → ForHead → Bare → Bare
+bare_for place head body = for_each_step place (optional bare_for_start head.start) (optional bare_expression head.test) (optional bare_simple head.step) body
+
+abbrev pub bare_watched : Place → Watched → Bare → Bare
+bare_watched place w body = whenever place (bare_expression w.variable) w.event w.names body
 
 -- one layer of a statement
 abbrev pub statement_layer : statements.Statement-F Bare Bare → Bare
 statement_layer (statements.Block b) = block_statement b
 statement_layer (statements.Empty place) = empty place
-statement_layer (statements.Declaration d) = declaration (bare_declaration d)
+statement_layer (statements.Declaration d) = declaration (bare_declaration d.value)
 statement_layer (statements.Simple s) = simple (bare_simple s)
-statement_layer (statements.Return place e) = return_value place (optional bare_expression e)
-statement_layer (statements.If place test yes_part no_part) = when place (bare_expression test) yes_part.value (optional (λ b. b.value) no_part)
-statement_layer (statements.While place test body) = while_true place (bare_expression test) body.value
-statement_layer (statements.For place begin test s body) = for_each_step place (optional bare_for_start begin) (optional bare_expression test) (optional bare_simple s) body.value
-statement_layer (statements.ForAll place all body) = for_all place (bare_generators all) body.value
-statement_layer (statements.Select place all body) = select place (bare_generators all) body.value
-statement_layer (statements.SelectBy place e all key body) = select_by place e (bare_generators all) (bare_expression key) body.value
-statement_layer (statements.Neighbor place key n body) = neighbor place (bare_expression key) n body.value
-statement_layer (statements.Whenever place variable n names body) = whenever place (bare_expression variable) n names body.value
-statement_layer (statements.With place mode n body) = with_mode place mode n body
-statement_layer (statements.Parall place n all body) = parall place n (bare_expression all) body.value
+statement_layer (statements.Return place e) = return_value place (optional bare_expression (unboxed e))
+statement_layer (statements.If place test yes_part no_part) = when place (bare_expression test.value) yes_part.value (optional (λ b. b.value) no_part)
+statement_layer (statements.While place test body) = while_true place (bare_expression test.value) body.value
+statement_layer (statements.For place head body) = bare_for place head.value body.value
+statement_layer (statements.ForAll place all body) = for_all place (bare_generators all.value) body.value
+statement_layer (statements.Select place all body) = select place (bare_generators all.value) body.value
+statement_layer (statements.SelectBy place e all key body) = select_by place e (bare_generators all.value) (bare_expression key.value) body.value
+statement_layer (statements.Neighbor place key n body) = neighbor place (bare_expression key.value) n body.value
+statement_layer (statements.Whenever place watched body) = bare_watched place watched.value body.value
+statement_layer (statements.With place mode n body) = with_mode place mode n body.value
+statement_layer (statements.Parall place n all body) = parall place n (bare_expression all.value) body.value
 
 abbrev pub block_layer : statements.Block-F Bare Bare → Bare
 block_layer b = block b.place (listed b.statements.items)
@@ -259,10 +273,13 @@ bare_statement = fold-Statement Bare Bare statement_layer block_layer
 unfoldable pub bare_block : Block → Bare
 bare_block = fold-Block Bare Bare statement_layer block_layer
 
+abbrev pub bare_function : Function → Bare
+bare_function f = function f.place f.result f.name f.parameters.items (bare_block f.body)
+
 abbrev pub bare_top : TopPart → Bare
 bare_top (tops.Import n) = import n
 bare_top (tops.Include t) = include t
-bare_top (tops.Function f) = function f.place f.result f.name f.parameters.items (bare_block f.body)
+bare_top (tops.Function f) = bare_function f.value
 bare_top (tops.Statement s) = top_statement (bare_statement s)
 
 abbrev pub bare_program : Program → Bare

@@ -1,6 +1,6 @@
 -- The parts of a program, and the symbols of which their forms consist.
 -- A rule of the language, with each production that needs it cut where a token decides between its forms.
-use Rattle.std.specs.Prelude.{ℕ, Bool, true, false}
+use Rattle.std.specs.Prelude.{Bool, true, false}
 use Rattle.comet_syntax.specs.declared.token.Word.{Word}
 use Rattle.comet_syntax.specs.Grammar.Kinds.{Kind, a_name, a_number, a_string, a_word}
 

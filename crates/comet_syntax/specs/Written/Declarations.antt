@@ -2,7 +2,6 @@
 -- A rule of this project.
 use Rattle.std.specs.Prelude.{List, [], ◌∷◌, Option, None, Some, map}
 use Rattle.cbl_base.specs.declared.place.Place.{Place}
-use Rattle.comet_syntax.specs.declared.token.Word.{Word}
 use Rattle.comet_syntax.specs.declared.token.Word.TheVariants as words
 use Rattle.comet_syntax.specs.declared.tree.expressions.Name.{Name}
 use Rattle.comet_syntax.specs.declared.tree.expressions.Expression.{Expression}
@@ -24,7 +23,7 @@ use Rattle.comet_syntax.specs.Written.Shown.{form, Grows, word, mark, name}
 use Rattle.comet_syntax.specs.Written.Expressions.{Head, by_name, by_opening, opening, Writing, whole, written, written_argument, parenthesized}
 use Rattle.comet_syntax.specs.Grammar.Programs.{template_less, class_name_solver, class_name_local_solver, class_name_constraint_system, class_name_function_expr, class_name_function_sum, class_name_uniform_distribution, class_name_input_file, class_name_min_neighbor_selector, class_name_best_monitor, class_name_solution}
 use Rattle.comet_syntax.specs.Grammar.Declarations.{declaration_int, declaration_bool, declaration_range, declaration_set, declaration_var, declaration_inc, declaration_class_name, int_rest_left_bracket, int_rest_name, start_value_equal, variable_rest_int, variable_rest_set, domain_comma, variable_start_assign, variable_start_arrow, maker_left_parenthesis, maker_equal, dimensions_left_bracket, dimensions_tail_comma, dimension_name, dimension_unnamed, dimension_rest_in, dimension_rest_called}
-use Rattle.comet_syntax.specs.Grammar.Symbols.{Part, Symbol, template, class_name, declaration, int_rest, start_value, variable_rest, domain, variable_start, maker, dimensions, dimensions_tail, dimension, dimension_rest}
+use Rattle.comet_syntax.specs.Grammar.Symbols.{template, class_name, declaration, int_rest, start_value, variable_rest, domain, variable_start, maker, dimensions, dimensions_tail, dimension, dimension_rest}
 
 abbrev pub whole_text : Expression → Grows
 whole_text e = whole (written e)

@@ -28,7 +28,7 @@ use Rattle.comet_syntax.specs.declared.tree.expressions.Argument.TheFolds.{fold-
 use Rattle.comet_syntax.specs.Grammar.Symbols.{Part, Symbol, program, expression, branches, or_tail, and_tail, comparison_tail, range_tail, total_tail, product_tail, operand, unnamed, pair, pair_named, literal, extreme, postfix, called, suffixes, second, arguments, listed, arguments_tail, argument, generators, generators_tail, condition, generator, first_name}
 use Rattle.comet_syntax.specs.Grammar.Expressions.{expression_operand, branches_question, or_tail_or_or, and_tail_and_and, comparison_tail_equal_equal, comparison_tail_not_equal, comparison_tail_less, comparison_tail_less_equal, comparison_tail_greater, comparison_tail_greater_equal, range_tail_dot_dot, total_tail_plus, total_tail_minus, product_tail_star, product_tail_slash, product_tail_percent, operand_name, operand_unnamed, unnamed_literal, unnamed_left_brace, unnamed_min, unnamed_max, unnamed_minus, unnamed_exclamation, unnamed_sum, unnamed_all, unnamed_and, unnamed_or, unnamed_set_of, unnamed_arg_min, unnamed_arg_max, pair_first_name, pair_unnamed, pair_named_in, pair_named_called, literal_number, literal_true, literal_false, literal_left_parenthesis, literal_left_bracket, extreme_min, extreme_max, postfix_name, postfix_literal, postfix_left_brace, postfix_extreme, called_left_parenthesis, suffixes_left_bracket, suffixes_dot, second_comma, arguments_listed, listed_argument, arguments_tail_comma, argument_expression, argument_string}
 use Rattle.comet_syntax.specs.Grammar.Statements.{generators_generator, generators_tail_comma, condition_colon, generator_name, first_name_name}
-use Rattle.comet_syntax.specs.Written.Shown.{Shown, form, plain, placed, Grows, each, word, mark, name}
+use Rattle.comet_syntax.specs.Written.Shown.{form, plain, placed, Grows, each, word, mark, name}
 
 -- no derivation has this: a program stands nowhere in an expression
 abbrev pub misplaced : Grows
@@ -373,12 +373,12 @@ expression_text (layers.Chain first links) = chain first.value links.items
 expression_text (layers.Comparison left c place right) = comparison left.value c place right.value
 expression_text (layers.Range low place high) = range_of low.value place high.value
 expression_text (layers.Unary operator place e) = unary operator place e.value
-expression_text (layers.Aggregate a place g body) = aggregate a place g body.value
+expression_text (layers.Aggregate a place g body) = aggregate a place g.value body.value
 expression_text (layers.Postfix primary all) = postfix_by primary.value.primary_rest primary.value.head all.items
 expression_text (layers.Number value place) = number value place
 expression_text (layers.Truth value place) = truth value place
 expression_text (layers.Name n) = name_alone n
-expression_text (layers.Call n a) = call_of n a.items
+expression_text (layers.Call n a) = call_of n.value a.items
 expression_text (layers.Extreme e place left right) = extreme_of e place left.value right.value
 expression_text (layers.Parentheses place inner) = parentheses place inner.value
 expression_text (layers.List place a) = list_of place a.items

@@ -19,7 +19,7 @@ use Rattle.comet_syntax.specs.Written.Shown.{Shown, form, plain, Grows, each, wo
 use Rattle.comet_syntax.specs.Written.Declarations.{template_text, int_in_braces}
 use Rattle.comet_syntax.specs.Written.Statements.{written_statement, written_block}
 use Rattle.comet_syntax.specs.Grammar.Programs.{program_top, result_kind_void, result_kind_int, result_kind_bool, parameters_parameter, parameters_tail_comma, parameter_parameter_kind, parameter_kind_int, parameter_kind_bool, parameter_kind_range, parameter_kind_set, parameter_kind_var, parameter_kind_inc, parameter_kind_solver, parameter_kind_local_solver, parameter_kind_constraint_system, parameter_kind_best_monitor, brackets_left_bracket, top_import, top_include, top_function, top_statement}
-use Rattle.comet_syntax.specs.Grammar.Symbols.{Part, Symbol, program, top, result_kind, parameters, parameters_tail, parameter, parameter_kind, brackets}
+use Rattle.comet_syntax.specs.Grammar.Symbols.{program, top, result_kind, parameters, parameters_tail, parameter, parameter_kind, brackets}
 
 abbrev pub result_text : ResultKind → Grows
 result_text results.Void behind = form result_kind result_kind_void ∷ word words.Void behind
@@ -66,7 +66,7 @@ written_function f behind = form top top_function ∷ mark words.Function f.plac
 abbrev pub written_top : TopPart → Grows
 written_top (tops.Import n) behind = form top top_import ∷ word words.Import (name n (word words.Semicolon behind))
 written_top (tops.Include text) behind = form top top_include ∷ word words.Include (plain (kinds.Str text) ∷ word words.Semicolon behind)
-written_top (tops.Function f) behind = written_function f behind
+written_top (tops.Function f) behind = written_function f.value behind
 written_top (tops.Statement s) behind = form top top_statement ∷ written_statement s behind
 
 abbrev pub more_top : TopPart → Grows

@@ -1,6 +1,8 @@
 -- Statements, written as the derivations that they stand for.
 -- A rule of this project.
-use Rattle.std.specs.Prelude.{Bool, true, false, List, [], ◌∷◌, Option, None, Some, map}
+use Rattle.std.specs.Prelude.{Bool, true, false, List, [], ◌∷◌, Option, None, Some}
+use Rattle.std.specs.declared.alloc.Global.{Global}
+use Rattle.std.specs.declared.boxed.Box.{Box}
 use Rattle.cbl_base.specs.declared.place.Place.{Place}
 use Rattle.comet_syntax.specs.declared.token.TokenKind.TheVariants as kinds
 use Rattle.comet_syntax.specs.declared.token.Word.{Word}
@@ -10,9 +12,11 @@ use Rattle.comet_syntax.specs.declared.tree.expressions.Expression.{Expression}
 use Rattle.comet_syntax.specs.declared.tree.expressions.Extreme.{Extreme}
 use Rattle.comet_syntax.specs.declared.tree.expressions.Extreme.TheVariants as extremes
 use Rattle.comet_syntax.specs.declared.tree.statements.Events.{Events}
+use Rattle.comet_syntax.specs.declared.tree.statements.ForHead.{ForHead}
 use Rattle.comet_syntax.specs.declared.tree.statements.ForStart.{ForStart}
 use Rattle.comet_syntax.specs.declared.tree.statements.Item.{Item}
 use Rattle.comet_syntax.specs.declared.tree.statements.Item.TheVariants as items
+use Rattle.comet_syntax.specs.declared.tree.statements.NewObject.{NewObject}
 use Rattle.comet_syntax.specs.declared.tree.statements.Simple.{Simple}
 use Rattle.comet_syntax.specs.declared.tree.statements.Simple.TheVariants as simples
 use Rattle.comet_syntax.specs.declared.tree.statements.Statement.{Statement}
@@ -21,6 +25,7 @@ use Rattle.comet_syntax.specs.declared.tree.statements.Statement.TheFolds.{fold-
 use Rattle.comet_syntax.specs.declared.tree.statements.Block.{Block, fold-Block}
 use Rattle.comet_syntax.specs.declared.tree.statements.Step.{Step}
 use Rattle.comet_syntax.specs.declared.tree.statements.Step.TheVariants as steps
+use Rattle.comet_syntax.specs.declared.tree.statements.Watched.{Watched}
 use Rattle.comet_syntax.specs.declared.tree.statements.WithMode.{WithMode}
 use Rattle.comet_syntax.specs.declared.tree.statements.WithMode.TheVariants as modes
 use Rattle.comet_syntax.specs.declared.tree.statements.WriteOperator.{WriteOperator}
@@ -29,7 +34,7 @@ use Rattle.comet_syntax.specs.Written.Shown.{form, plain, Grows, each, word, mar
 use Rattle.comet_syntax.specs.Written.Expressions.{Head, by_name, by_opening, by_literal, by_brace, by_extreme, by_other, misplaced, Writing, at_postfix, extreme_form, word_of_extreme, written, written_generators, generators_text}
 use Rattle.comet_syntax.specs.Written.Declarations.{whole_text, written_declaration, made_text}
 use Rattle.comet_syntax.specs.Grammar.Statements.{block_left_brace, statements_statement, statement_block, statement_semicolon, statement_declaration, statement_simple, statement_return, statement_if, statement_while, statement_for, statement_for_all, statement_select, statement_select_min, statement_select_max, statement_neighbor, statement_whenever, statement_with, statement_parall, otherwise_else, optional_value_expression, for_start_int, for_step_simple, events_int, with_mode_atomic, with_mode_delay, simple_first_name, simple_literal, simple_extreme, simple_cout, simple_call, named_simple_equal, named_simple_called, new_value_new, new_value_expression, write_equal, write_plus_equal, write_minus_equal, write_assign, write_arrow, write_swap, write_plus_plus, write_minus_minus, first_name_name, item_expression, item_string, item_endl, items_tail_less_less}
-use Rattle.comet_syntax.specs.Grammar.Symbols.{Part, Symbol, block, statements, statement, otherwise, optional_value, for_start, for_step, events, with_mode, simple, named_simple, new_value, write, first_name, item, items_tail, extreme}
+use Rattle.comet_syntax.specs.Grammar.Symbols.{Symbol, block, statements, statement, otherwise, optional_value, for_start, for_step, events, with_mode, simple, named_simple, new_value, write, first_name, item, items_tail, extreme}
 
 -- the head of a simple statement, where no more than a name and `=` may stand before what is new
 abbrev pub simple_head : Head → Grows
@@ -74,14 +79,18 @@ abbrev pub items_text : List Item → Grows
 items_text [] behind = misplaced behind
 items_text (i ∷ more) behind = word words.LessLess (written_item i (each more_item more (form items_tail [] ∷ behind)))
 
+-- `name = new class(arguments)`
+abbrev pub new_text : NewObject → Grows
+new_text n behind = equal_head (by_name n.name) (form new_value new_value_new ∷ word words.New (made_text n.class n.arguments.items behind))
+
 abbrev pub written_simple : Simple → Grows
-written_simple (simples.Write target operator value) = write_text operator (written target) (whole_text value)
-written_simple (simples.Swap left right) = λ behind. target_text (written left) (form write write_swap ∷ word words.Swap (at_postfix (written right) behind))
-written_simple (simples.Step target s) = step_text s (written target)
+written_simple (simples.Write target operator value) = write_text operator (written target.value) (whole_text value.value)
+written_simple (simples.Swap left right) = λ behind. target_text (written left.value) (form write write_swap ∷ word words.Swap (at_postfix (written right.value) behind))
+written_simple (simples.Step target s) = step_text s (written target.value)
 written_simple (simples.Postfix e) = λ behind. target_text (written e) (form write [] ∷ behind)
-written_simple (simples.New n c a) = λ behind. equal_head (by_name n) (form new_value new_value_new ∷ word words.New (made_text c a.items behind))
+written_simple (simples.New n) = new_text n.value
 written_simple (simples.Print place i) = λ behind. form simple simple_cout ∷ mark words.Cout place (items_text i.items behind)
-written_simple (simples.Call place e) = λ behind. form simple simple_call ∷ mark words.Call place (word words.LeftParenthesis (whole_text e (word words.RightParenthesis behind)))
+written_simple (simples.Call place e) = λ behind. form simple simple_call ∷ mark words.Call place (word words.LeftParenthesis (whole_text e.value (word words.RightParenthesis behind)))
 
 abbrev pub in_parentheses : Grows → Grows
 in_parentheses text behind = word words.LeftParenthesis (text (word words.RightParenthesis behind))
@@ -159,23 +168,33 @@ with_text place mode n body behind = statement_by statement_with words.With plac
 abbrev pub parall_text : Place → Name → Grows → Grows → Grows
 parall_text place n all body behind = statement_by statement_parall words.Parall place (word words.LeftParenthesis (name n (word words.In (all (word words.RightParenthesis (body behind))))))
 
+abbrev pub unboxed : {A : Type 0} → Option (Box A Global) → Option A
+unboxed None = None
+unboxed (Some b) = Some b.value
+
+abbrev pub for_head_text : Place → ForHead → Grows → Grows
+for_head_text place head = for_text place (for_start_text head.start) (value_text head.test) (for_step_text head.step)
+
+abbrev pub watched_text : Place → Watched → Grows → Grows
+watched_text place w = whenever_text place (at_postfix (written w.variable)) w.event (events_text w.names)
+
 -- one layer of a statement
 abbrev pub statement_text : layers.Statement-F Grows Grows → Grows
 statement_text (layers.Block b) = λ behind. form statement statement_block ∷ b behind
 statement_text (layers.Empty place) = statement_by statement_semicolon words.Semicolon place
-statement_text (layers.Declaration d) = λ behind. form statement statement_declaration ∷ written_declaration d (word words.Semicolon behind)
+statement_text (layers.Declaration d) = λ behind. form statement statement_declaration ∷ written_declaration d.value (word words.Semicolon behind)
 statement_text (layers.Simple s) = λ behind. form statement statement_simple ∷ written_simple s (word words.Semicolon behind)
-statement_text (layers.Return place e) = λ behind. statement_by statement_return words.Return place (value_text e (word words.Semicolon behind))
-statement_text (layers.If place test yes_part no_part) = if_text place (whole_text test) yes_part.value (option_text (λ b. b.value) no_part)
-statement_text (layers.While place test body) = while_text place (whole_text test) body.value
-statement_text (layers.For place begin test step body) = for_text place (for_start_text begin) (value_text test) (for_step_text step) body.value
-statement_text (layers.ForAll place all body) = over_text statement_for_all words.ForAll place (generators_text (written_generators all)) body.value
-statement_text (layers.Select place all body) = over_text statement_select words.Select place (generators_text (written_generators all)) body.value
-statement_text (layers.SelectBy place e all key body) = select_by_text e place (generators_text (written_generators all)) (whole_text key) body.value
-statement_text (layers.Neighbor place key n body) = neighbor_text place (whole_text key) n body.value
-statement_text (layers.Whenever place variable n names body) = whenever_text place (at_postfix (written variable)) n (events_text names) body.value
-statement_text (layers.With place mode n body) = with_text place mode n body
-statement_text (layers.Parall place n all body) = parall_text place n (whole_text all) body.value
+statement_text (layers.Return place e) = λ behind. statement_by statement_return words.Return place (value_text (unboxed e) (word words.Semicolon behind))
+statement_text (layers.If place test yes_part no_part) = if_text place (whole_text test.value) yes_part.value (option_text (λ b. b.value) no_part)
+statement_text (layers.While place test body) = while_text place (whole_text test.value) body.value
+statement_text (layers.For place head body) = for_head_text place head.value body.value
+statement_text (layers.ForAll place all body) = over_text statement_for_all words.ForAll place (generators_text (written_generators all.value)) body.value
+statement_text (layers.Select place all body) = over_text statement_select words.Select place (generators_text (written_generators all.value)) body.value
+statement_text (layers.SelectBy place e all key body) = select_by_text e place (generators_text (written_generators all.value)) (whole_text key.value) body.value
+statement_text (layers.Neighbor place key n body) = neighbor_text place (whole_text key.value) n body.value
+statement_text (layers.Whenever place watched body) = watched_text place watched.value body.value
+statement_text (layers.With place mode n body) = with_text place mode n body.value
+statement_text (layers.Parall place n all body) = parall_text place n (whole_text all.value) body.value
 
 abbrev pub block_layer : layers.Block-F Grows Grows → Grows
 block_layer b = block_text b.place b.statements.items

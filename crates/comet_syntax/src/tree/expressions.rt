@@ -112,7 +112,7 @@ pub enum Expression {
     Aggregate {
         aggregate: Aggregate,
         place: Place,
-        generators: Generators,
+        generators: Box<Generators>,
         body: Box<Expression>,
     },
     /// A primary and what stands behind it: at least one suffix.
@@ -133,7 +133,7 @@ pub enum Expression {
     Name(Name),
     /// `name(arguments)`
     Call {
-        name: Name,
+        name: Box<Name>,
         arguments: Vec<Argument>,
     },
     /// `min(left, right)` or `max(left, right)`. The place is the keyword's.

@@ -15,7 +15,7 @@ pub enum TopPart {
     Import(Name),
     /// `include string;`
     Include(Text),
-    Function(Function),
+    Function(Box<Function>),
     Statement(Statement),
 }
 

@@ -10,68 +10,64 @@ pub enum Statement {
     /// `;`
     Empty(Place),
     /// A declaration and `;`
-    Declaration(Declaration),
+    Declaration(Box<Declaration>),
     /// A simple statement and `;`
     Simple(Simple),
     /// `return value;`
     Return {
         place: Place,
-        value: Option<Expression>,
+        value: Option<Box<Expression>>,
     },
     /// `if (test) then else otherwise`
     If {
         place: Place,
-        test: Expression,
+        test: Box<Expression>,
         then: Box<Statement>,
         otherwise: Option<Box<Statement>>,
     },
     /// `while (test) body`
     While {
         place: Place,
-        test: Expression,
+        test: Box<Expression>,
         body: Box<Statement>,
     },
     /// `for (start; test; step) body`
     For {
         place: Place,
-        start: Option<ForStart>,
-        test: Option<Expression>,
-        step: Option<Simple>,
+        head: Box<ForHead>,
         body: Box<Statement>,
     },
     /// `forall (generators) body`
     ForAll {
         place: Place,
-        generators: Generators,
+        generators: Box<Generators>,
         body: Box<Statement>,
     },
     /// `select (generators) body`
     Select {
         place: Place,
-        generators: Generators,
+        generators: Box<Generators>,
         body: Box<Statement>,
     },
     /// `selectMin (generators) (key) body` and `selectMax (generators) (key) body`
     SelectBy {
         place: Place,
         extreme: Extreme,
-        generators: Generators,
-        key: Expression,
+        generators: Box<Generators>,
+        key: Box<Expression>,
         body: Box<Statement>,
     },
     /// `neighbor (key, selector) body`
     Neighbor {
         place: Place,
-        key: Expression,
+        key: Box<Expression>,
         selector: Name,
         body: Box<Statement>,
     },
     /// `whenever variable@event(int old, int new) body`
     Whenever {
         place: Place,
-        variable: Expression,
-        event: Name,
-        names: Option<Events>,
+        watched: Box<Watched>,
         body: Box<Statement>,
     },
     /// `with atomic (solver) block` or `with delay (solver) block`
@@ -79,13 +75,13 @@ pub enum Statement {
         place: Place,
         mode: WithMode,
         solver: Name,
-        body: Block,
+        body: Box<Block>,
     },
     /// `parall (name in domain) body`
     Parall {
         place: Place,
         name: Name,
-        domain: Expression,
+        domain: Box<Expression>,
         body: Box<Statement>,
     },
 }
@@ -103,6 +99,22 @@ pub struct Block {
 pub struct ForStart {
     pub name: Name,
     pub value: Expression,
+}
+
+/// The three parts of a `for`. Each may be left out.
+#[derive(Drop)]
+pub struct ForHead {
+    pub start: Option<ForStart>,
+    pub test: Option<Expression>,
+    pub step: Option<Simple>,
+}
+
+/// `variable@event(int old, int new)`
+#[derive(Drop)]
+pub struct Watched {
+    pub variable: Expression,
+    pub event: Name,
+    pub names: Option<Events>,
 }
 
 /// The names of the old and the new value in a `whenever`.
@@ -148,28 +160,24 @@ pub enum Step {
 pub enum Simple {
     /// `target = value` and its like
     Write {
-        target: Expression,
+        target: Box<Expression>,
         operator: WriteOperator,
-        value: Expression,
+        value: Box<Expression>,
     },
     /// `left :=: right`
     Swap {
-        left: Expression,
-        right: Expression,
+        left: Box<Expression>,
+        right: Box<Expression>,
     },
     /// `target++` or `target--`
     Step {
-        target: Expression,
+        target: Box<Expression>,
         step: Step,
     },
     /// A postfix form alone.
     Postfix(Expression),
     /// `name = new class(arguments)`
-    New {
-        name: Name,
-        class: Class,
-        arguments: Vec<Argument>,
-    },
+    New(Box<NewObject>),
     /// `cout << items`, at least one. The place is that of `cout`.
     Print {
         place: Place,
@@ -178,8 +186,16 @@ pub enum Simple {
     /// `call(chosen)`. The place is that of `call`.
     Call {
         place: Place,
-        chosen: Expression,
+        chosen: Box<Expression>,
     },
+}
+
+/// `name = new class(arguments)`
+#[derive(Drop)]
+pub struct NewObject {
+    pub name: Name,
+    pub class: Class,
+    pub arguments: Vec<Argument>,
 }
 
 /// What `cout` prints.
