@@ -1,0 +1,15 @@
+-- An index of names that agrees with their list.
+use Rattle.std.specs.Prelude.{◌≡◌, ℕ, List, map, take, slice_get, Some}
+use Rattle.type_scopes.specs.declared.names.Binding.{Binding}
+use Rattle.type_scopes.specs.declared.names.Entry.{Entry}
+use Rattle.type_scopes.specs.declared.latest.Latest.{Latest}
+use Rattle.type_scopes.specs.Latest.{latest_at}
+use Rattle.type_scopes.specs.Names.{newest}
+
+abbrev pub bindings_of : List Entry → List Binding
+bindings_of es = map (λ e. e.binding) es
+
+-- each entry keeps which name it hides, and the index has the last name of each spelling
+pub record IsIndexed (entries : List Entry) (latest : Latest) : Type 0 where
+  pub hidden : (i : ℕ) (e : Entry) → slice_get entries i ≡ Some e → e.hidden ≡ newest e.binding.name (take i (bindings_of entries))
+  pub last : (name : List ℕ) → latest_at latest name ≡ newest name (bindings_of entries)

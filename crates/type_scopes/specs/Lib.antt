@@ -1,0 +1,7 @@
+pub mod Latest
+pub mod Effects
+pub mod State
+pub mod Did
+pub mod Names
+pub mod Index
+pub mod Functions
