@@ -1,2 +1,3 @@
 pub mod Spellings
 pub mod Indexes
+pub mod Loops

@@ -33,9 +33,19 @@ by_bytes f g bs w here other cs =
     (λ n. other cs n ∙ sym (cond-false (bytes_eq bs cs) w (f cs) n))
     (cases_Bool (bytes_eq bs cs))
 
+chosen : (b : Bool) (v : ℕ) (o : Option ℕ) → unwrap_or (cond b (Some v) o) 0 ≡ (if b then v else unwrap_or o 0)
+chosen true v o = refl
+chosen false v o = refl
+
 pub updated : (bs : List ℕ) {Y X : Type 0} (m n : BTreeMap (Vec ℕ Y) X) (w : Option X)
     → UpdatesBy (λ x y. slice_cmp nat_cmp x.items y.items) (λ k. slice_cmp nat_cmp bs k.items) m n w
     → (cs : List ℕ) → get_by (λ k. slice_cmp nat_cmp cs k.items) n ≡ cond (bytes_eq bs cs) w (get_by (λ k. slice_cmp nat_cmp cs k.items) m)
 updated bs m n w h =
     by_bytes (λ ds. get_by (λ k. slice_cmp nat_cmp ds k.items) m) (λ ds. get_by (λ k. slice_cmp nat_cmp ds k.items) n) bs w h.1
     (λ cs e. other_entries _ _ _ _ h.3 _ (λ x y. (eq_by_cmp_equiv nat_list_cmp_total).congr cs x.items y.items) (λ k. apart_in_order bs cs k.items e))
+
+-- the number of each spelling after a change at one
+pub renumbered : (bs : List ℕ) {Y : Type 0} (m n : BTreeMap (Vec ℕ Y) ℕ) (v : ℕ)
+    → UpdatesBy (λ x y. slice_cmp nat_cmp x.items y.items) (λ k. slice_cmp nat_cmp bs k.items) m n (Some v)
+    → (cs : List ℕ) → unwrap_or (get_by (λ k. slice_cmp nat_cmp cs k.items) n) 0 ≡ (if bytes_eq bs cs then v else unwrap_or (get_by (λ k. slice_cmp nat_cmp cs k.items) m) 0)
+renumbered bs m n v h cs = ap (λ o. unwrap_or o 0) (updated bs m n (Some v) h cs) ∙ chosen (bytes_eq bs cs) v (get_by (λ k. slice_cmp nat_cmp cs k.items) m)

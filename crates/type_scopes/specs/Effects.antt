@@ -1,6 +1,9 @@
 -- What a part does beyond giving a value, and what a function's effects are. From the language.
 use Rattle.std.specs.Prelude.{ℕ, Bool, true, false, not, ◌&&◌, ◌||◌, List, [], ◌∷◌, length, slice_set, Option, Some, None, nat_lt, nat_eq, if◌then◌else◌}
 use Rattle.std.specs.List.{list_any}
+use Rattle.std.proofs.Math.ListN.{replicate}
+use Rattle.std.specs.Cmp.Lexicographic.{pointwise}
+use Rattle.std.proofs.Math.Bool.{beq}
 use Rattle.checked_tree.specs.declared.expressions.Slot.{Slot}
 use Rattle.checked_tree.specs.declared.expressions.Slot.TheVariants.{Global, Local}
 use Rattle.type_scopes.specs.declared.effects.Doing.{Doing}
@@ -13,8 +16,7 @@ is_global (Local j) = false
 
 -- no parameter is written through
 abbrev pub no_flags : ℕ → List Bool
-no_flags 0 = []
-no_flags (suc n) = false ∷ no_flags n
+no_flags n = replicate n false
 
 -- the parameter that a cell is, if it is one, is written through
 abbrev pub marked : Slot → List Bool → List Bool
@@ -38,17 +40,9 @@ with_doing d roots e = record {
   forbidden = e.forbidden || d.forbidden;
 }
 
-abbrev pub same_test : Bool → Bool → Bool
-same_test true b = b
-same_test false b = not b
-
 abbrev pub same_flags : List Bool → List Bool → Bool
-same_flags [] [] = true
-same_flags [] (g ∷ gs) = false
-same_flags (f ∷ fs) [] = false
-same_flags (f ∷ fs) (g ∷ gs) = same_test f g && same_flags fs gs
+same_flags fs gs = pointwise beq fs gs
 
 abbrev pub same_effects : Effects → Effects → Bool
 same_effects a b =
-    (same_test a.impure b.impure && same_test a.writes_global b.writes_global)
-    && (same_test a.forbidden b.forbidden && same_flags a.written b.written)
+    beq a.impure b.impure && (beq a.writes_global b.writes_global && (beq a.forbidden b.forbidden && same_flags a.written b.written))

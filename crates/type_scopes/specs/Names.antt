@@ -1,6 +1,6 @@
 -- Names: where they are visible, and where their cells lie. Names stand in order of declaration; of equal ones the
 -- last is visible. From the language.
-use Rattle.std.specs.Prelude.{ℕ, Bool, true, false, not, ◌||◌, ◌-◌, ◌+◌, List, [], ◌∷◌, ◌++◌, length, take, slice_get, Option, Some, None, nat_lt, if◌then◌else◌}
+use Rattle.std.specs.Prelude.{ℕ, zero, suc, Bool, true, false, not, ◌||◌, ◌-◌, ◌+◌, List, [], ◌∷◌, ◌++◌, length, take, slice_get, Option, Some, None, nat_lt, if◌then◌else◌}
 use Rattle.std.specs.Str.{bytes_eq}
 use Rattle.checked_tree.specs.declared.kind.Kind.{Kind}
 use Rattle.checked_tree.specs.declared.expressions.Slot.{Slot}
@@ -15,7 +15,7 @@ abbrev pub is_named : List ℕ → Binding → Bool
 is_named name b = bytes_eq b.name name
 
 abbrev pub later_or : ℕ → Bool → ℕ
-later_or 0 here = if here then 1 else 0
+later_or zero here = if here then 1 else 0
 later_or (suc n) here = suc (suc n)
 
 -- the number, from 1, of the last name that is spelled so, and 0 where there is none
@@ -28,7 +28,7 @@ found_in i None = None
 found_in i (Some b) = Some (record { index = i; kind = b.kind; function = b.function })
 
 abbrev pub found_at : ℕ → List Binding → Option Found
-found_at 0 names = None
+found_at zero names = None
 found_at (suc i) names = found_in i (slice_get names i)
 
 -- the visible name that is spelled so

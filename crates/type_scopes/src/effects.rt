@@ -73,10 +73,10 @@ impl Effects {
     pub fn is_same(&self, other: &Effects) -> bool
         ensures { result ≡ effects.same_effects self.now other.now }
     {
+        let flags = is_same_flags(self.written.as_slice(), other.written.as_slice());
         self.impure == other.impure
-            && self.writes_global == other.writes_global
-            && self.forbidden == other.forbidden
-            && self.written.as_slice() == other.written.as_slice()
+            && (self.writes_global == other.writes_global
+                && (self.forbidden == other.forbidden && flags))
     }
 }
 
@@ -84,4 +84,10 @@ fn is_any_global(slots: &[Slot]) -> bool
     ensures { result ≡ list_any effects.is_global slots.now }
 {
     slots.iter().any(|slot| matches!(slot, Slot::Global(_)))
+}
+
+fn is_same_flags(ones: &[bool], others: &[bool]) -> bool
+    ensures { result ≡ effects.same_flags ones.now others.now }
+{
+    ones == others
 }

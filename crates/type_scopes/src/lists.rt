@@ -95,10 +95,7 @@ impl Flags {
     pub fn none(alloc: Global, count: usize) -> Result<Flags, cbl_base::NoMemory>
         ensures { IfOk result (λ flags. flags ≡ effects.no_flags count) }
     {
-        let mut items = Vec::new(alloc);
-        for _ in 0..count {
-            items.push(false)?;
-        }
+        let items = vec![in alloc; false; count]?;
         Ok(Flags { items })
     }
 
