@@ -5,3 +5,4 @@ pub mod Did
 pub mod Names
 pub mod Index
 pub mod Functions
+pub mod Uses

@@ -7,6 +7,7 @@
 pub mod checker;
 pub mod effects;
 pub mod latest;
+pub mod laws;
 pub mod lists;
 pub mod names;
 pub mod scope;
