@@ -39,7 +39,7 @@ use Rattle.cbl_operations.specs.Operations.Neg.{neg}
 use Rattle.cbl_operations.specs.Operations.Not.{not}
 use Rattle.cbl_operations.specs.Operations.Or.{or}
 use Rattle.cbl_operations.specs.Operations.Rem.{rem}
-use Rattle.cbl_operations.specs.Operations.SetOf.{set_of_true}
+use Rattle.cbl_operations.specs.Operations.SetOf.{set_of_ones}
 use Rattle.cbl_operations.specs.Operations.Sub.{sub}
 use Rattle.cbl_operations.specs.Operations.Sum.{sum}
 use Rattle.cbl_operations.specs.Operations.Union.{union}
@@ -69,7 +69,7 @@ rule_of users Lt = rule_of_numbers lt
 rule_of users And = rule_of_numbers and
 rule_of users Or = rule_of_numbers or
 rule_of users Not = rule_of_numbers not
-rule_of users (SetOf keys) = set_of_true keys
+rule_of users (SetOf keys) = set_of_ones keys
 rule_of users Union = union
 rule_of users Inter = inter
 rule_of users Minus = minus

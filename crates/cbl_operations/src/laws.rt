@@ -28,7 +28,7 @@ ghost use Rattle.cbl_operations.specs.Operations.Ne.{ne};
 ghost use Rattle.cbl_operations.specs.Operations.Not.{not as not_rule};
 ghost use Rattle.cbl_operations.specs.Operations.Or.{or};
 ghost use Rattle.cbl_operations.specs.Operations.Rem.{rem};
-ghost use Rattle.cbl_operations.specs.Operations.SetOf.{set_of_true};
+ghost use Rattle.cbl_operations.specs.Operations.SetOf.{set_of_ones};
 ghost use Rattle.cbl_operations.specs.Operations.Union.{union};
 ghost use Rattle.cbl_operations.specs.RuleOf.{rule_of, value_kind, is_constraint};
 ghost use Rattle.cbl_operations.specs.declared.op.Op.{Op};
@@ -96,14 +96,14 @@ pub fn members_of_sets()
 {}
 
 /// The keys of `argMin` are exactly those at which the number is least, those of `argMax` exactly those at
-/// which it is greatest, and those of `setof` exactly those at which it isn't 0.
+/// which it is greatest, and those of `setof` exactly those at which it is 1.
 pub fn keys_of_numbers()
     ensures least { (keys xs s : List ℤ) (key : ℤ) → (arg_min keys).value (as_inputs xs) ≡ Ok (Set s) →
         IsTrue (is_member key s) ↔ IsKeyWhere (IsLeastOf xs) keys xs key }
     ensures greatest { (keys xs s : List ℤ) (key : ℤ) → (arg_max keys).value (as_inputs xs) ≡ Ok (Set s) →
         IsTrue (is_member key s) ↔ IsKeyWhere (IsGreatestOf xs) keys xs key }
-    ensures true_ones { (keys xs s : List ℤ) (key : ℤ) → (set_of_true keys).value (as_inputs xs) ≡ Ok (Set s) →
-        IsTrue (is_member key s) ↔ IsKeyWhere (λ x. x ≢ pos 0) keys xs key }
+    ensures ones { (keys xs s : List ℤ) (key : ℤ) → (set_of_ones keys).value (as_inputs xs) ≡ Ok (Set s) →
+        IsTrue (is_member key s) ↔ IsKeyWhere (λ x. x ≡ pos 1) keys xs key }
 {}
 
 /// All values of an operation are of its kind, so over inputs of the same kinds they are of one.

@@ -4,10 +4,9 @@ ghost use Rattle.cbl_base.specs.Inputs.{as_inputs};
 ghost use Rattle.cbl_base.specs.Sets.{is_member};
 ghost use Rattle.cbl_base.specs.declared.input.Input.TheVariants.{Int, Set};
 ghost use Rattle.cbl_operations.specs.SetForms.{keys_where};
-ghost use Rattle.cbl_operations.specs.Truth.{is_true};
 ghost use Rattle.cbl_operations.specs.Operations.ArgMin.{arg_min};
 ghost use Rattle.cbl_operations.specs.Operations.ArgMax.{arg_max};
-ghost use Rattle.cbl_operations.specs.Operations.SetOf.{set_of_true};
+ghost use Rattle.cbl_operations.specs.Operations.SetOf.{set_of_ones};
 ghost use Rattle.cbl_operations.specs.Operations.Union.{union};
 ghost use Rattle.cbl_operations.specs.Operations.Inter.{inter};
 ghost use Rattle.cbl_operations.specs.Operations.Minus.{minus};
@@ -16,7 +15,6 @@ ghost use Rattle.cbl_operations.specs.Operations.Member.{member};
 ghost use Rattle.std.specs.Ordering.{int_eq};
 
 use crate::order::{greatest_of, least_of};
-use crate::truth::is_true;
 use cbl_base::{IntSet, NoMemory};
 use std::alloc::Global;
 
@@ -38,12 +36,12 @@ pub fn arg_max_value(alloc: Global, keys: &[i64], inputs: &[i64]) -> Result<IntS
     IntSet::from_slice(alloc, &found)
 }
 
-/// The value of `SetOf`, of keys and one number for each: the set of the keys whose number is true.
+/// The value of `SetOf`, of keys and one number for each: the set of the keys whose number is 1.
 pub fn set_of_value(alloc: Global, keys: &[i64], inputs: &[i64]) -> Result<IntSet, NoMemory>
     requires { length inputs.now ≡ length keys.now }
-    ensures { IfOk result (λ s. (set_of_true keys.now).value (as_inputs inputs.now) ≡ Ok (Set s)) }
+    ensures { IfOk result (λ s. (set_of_ones keys.now).value (as_inputs inputs.now) ≡ Ok (Set s)) }
 {
-    let found = true_keys(alloc, keys, inputs)?;
+    let found = keys_of(alloc, keys, inputs, 1)?;
     IntSet::from_slice(alloc, &found)
 }
 
@@ -94,19 +92,6 @@ fn keys_of(alloc: Global, keys: &[i64], numbers: &[i64], number: i64) -> Result<
     Ok(
         pairs
             .filter(|pair| *pair.1 == number)
-            .map(|pair| *pair.0)
-            .collect(alloc)?,
-    )
-}
-
-/// The keys whose number is true.
-fn true_keys(alloc: Global, keys: &[i64], numbers: &[i64]) -> Result<Vec<i64>, NoMemory>
-    ensures { IfOk result (λ v. v.items ≡ keys_where is_true keys.now numbers.now) }
-{
-    let pairs = keys.iter().zip(numbers);
-    Ok(
-        pairs
-            .filter(|pair| is_true(*pair.1))
             .map(|pair| *pair.0)
             .collect(alloc)?,
     )

@@ -37,7 +37,7 @@ impl<U: UserConstraint> NodeRule for KindOf<U> {
 
     ghost use Rattle.cbl_base.specs.Sets.{set_of};
     ghost use Rattle.cbl_base.specs.NumberRule.{one_kind_of_numbers};
-    ghost use Rattle.cbl_operations.specs.Truth.{is_true};
+    ghost use Rattle.cbl_operations.specs.Truth.{is_one};
     ghost use Rattle.cbl_operations.specs.SetForms.{keys_where, one_kind_of_keys, one_kind_of_two_sets};
     ghost use Rattle.cbl_operations.specs.Operations.Card.{one_kind_of_card};
     ghost use Rattle.cbl_operations.specs.Operations.Member.{one_kind_of_member};
@@ -45,7 +45,7 @@ impl<U: UserConstraint> NodeRule for KindOf<U> {
     ghost use Rattle.node_set.specs.Combining.{combined};
     ghost use Rattle.node_kinds.specs.ConstantRule.{one_kind_of_constant};
 
-    ghost one_kind = { elim [ Constant s ↦ one_kind_of_constant s.value | Operation s ↦ one_kind_of_numbers (⟦<OperationKind as NumberNode>⟧.number_rule s.node) | Constraint s ↦ one_kind_of_numbers (⟦<ConstraintKind<U> as NumberNode>⟧.number_rule s.node) | SetOf s ↦ one_kind_of_keys s.keys (λ xs. set_of (keys_where is_true s.keys xs)) | ArgExtreme s ↦ one_kind_of_keys s.least.keys (extreme_keys s.extreme s.least.keys) | TwoSets s ↦ one_kind_of_two_sets (combined s.combining) | Card _ ↦ one_kind_of_card | Member _ ↦ one_kind_of_member ] };
+    ghost one_kind = { elim [ Constant s ↦ one_kind_of_constant s.value | Operation s ↦ one_kind_of_numbers (⟦<OperationKind as NumberNode>⟧.number_rule s.node) | Constraint s ↦ one_kind_of_numbers (⟦<ConstraintKind<U> as NumberNode>⟧.number_rule s.node) | SetOf s ↦ one_kind_of_keys s.keys (λ xs. set_of (keys_where is_one s.keys xs)) | ArgExtreme s ↦ one_kind_of_keys s.least.keys (extreme_keys s.extreme s.least.keys) | TwoSets s ↦ one_kind_of_two_sets (combined s.combining) | Card _ ↦ one_kind_of_card | Member _ ↦ one_kind_of_member ] };
 
     fn reset(&mut self, inputs: &[Input]) -> Result<(), NoMemory> {
         match self {

@@ -9,7 +9,7 @@ ghost use Rattle.cbl_violations.specs.Violations.Sequence.{sequence};
 ghost use Rattle.cbl_violations.specs.Violations.WeightedTotal.{weighted_total};
 ghost use Rattle.cbl_operations.specs.Operations.ArgMax.{arg_max};
 ghost use Rattle.cbl_operations.specs.Operations.ArgMin.{arg_min};
-ghost use Rattle.cbl_operations.specs.Operations.SetOf.{set_of_true};
+ghost use Rattle.cbl_operations.specs.Operations.SetOf.{set_of_ones};
 ghost use Rattle.cbl_operations.specs.RuleOf.{rule_of, is_constraint};
 ghost use Rattle.diff_global.specs.CardinalityRules.{rule_of_cardinality};
 ghost use Rattle.node_num.specs.BinaryRules.{rule_of_binary};
@@ -225,9 +225,9 @@ impl<U: UserConstraint> KindOf<U> {
         KindOf::operation(alloc, OperationKind::Junction(Junction::new(alloc, kind)))
     }
 
-    /// The node of the set of those keys that stand at a true number.
+    /// The node of the set of those keys whose number is 1.
     fn set_of(alloc: Global, keys: &Numbers) -> Result<KindOf<U>, NoMemory>
-        ensures { IfOk result (λ kind. ⟦<KindOf<U> as NodeRule>⟧.rule kind ≡ set_of_true keys.now) }
+        ensures { IfOk result (λ kind. ⟦<KindOf<U> as NodeRule>⟧.rule kind ≡ set_of_ones keys.now) }
     {
         let keys = Numbers::from_slice(alloc, keys.as_slice())?;
         Ok(KindOf::SetOf(SetOf::new(alloc, keys)))

@@ -1,9 +1,9 @@
-//! The set of the keys whose number is true.
+//! The set of the keys whose number is 1.
 ghost use Rattle.std.specs.Prelude.{◌≡◌, ◌<◌, IfOk, OnOk, length, slice_set};
 ghost use Rattle.cbl_base.specs.Inputs.{numbers_of};
-ghost use Rattle.cbl_operations.specs.Operations.SetOf.{set_of_true};
+ghost use Rattle.cbl_operations.specs.Operations.SetOf.{set_of_ones};
 ghost use Rattle.cbl_operations.specs.SetForms.{keys_where};
-ghost use Rattle.cbl_operations.specs.Truth.{is_true};
+ghost use Rattle.cbl_operations.specs.Truth.{is_one};
 ghost use Rattle.node_set.specs.Bags.{IsBagOf};
 
 use crate::key_bag::KeyBag;
@@ -15,19 +15,19 @@ use std::alloc::Global;
 pub struct SetOf {
     keys: Numbers,
     numbers: Vec<i64>,
-    true_keys: KeyBag,
+    ones: KeyBag,
     alloc: Global,
 }
 
 impl SetOf {
-    /// The node of `SetOf` with these keys: the set of the keys whose number is true.
+    /// The node of `SetOf` with these keys: the set of the keys whose number is 1.
     pub fn new(alloc: Global, keys: Numbers) -> SetOf
-        ensures { ⟦<SetOf as NodeRule>⟧.rule result ≡ set_of_true keys }
+        ensures { ⟦<SetOf as NodeRule>⟧.rule result ≡ set_of_ones keys }
     {
         SetOf {
             keys,
             numbers: Vec::new(alloc),
-            true_keys: KeyBag::new(alloc),
+            ones: KeyBag::new(alloc),
             alloc,
         }
     }
@@ -37,22 +37,22 @@ impl NodeRule for SetOf {
     ghost use Rattle.std.specs.Prelude.{◌≡◌, length};
     ghost use Rattle.cbl_base.specs.Inputs.{as_inputs};
     ghost use Rattle.cbl_base.specs.Sets.{set_of};
-    ghost use Rattle.cbl_operations.specs.Operations.SetOf.{set_of_true};
+    ghost use Rattle.cbl_operations.specs.Operations.SetOf.{set_of_ones};
     ghost use Rattle.cbl_operations.specs.SetForms.{keys_where, one_kind_of_keys};
-    ghost use Rattle.cbl_operations.specs.Truth.{is_true};
+    ghost use Rattle.cbl_operations.specs.Truth.{is_one};
     ghost use Rattle.node_set.specs.Bags.{IsBagOf};
 
-    ghost rule = { λ s. set_of_true s.keys };
+    ghost rule = { λ s. set_of_ones s.keys };
 
-    ghost ready = { λ s. IsBagOf s.true_keys (keys_where is_true s.keys s.numbers.items) × (length s.numbers.items ≡ length s.keys) };
+    ghost ready = { λ s. IsBagOf s.ones (keys_where is_one s.keys s.numbers.items) × (length s.numbers.items ≡ length s.keys) };
 
     ghost held = { λ s. as_inputs s.numbers.items };
 
-    ghost one_kind = { λ s. one_kind_of_keys s.keys (λ xs. set_of (keys_where is_true s.keys xs)) };
+    ghost one_kind = { λ s. one_kind_of_keys s.keys (λ xs. set_of (keys_where is_one s.keys xs)) };
 
     fn reset(&mut self, inputs: &[Input]) -> Result<(), NoMemory> {
         self.numbers = numbers_in(self.alloc, inputs)?;
-        self.true_keys = bag_of(self.alloc, self.keys.as_slice(), &self.numbers)?;
+        self.ones = bag_of(self.alloc, self.keys.as_slice(), &self.numbers)?;
         Ok(())
     }
 
@@ -61,7 +61,7 @@ impl NodeRule for SetOf {
             match change {
                 Change::Int { place, old, new } => {
                     let key = self.keys.as_slice()[*place as usize];
-                    self.true_keys.change(key, is_true(*old), is_true(*new))?;
+                    self.ones.change(key, is_one(*old), is_one(*new))?;
                     self.numbers[*place as usize] = *new;
                 }
                 Change::Set { .. } => unreachable!(),
@@ -71,21 +71,21 @@ impl NodeRule for SetOf {
     }
 
     fn probe(&self, changes: &[Change]) -> Result<NodeValue, NodeFault> {
-        let mut true_keys = self.true_keys.copied(self.alloc)?;
+        let mut ones = self.ones.copied(self.alloc)?;
         for change in changes {
             match change {
                 Change::Int { place, old, new } => {
                     let key = self.keys.as_slice()[*place as usize];
-                    true_keys.change(key, is_true(*old), is_true(*new))?;
+                    ones.change(key, is_one(*old), is_one(*new))?;
                 }
                 Change::Set { .. } => unreachable!(),
             }
         }
-        Ok(true_keys.into_kept())
+        Ok(ones.into_kept())
     }
 
     fn value(&self) -> Result<&NodeValue, RunFault> {
-        Ok(self.true_keys.kept())
+        Ok(self.ones.kept())
     }
 
     fn place_violation(&self, _place: u32) -> i64 {
@@ -107,21 +107,21 @@ fn numbers_in(alloc: Global, inputs: &[Input]) -> Result<Vec<i64>, NoMemory>
     Ok(numbers)
 }
 
-/// The keys whose number is true.
+/// The keys whose number is 1.
 fn bag_of(alloc: Global, keys: &[i64], numbers: &[i64]) -> Result<KeyBag, NoMemory>
     requires { length numbers.now ≡ length keys.now }
-    ensures { IfOk result (λ bag. IsBagOf bag (keys_where is_true keys.now numbers.now)) }
+    ensures { IfOk result (λ bag. IsBagOf bag (keys_where is_one keys.now numbers.now)) }
 {
     let mut bag = KeyBag::new(alloc);
     for i in 0..keys.len() {
-        bag.change(keys[i], false, is_true(numbers[i]))?;
+        bag.change(keys[i], false, is_one(numbers[i]))?;
     }
     Ok(bag)
 }
 
-/// Whether a number counts as true.
-fn is_true(number: i64) -> bool
-    ensures { result ≡ is_true number }
+/// Whether a number is 1.
+fn is_one(number: i64) -> bool
+    ensures { result ≡ is_one number }
 {
-    number != 0
+    number == 1
 }

@@ -170,22 +170,22 @@ fn keys_above_two(rt: HostRuntime) -> Result<(), Fail> {
     )
 }
 
-// A key that has two numbers stays while one of them is true.
+// A key that has two numbers stays while one of them is 1; other numbers count for nothing.
 #[test]
 fn a_key_with_two_numbers(rt: HostRuntime) -> Result<(), Fail> {
     let alloc = rt.alloc();
     let keys = Numbers::from_slice(alloc, &[7, 7, 5])?;
-    let inputs = vec![in alloc; Input::Int(1), Input::Int(-1), Input::Int(0)]?;
+    let inputs = vec![in alloc; Input::Int(1), Input::Int(1), Input::Int(2)]?;
     let changes = vec![in alloc;
         Change::Int {
             place: 0,
             old: 1,
-            new: 0,
+            new: -1,
         },
         Change::Int {
             place: 2,
-            old: 0,
-            new: i64::MIN,
+            old: 2,
+            new: 1,
         },
     ]?;
     trial(

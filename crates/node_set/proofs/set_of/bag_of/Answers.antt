@@ -15,4 +15,4 @@ loop-i-preserved c =
     let number = get_or c.args.numbers.now c.loop-i.i (pos 0) in
     let fits_key : FitsSigned w64 key = search rules in
     let fits_number : FitsSigned w64 number = search rules in
-    more_turn c.loop-i.bag c.change.new.self c.args.keys.now c.args.numbers.now c.loop-i.i key c.is_true.result (simp (to_z-of_z w64 key fits_key) at c.in_ok-change.ensures) c.loop-i.invariant c.requires c.loop-i-test.true refl (simp (to_z-of_z w64 number fits_number) at c.is_true.ensures)
+    more_turn c.loop-i.bag c.change.new.self c.args.keys.now c.args.numbers.now c.loop-i.i key c.is_one.result (simp (to_z-of_z w64 key fits_key) at c.in_ok-change.ensures) c.loop-i.invariant c.requires c.loop-i-test.true refl (simp (to_z-of_z w64 number fits_number) at c.is_one.ensures)

@@ -24,13 +24,13 @@ change-requires-clause-stood c =
     let fits : FitsSigned w64 key = search rules in
     let fits_old : FitsSigned w64 c.in-Int.old = search rules in
     rw (to_z-of_z w64 key fits)
-    (stood_turn s.true_keys s.keys s.numbers.items c.in-Int.place c.in-Int.old key c.is_true.result c.loop-change.invariant.bag c.loop-change.invariant.length turn.within turn.there (ap (λ t. get_or t c.in-Int.place (pos 0)) c.as_slice.ensures) (simp (to_z-of_z w64 c.in-Int.old fits_old) at c.is_true.ensures))
+    (stood_turn s.ones s.keys s.numbers.items c.in-Int.place c.in-Int.old key c.is_one.result c.loop-change.invariant.bag c.loop-change.invariant.length turn.within turn.there (ap (λ t. get_or t c.in-Int.place (pos 0)) c.as_slice.ensures) (simp (to_z-of_z w64 c.in-Int.old fits_old) at c.is_one.ensures))
 
 pub change-requires-clause-few : goal.change-requires-clause-few
 change-requires-clause-few c =
     let s = c.loop-change.self in
     let short : length c.as_slice.result.now < 2 ^ 63 = search rules in
-    few_where s.true_keys s.keys s.numbers.items _ c.loop-change.invariant.bag (subst (λ t. length t < 2 ^ 63) c.as_slice.ensures short)
+    few_where s.ones s.keys s.numbers.items _ c.loop-change.invariant.bag (subst (λ t. length t < 2 ^ 63) c.as_slice.ensures short)
 
 pub index_mut-requires : goal.index_mut-requires
 index_mut-requires c =
@@ -55,7 +55,7 @@ loop-change-preserved c =
     rw (to_z-of_z w64 c.in-Int.new fits_new)
     (record {
       held = turn.after;
-      bag = next_turn s.true_keys c.change.new.self s.keys s.numbers.items c.in-Int.place c.in-Int.old c.in-Int.new key c.is_true.result c.is_true-in-Int.result (simp (to_z-of_z w64 key fits) at c.in_ok-change-in-Int.ensures) c.loop-change.invariant.bag c.loop-change.invariant.length turn.within turn.there (ap (λ t. get_or t c.in-Int.place (pos 0)) c.as_slice.ensures) (simp (to_z-of_z w64 c.in-Int.old fits_old) at c.is_true.ensures) (simp (to_z-of_z w64 c.in-Int.new fits_new) at c.is_true-in-Int.ensures);
+      bag = next_turn s.ones c.change.new.self s.keys s.numbers.items c.in-Int.place c.in-Int.old c.in-Int.new key c.is_one.result c.is_one-in-Int.result (simp (to_z-of_z w64 key fits) at c.in_ok-change-in-Int.ensures) c.loop-change.invariant.bag c.loop-change.invariant.length turn.within turn.there (ap (λ t. get_or t c.in-Int.place (pos 0)) c.as_slice.ensures) (simp (to_z-of_z w64 c.in-Int.old fits_old) at c.is_one.ensures) (simp (to_z-of_z w64 c.in-Int.new fits_new) at c.is_one-in-Int.ensures);
       length = length-set s.numbers.items c.in-Int.place c.in-Int.new ∙ c.loop-change.invariant.length;
       keys = c.loop-change.invariant.keys;
     })

@@ -25,13 +25,13 @@ change-requires-clause-stood c =
     let fits : FitsSigned w64 key = search rules in
     let fits_old : FitsSigned w64 c.in-Int.old = search rules in
     rw (to_z-of_z w64 key fits)
-    (stood_turn c.loop-change.true_keys c.args.self.now.keys i.0 c.in-Int.place c.in-Int.old key c.is_true.result i.3 i.2 turn.within turn.there (ap (λ t. get_or t c.in-Int.place (pos 0)) c.as_slice.ensures) (simp (to_z-of_z w64 c.in-Int.old fits_old) at c.is_true.ensures))
+    (stood_turn c.loop-change.ones c.args.self.now.keys i.0 c.in-Int.place c.in-Int.old key c.is_one.result i.3 i.2 turn.within turn.there (ap (λ t. get_or t c.in-Int.place (pos 0)) c.as_slice.ensures) (simp (to_z-of_z w64 c.in-Int.old fits_old) at c.is_one.ensures))
 
 pub change-requires-clause-few : goal.change-requires-clause-few
 change-requires-clause-few c =
     let i = c.loop-change.invariant in
     let short : length c.as_slice.result.now < 2 ^ 63 = search rules in
-    few_where c.loop-change.true_keys c.args.self.now.keys i.0 _ i.3 (subst (λ t. length t < 2 ^ 63) c.as_slice.ensures short)
+    few_where c.loop-change.ones c.args.self.now.keys i.0 _ i.3 (subst (λ t. length t < 2 ^ 63) c.as_slice.ensures short)
 
 pub unreachable-requires : goal.unreachable-requires
 unreachable-requires c =
@@ -48,10 +48,10 @@ loop-change-preserved c =
       set i.0 c.in-Int.place c.in-Int.new,
       turn.after,
       length-set i.0 c.in-Int.place c.in-Int.new ∙ i.2,
-      next_turn c.loop-change.true_keys c.change.new.self c.args.self.now.keys i.0 c.in-Int.place c.in-Int.old c.in-Int.new key c.is_true.result c.is_true-in-Int.result (simp (to_z-of_z w64 key fits) at c.in_ok-change-in-Int.ensures) i.3 i.2 turn.within turn.there (ap (λ t. get_or t c.in-Int.place (pos 0)) c.as_slice.ensures) (simp (to_z-of_z w64 c.in-Int.old fits_old) at c.is_true.ensures) (simp (to_z-of_z w64 c.in-Int.new fits_new) at c.is_true-in-Int.ensures),
+      next_turn c.loop-change.ones c.change.new.self c.args.self.now.keys i.0 c.in-Int.place c.in-Int.old c.in-Int.new key c.is_one.result c.is_one-in-Int.result (simp (to_z-of_z w64 key fits) at c.in_ok-change-in-Int.ensures) i.3 i.2 turn.within turn.there (ap (λ t. get_or t c.in-Int.place (pos 0)) c.as_slice.ensures) (simp (to_z-of_z w64 c.in-Int.old fits_old) at c.is_one.ensures) (simp (to_z-of_z w64 c.in-Int.new fits_new) at c.is_one-in-Int.ensures),
     )
 
 pub returns : goal.returns
 returns c =
     let i = c.loop-change.invariant in
-    kept_value c.args.self.now.keys i.0 _ c.loop-change.true_keys _ (i.1 ∙ ap (λ cs. after_changes (as_inputs c.args.self.now.numbers.items) cs) (take_all _ _ c.loop-change-test.false)) i.3 c.into_kept.ensures
+    kept_value c.args.self.now.keys i.0 _ c.loop-change.ones _ (i.1 ∙ ap (λ cs. after_changes (as_inputs c.args.self.now.numbers.items) cs) (take_all _ _ c.loop-change-test.false)) i.3 c.into_kept.ensures
