@@ -17,5 +17,6 @@ mod tests;
 
 pub use constant::Constant;
 pub use constraint_kind::ConstraintKind;
+pub use copying::copy_of;
 pub use kind::{Kind, KindOf};
 pub use operation_kind::OperationKind;

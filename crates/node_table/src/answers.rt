@@ -1,63 +1,69 @@
-//! What a node answers, as text: a number, the members of a set, or a fault by its code, and behind it the
+//! What is answered, as text: a number, the members of a set, or a fault by its code; and behind it the
 //! violations at all places where one isn't 0.
 ghost use Rattle.std.specs.Prelude.{◌≡◌, ◌<◌, ◌^◌, length, IsOk};
 
-use cbl_base::{Input, NodeFault, NodeRule, NodeValue, RunFault};
+use cbl_base::{Input, NoMemory, NodeFault, NodeRule, NodeValue, RunFault};
 use std::alloc::Global;
-use std::test::Fail;
 
-/// A number, or a set by its members.
-pub(crate) fn value_text(alloc: Global, value: &NodeValue) -> Result<String, Fail> {
-    match value {
-        Input::Int(number) => Ok(format!(in alloc; "{}", number)?),
-        Input::Set(set) => Ok(format!(in alloc; "{:?}", set.as_slice())?),
-    }
+/// An answer, without the violations at the places and with them.
+#[derive(Drop)]
+pub(crate) struct Told {
+    pub(crate) value: String,
+    pub(crate) whole: String,
 }
 
-/// The code of a fault.
-pub(crate) fn fault_text(alloc: Global, fault: RunFault) -> Result<String, Fail> {
-    Ok(format!(in alloc; "F{}", fault.code())?)
+/// A value and the violations at all places as text.
+pub(crate) fn tell(alloc: Global, value: &NodeValue, violations: &[i64]) -> Result<Told, NoMemory> {
+    let value = value_text(alloc, value)?;
+    let mut whole = value.clone()?;
+    if violations.iter().any(|violation| *violation != 0) {
+        whole.push_str(" at ")?;
+        push_list(&mut whole, violations)?;
+    }
+    Ok(Told { value, whole })
 }
 
-/// A value and the violations at all places.
-pub(crate) fn joined(alloc: Global, value: String, violations: &[i64]) -> Result<String, Fail> {
-    if violations.iter().all(|v| *v == 0) {
-        Ok(value)
-    } else {
-        Ok(format!(in alloc; "{} at {:?}", value, violations)?)
-    }
+/// A fault as text.
+pub(crate) fn tell_fault(alloc: Global, fault: RunFault) -> Result<Told, NoMemory> {
+    Ok(Told {
+        value: fault_text(alloc, fault)?,
+        whole: fault_text(alloc, fault)?,
+    })
 }
 
 /// What a probe answered.
 pub(crate) fn probed_text(
     alloc: Global,
     probed: Result<NodeValue, NodeFault>,
-) -> Result<String, Fail> {
+) -> Result<String, NoMemory> {
     match probed {
         Ok(value) => value_text(alloc, &value),
         Err(NodeFault::Run(fault)) => fault_text(alloc, fault),
-        Err(NodeFault::NoMemory) => Ok(format!(in alloc; "no memory")?),
+        Err(NodeFault::NoMemory) => Err(NoMemory),
     }
 }
 
-/// The value of a node over so many inputs, and its violations at their places.
-pub(crate) fn node_text<N: NodeRule>(alloc: Global, node: &N, places: usize) -> Result<String, Fail>
+/// What a node over so many inputs answers.
+pub(crate) fn told_of_node<N: NodeRule>(
+    alloc: Global,
+    node: &N,
+    places: usize,
+) -> Result<Told, NoMemory>
     requires ready { N.ready node.now }
     requires places { length (N.held node.now) ≡ places }
+    requires count { places < 2 ^ 32 }
 {
     match node.value() {
-        Ok(value) if places < 1_000 => {
-            let text = value_text(alloc, value)?;
+        Ok(value) => {
             let violations = violations_of(alloc, node, places)?;
-            joined(alloc, text, violations.as_slice())
+            tell(alloc, value, violations.as_slice())
         }
-        Ok(_) => Ok(format!(in alloc; "too many places")?),
-        Err(fault) => fault_text(alloc, fault),
+        Err(fault) => tell_fault(alloc, fault),
     }
 }
 
 /// The violation at each place of a node over so many inputs.
-fn violations_of<N: NodeRule>(alloc: Global, node: &N, places: usize) -> Result<Vec<i64>, Fail>
+fn violations_of<N: NodeRule>(alloc: Global, node: &N, places: usize) -> Result<Vec<i64>, NoMemory>
     requires ready { N.ready node.now }
     requires places { length (N.held node.now) ≡ places }
     requires count { places < 2 ^ 32 }
@@ -68,4 +74,39 @@ fn violations_of<N: NodeRule>(alloc: Global, node: &N, places: usize) -> Result<
         all.push(node.place_violation(place as u32))?;
     }
     Ok(all)
+}
+
+fn value_text(alloc: Global, value: &NodeValue) -> Result<String, NoMemory> {
+    let mut text = String::new(alloc);
+    match value {
+        Input::Int(number) => push_number(&mut text, *number)?,
+        Input::Set(set) => push_list(&mut text, set.as_slice())?,
+    }
+    Ok(text)
+}
+
+fn fault_text(alloc: Global, fault: RunFault) -> Result<String, NoMemory> {
+    Ok(format!(in alloc; "F{}", fault.code())?)
+}
+
+/// Adds the numbers, as a table has them.
+fn push_list(text: &mut String, numbers: &[i64]) -> Result<(), NoMemory> {
+    text.push('[')?;
+    for (index, number) in numbers.iter().enumerate() {
+        if index > 0 {
+            text.push(',')?;
+        }
+        push_number(text, *number)?;
+    }
+    text.push(']')?;
+    Ok(())
+}
+
+fn push_number(text: &mut String, number: i64) -> Result<(), NoMemory> {
+    match number {
+        i64::MIN => text.push_str("MIN")?,
+        i64::MAX => text.push_str("MAX")?,
+        _ => write!(text, "{number}")?,
+    }
+    Ok(())
 }

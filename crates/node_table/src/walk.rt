@@ -1,127 +1,185 @@
-//! A node over numbers on its way from state to state, beside the meaning of its operation.
-ghost use Rattle.std.specs.Prelude.{◌≡◌, ◌<◌, ◌^◌, false, None, length, IsTrue, OnOk};
-ghost use Rattle.cbl_base.specs.Inputs.{as_inputs, kinds_of};
-ghost use Rattle.cbl_operations.specs.RuleOf.{rule_of};
-ghost use Rattle.node_kinds.specs.OpNodes.{is_user, users_of};
+//! A node on its way from state to state, beside what it is to answer.
+ghost use Rattle.std.specs.Prelude.{◌≡◌, ◌<◌, ◌^◌, length, IfOk, IsTrue, OnOk};
+ghost use Rattle.cbl_base.specs.Changes.{AreChanges, after_changes};
+ghost use Rattle.cbl_base.specs.Inputs.{kinds_of};
 
-use crate::answers::{node_text, probed_text};
-use crate::from_scratch::{FromScratch, scratch_text, scratch_value_text};
-use cbl_base::NodeRule;
+use crate::answers::{probed_text, told_of_node};
+use crate::from_scratch::told_from_scratch;
+use crate::given::{givens, inputs_of};
+use crate::stop::Stop;
+use crate::subject::{Subject, subject_of};
+use crate::zeros::NoZeros;
+use cbl_base::{Change, Input, NodeRule};
 use cbl_operations::Op;
-use node_base::{changes_between, inputs_of};
-use node_kinds::Kind;
+use node_kinds::{Kind, KindOf, copy_of};
+use node_states::{Places, are_numbers, are_so_many, changes_between, takes};
 use std::alloc::Global;
-use std::process::Abort;
-use std::test::Fail;
+use user_constraint::UserConstraint;
 
-/// The inputs of a node, and the answer that was worked out for them by hand.
-pub(crate) type Row = (&'static [i64], &'static str);
+/// How many inputs a node of a table has at most.
+const MOST_INPUTS: usize = 1000;
 
-/// The node of an operation begins at `start`, comes to each row in turn, and answers as the operation
-/// means and as the row wants.
-pub(crate) fn check(
-    rt: &impl Abort,
-    alloc: Global,
-    op: &Op,
-    start: &'static [i64],
-    rows: &[Row],
-) -> Result<(), Fail>
-    requires no_user { is_user op.now ≡ false }
-    requires takes { IsTrue ((rule_of (users_of None) op.now).takes (kinds_of (as_inputs start.now))) }
-{
-    check_node(rt, alloc, Kind::of(alloc, op, None)?, op, start, rows)
+/// How many states a node came to, and what it answered otherwise than it should: nothing.
+#[derive(Drop)]
+pub(crate) struct Walked {
+    pub(crate) states: usize,
+    pub(crate) differs: String,
 }
 
-/// The same of any node and its meaning.
-pub(crate) fn check_node<N: NodeRule, S: FromScratch>(
-    rt: &impl Abort,
-    alloc: Global,
-    node: N,
-    meaning: &S,
-    start: &'static [i64],
-    rows: &[Row],
-) -> Result<(), Fail>
-    requires takes { IsTrue ((N.rule node).takes (kinds_of (as_inputs start.now))) }
-{
-    let report = follow(alloc, node, meaning, start, rows)?;
-    assert!(rt; report.is_empty(), "{}", report);
-    Ok(())
+impl Walked {
+    /// Nothing, since a line isn't in form.
+    pub(crate) fn out_of_form(alloc: Global) -> Result<Walked, Stop> {
+        Ok(Walked {
+            states: 0,
+            differs: String::from_str(alloc, "\n  not in form")?,
+        })
+    }
 }
 
-/// What the node answers otherwise than it means or than the rows want: nothing.
-fn follow<N: NodeRule, S: FromScratch>(
+/// What comes of the node that the head names, with the inputs that it begins with, on its way through the
+/// rows. The box is for it where it is a user's constraint in one.
+pub(crate) fn walk_of(
+    alloc: Global,
+    head: &str,
+    rows: &str,
+    boxed: Box<dyn UserConstraint>,
+) -> Result<Walked, Stop> {
+    let (named, start) = head.split_once(':').ok_or(Stop::Form)?;
+    let named = named.trim();
+    let (name, kept) = named.split_once(' ').unwrap_or((named, ""));
+    let kept = givens(alloc, kept)?;
+    let subject = subject_of(alloc, name, kept.as_slice())?;
+    let start = givens(alloc, start)?;
+    let start = inputs_of(alloc, start.as_slice())?;
+    walk_of_subject(alloc, &subject, start, rows, boxed)
+}
+
+fn walk_of_subject(
+    alloc: Global,
+    subject: &Subject,
+    start: Vec<Input>,
+    rows: &str,
+    boxed: Box<dyn UserConstraint>,
+) -> Result<Walked, Stop> {
+    match subject {
+        Subject::Operation(op) if takes(op, start.as_slice()) => {
+            follow(alloc, Kind::of(alloc, op, None)?, subject, start, rows)
+        }
+        Subject::Constant(value) if start.is_empty() => {
+            let node = Kind::constant(alloc, copy_of(alloc, value)?);
+            follow(alloc, node, subject, start, rows)
+        }
+        Subject::Total(members) if are_so_many(start.as_slice(), *members as usize * 2) => {
+            follow(alloc, Kind::total(alloc, *members), subject, start, rows)
+        }
+        Subject::Repeat if are_so_many(start.as_slice(), 1) => {
+            follow(alloc, Kind::repeat(alloc), subject, start, rows)
+        }
+        Subject::NoZeros if are_numbers(start.as_slice()) => {
+            let op = Op::User { number: 0 };
+            let node = KindOf::of(alloc, &op, Some(NoZeros::new(alloc)))?;
+            follow(alloc, node, subject, start, rows)
+        }
+        Subject::BoxedNoZeros if are_numbers(start.as_slice()) => {
+            let op = Op::User { number: 0 };
+            let node = Kind::of(alloc, &op, Some(boxed))?;
+            follow(alloc, node, subject, start, rows)
+        }
+        _ => Err(Stop::Form),
+    }
+}
+
+/// The node begins with these inputs, and comes to each row in turn.
+fn follow<N: NodeRule>(
     alloc: Global,
     node: N,
-    meaning: &S,
-    start: &'static [i64],
-    rows: &[Row],
-) -> Result<String, Fail>
-    requires takes { IsTrue ((N.rule node).takes (kinds_of (as_inputs start.now))) }
+    subject: &Subject,
+    start: Vec<Input>,
+    rows: &str,
+) -> Result<Walked, Stop>
+    requires takes { IsTrue ((N.rule node).takes (kinds_of start.items)) }
 {
     let mut node = node;
-    node.reset(inputs_of(alloc, start)?.as_slice())?;
+    node.reset(start.as_slice())?;
     let mut held = start;
-    let mut report = String::new(alloc);
-    for (state, want) in rows {
-        if state.len() == held.len() && held.len() < 1_000 {
-            let line = step(alloc, &mut node, meaning, held, state, want)?;
-            report.push_str(line.as_str())?;
-            held = *state;
-        } else {
-            report.push_str("a row of another length; ")?;
+    let mut differs = String::new(alloc);
+    let mut states = 0usize;
+    for row in rows.lines() {
+        let (state, want) = row.split_once('=').ok_or(Stop::Form)?;
+        let to = givens(alloc, state)?;
+        let to = inputs_of(alloc, to.as_slice())?;
+        let changes = changes_to(alloc, held.as_slice(), to.as_slice())?;
+        if held.len() != to.len() || to.len() > MOST_INPUTS {
+            return Err(Stop::Form);
         }
+        let way = Way {
+            from: held.as_slice(),
+            to: to.as_slice(),
+            changes: changes.as_slice(),
+        };
+        let line = step(alloc, &mut node, subject, &way, want.trim())?;
+        differs.push_str(line.as_str())?;
+        states = states.saturating_add(1);
+        held = to;
     }
-    Ok(report)
+    Ok(Walked { states, differs })
 }
 
-/// Goes from one list of numbers to another. The node is asked before, while the changes are probed and
-/// when they are made.
-fn step<N: NodeRule, S: FromScratch>(
+/// The changes to a state: among numbers alone where they differ, and else at all places.
+fn changes_to(alloc: Global, held: &[Input], to: &[Input]) -> Result<Vec<Change>, Stop>
+    ensures changes { IfOk result (λ changes. AreChanges held.now changes.items) }
+    ensures after { IfOk result (λ changes. after_changes held.now changes.items ≡ to.now) }
+{
+    let places = if are_numbers(held) {
+        Places::Differing
+    } else {
+        Places::All
+    };
+    match changes_between(alloc, held, to, places)? {
+        Some(changes) => Ok(changes),
+        None => Err(Stop::Form),
+    }
+}
+
+/// From the inputs that a node holds to others.
+#[derive(Clone, Copy)]
+struct Way<'a> {
+    from: &'a [Input],
+    to: &'a [Input],
+    changes: &'a [Change],
+}
+
+/// Makes the changes. The node is asked before, while they are probed, and when they are made.
+fn step<N: NodeRule>(
     alloc: Global,
     node: &mut N,
-    meaning: &S,
-    from: &[i64],
-    to: &[i64],
+    subject: &Subject,
+    way: &Way<'_>,
     want: &str,
-) -> Result<String, Fail>
+) -> Result<String, Stop>
     requires ready { N.ready node.old }
-    requires held { N.held node.old ≡ as_inputs from.now }
-    requires lengths { length to.now ≡ length from.now }
-    requires places { length from.now < 2 ^ 32 }
+    requires held { N.held node.old ≡ way.now.from.now }
+    requires few { length way.now.from.now < 2 ^ 32 }
+    requires few_then { length way.now.to.now < 2 ^ 32 }
+    requires changes { AreChanges way.now.from.now way.now.changes.now }
+    requires after { after_changes way.now.from.now way.now.changes.now ≡ way.now.to.now }
     ensures ready { OnOk result (N.ready node.new) }
-    ensures held { OnOk result (N.held node.new ≡ as_inputs to.now) }
+    ensures held { OnOk result (N.held node.new ≡ way.now.to.now) }
 {
-    let changes = changes_between(alloc, from, to)?;
-    let before = node_text(alloc, node, from.len())?;
-    let probed = probed_text(alloc, node.probe(changes.as_slice()))?;
-    let still = node_text(alloc, node, from.len())?;
-    node.apply(changes.as_slice())?;
-    let after = node_text(alloc, node, to.len())?;
-    let stays = [scratch_text(alloc, meaning, from)?, before, still];
-    let comes = [
-        scratch_value_text(alloc, meaning, to)?,
-        probed,
-        scratch_text(alloc, meaning, to)?,
-        after,
-    ];
-    report_of(alloc, to, want, &stays, &comes)
-}
-
-/// Nothing where the node stayed at what it was, came to what was probed and to what its inputs mean, and
-/// that is what was wanted; and else all of it.
-fn report_of(
-    alloc: Global,
-    to: &[i64],
-    want: &str,
-    stays: &[String; 3],
-    comes: &[String; 4],
-) -> Result<String, Fail> {
-    let has_stayed = stays[0] == stays[1] && stays[1] == stays[2];
-    let is_probed = comes[0] == comes[1];
-    let has_come = comes[2] == comes[3] && comes[3].as_str() == want;
-    if has_stayed && is_probed && has_come {
-        Ok(String::new(alloc))
-    } else {
-        Ok(format!(in alloc; "{:?}: {:?} -> {:?}, wanted {}; ", to, stays, comes, want)?)
+    let meant_before = told_from_scratch(alloc, subject, way.from)?.whole;
+    let before = told_of_node(alloc, node, way.from.len())?.whole;
+    let probed = probed_text(alloc, node.probe(way.changes))?;
+    let still = told_of_node(alloc, node, way.from.len())?.whole;
+    node.apply(way.changes)?;
+    let after = told_of_node(alloc, node, way.to.len())?.whole;
+    let meant = told_from_scratch(alloc, subject, way.to)?;
+    let stays = meant_before == before && before == still;
+    let comes = meant.value == probed && meant.whole == after && after.as_str() == want;
+    if stays && comes {
+        return Ok(String::new(alloc));
     }
+    Ok(format!(in alloc;
+        "\n  wanted {want}: the node gives {after}, probed {probed}, from scratch {}; before {before}, {still}, from scratch {meant_before}",
+        meant.whole
+    )?)
 }

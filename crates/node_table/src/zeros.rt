@@ -3,10 +3,8 @@ ghost use Rattle.std.specs.Prelude.{◌≡◌, ◌<◌, ◌≤◌, ◌^◌, pos,
 ghost use Rattle.user_constraint.specs.Moves.{AreMoves, after_moves};
 ghost use Rattle.node_table.specs.Zeros.{zeros, zeros_at};
 
-use crate::from_scratch::{Answer, FromScratch};
-use cbl_base::{Input, NoMemory};
+use cbl_base::NoMemory;
 use std::alloc::Global;
-use std::test::Fail;
 use user_constraint::UserConstraint;
 
 /// The numbers, of which none is to be 0.
@@ -83,28 +81,5 @@ fn make_moves(list: &mut Vec<i64>, moves: &[(usize, i64)])
 {
     for change in moves {
         list[change.0] = change.1;
-    }
-}
-
-/// What the constraint means, from scratch.
-#[derive(Drop)]
-pub(crate) struct ZerosOf;
-
-impl FromScratch for ZerosOf {
-    fn answer(&self, _alloc: Global, inputs: &[i64]) -> Result<Answer, Fail> {
-        let mut count: i64 = 0;
-        for x in inputs {
-            if *x == 0 {
-                count = count.saturating_add(1);
-            }
-        }
-        Ok(Ok(Input::Int(count)))
-    }
-
-    fn violation_at(&self, inputs: &[i64], place: usize) -> i64 {
-        match inputs.get(place) {
-            Some(0) => 1,
-            _ => 0,
-        }
     }
 }

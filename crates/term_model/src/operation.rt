@@ -59,7 +59,7 @@ fn as_value(value: Result<i64, RunFault>) -> Result<Input, RunFault>
 
 #[tactic(auto, using(crate::proofs::KeyedValues::arg_min_again, crate::proofs::KeyedValues::arg_max_again, crate::proofs::KeyedValues::set_of_again))]
 /// The value of an operation that takes these inputs: the value of its rule.
-pub(crate) fn value_of<U: UserValues>(
+pub fn value_of<U: UserValues>(
     alloc: Global,
     users: &U,
     op: &Op,

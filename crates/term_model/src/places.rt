@@ -12,7 +12,7 @@ use cbl_violations as violations;
 use std::alloc::Global;
 
 /// The violation at a place of a constraint that has a value, counted from 0; 0 for what isn't a constraint.
-pub(crate) fn violation_at<U: UserValues>(
+pub fn violation_at<U: UserValues>(
     alloc: Global,
     users: &U,
     op: &Op,

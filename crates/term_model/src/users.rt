@@ -23,7 +23,7 @@ pub trait UserValues {
 
 /// No constraints of users.
 #[derive(Clone, Copy, Debug)]
-pub(crate) struct NoUsers;
+pub struct NoUsers;
 
 impl UserValues for NoUsers {
     ghost use Rattle.std.specs.Prelude.{pos};

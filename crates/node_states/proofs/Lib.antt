@@ -1,0 +1,3 @@
+mod NumberKinds
+mod SetSteps
+mod Steps

@@ -1,0 +1,2 @@
+pub mod NumberInput
+pub mod Step
