@@ -1,235 +1,235 @@
-//! Statements: each in parentheses that begin with its keyword, blocks in braces.
-use crate::declarations::write_declaration;
-use crate::expressions::{write_behind, write_generators};
-use crate::simples::write_simple;
-use crate::words::{selector_word, with_words};
-use crate::writer::Writer;
+//! Statements, each in parentheses that begin with its keyword, and blocks in braces.
+
+use crate::declarations::push_declaration;
+use crate::part::Part::{
+    Act, Arguments, Behind, Items, Made, Mark, Named, Over, Quoted, Statements, Value, Words,
+};
+use crate::part::{Part, form};
+use crate::words::{selector_word, step_operator, with_words, write_operator};
 use cbl_base::{NoMemory, Place};
 use comet_syntax::tree::{
-    Block, Events, Expression, Extreme, ForStart, Generators, Name, Simple, Statement, WithMode,
+    Argument, Class, Events, Expression, ForStart, Generators, Item, Name, Simple, Statement,
 };
 use std::slice::from_ref;
 
-/// A piece of a statement's text that is still to be written.
-#[derive(Clone, Copy)]
-enum Rest<'a> {
-    Words(&'a str),
-    /// `}` and its place.
-    Close(Place),
-    /// Each behind a space.
-    Statements(&'a [Statement]),
+/// Puts the parts of a simple statement on the list. A postfix form alone stands as it is.
+pub(crate) fn push_simple<'a>(
+    todo: &mut Vec<Part<'a>>,
+    simple: &'a Simple,
+) -> Result<(), NoMemory> {
+    match simple {
+        Simple::Write {
+            target,
+            operator,
+            value,
+        } => {
+            let operator = Words(write_operator(*operator));
+            form(todo, "(_ _ _)", &[Value(target), operator, Value(value)])
+        }
+        Simple::Swap { left, right } => form(todo, "(_ :=: _)", &[Value(left), Value(right)]),
+        Simple::Step { target, step } => form(
+            todo,
+            "(_ _)",
+            &[Value(target), Words(step_operator(*step))],
+        ),
+        Simple::Postfix(expression) => form(todo, "_", &[Value(expression)]),
+        Simple::New(made) => push_new(todo, &made.name, &made.class, made.arguments.as_slice()),
+        Simple::Print { place, items } => form(
+            todo,
+            "(__)",
+            &[Mark("cout", *place), Items(items.as_slice())],
+        ),
+        Simple::Call { place, chosen } => form(
+            todo,
+            "(_ _)",
+            &[Mark("call", *place), Value(chosen)],
+        ),
+    }
 }
 
-/// A statement that ends with a statement.
-fn push_body<'a>(todo: &mut Vec<Rest<'a>>, body: &'a Statement) -> Result<(), NoMemory> {
-    todo.push(Rest::Words(")"))?;
-    todo.push(Rest::Statements(from_ref(body)))?;
+/// `(name = new class(arguments))`
+fn push_new<'a>(
+    todo: &mut Vec<Part<'a>>,
+    name: &'a Name,
+    class: &'a Class,
+    arguments: &'a [Argument],
+) -> Result<(), NoMemory> {
+    form(
+        todo,
+        "(_ = new _(_))",
+        &[Named(name), Made(class), Arguments(arguments)],
+    )
+}
+
+/// The first item behind `<<`, and the rest.
+pub(crate) fn push_items<'a>(todo: &mut Vec<Part<'a>>, items: &'a [Item]) -> Result<(), NoMemory> {
+    let Some(item) = items.first() else {
+        return Ok(());
+    };
+    let written = match item {
+        Item::Expression(expression) => Value(expression),
+        Item::Str(text) => Quoted(text),
+        Item::EndLine => Words("endl"),
+    };
+    form(todo, " << __", &[written, Items(&items[1..])])
+}
+
+/// The first statement behind a space, and the rest.
+pub(crate) fn push_statements<'a>(
+    todo: &mut Vec<Part<'a>>,
+    statements: &'a [Statement],
+) -> Result<(), NoMemory> {
+    let Some(statement) = statements.first() else {
+        return Ok(());
+    };
+    todo.push(Statements(&statements[1..]))?;
+    push_statement(todo, statement)?;
+    todo.push(Words(" "))?;
     Ok(())
 }
 
-/// Writes the opening of a block.
-fn open_block<'a>(
-    writer: &mut Writer,
-    todo: &mut Vec<Rest<'a>>,
-    block: &'a Block,
-) -> Result<(), NoMemory> {
-    writer.words("{")?;
-    todo.push(Rest::Close(block.place))?;
-    todo.push(Rest::Statements(block.statements.as_slice()))?;
-    Ok(())
-}
-
-/// Writes `(return)` or `(return value)`.
-fn write_return(
-    writer: &mut Writer,
-    place: Place,
-    value: Option<&Expression>,
-) -> Result<(), NoMemory> {
-    writer.mark("(return", place)?;
-    write_behind(writer, " ", value)?;
-    writer.words(")")
-}
-
-/// Writes a keyword and an expression, with a space between.
-fn write_head(
-    writer: &mut Writer,
-    word: &str,
-    place: Place,
-    expression: &Expression,
-) -> Result<(), NoMemory> {
-    writer.mark(word, place)?;
-    write_behind(writer, " ", Some(expression))
-}
-
-/// The branches of an `if`.
-fn push_branches<'a>(
-    todo: &mut Vec<Rest<'a>>,
+/// `(if test then)` or `(if test then else otherwise)`
+fn push_if<'a>(
+    todo: &mut Vec<Part<'a>>,
+    head: &[Part<'a>; 2],
     then: &'a Statement,
     otherwise: Option<&'a Statement>,
 ) -> Result<(), NoMemory> {
+    let then = Statements(from_ref(then));
     match otherwise {
-        Some(otherwise) => {
-            push_body(todo, otherwise)?;
-            todo.push(Rest::Words(" else"))?;
-            todo.push(Rest::Statements(from_ref(then)))?;
-            Ok(())
-        }
-        None => push_body(todo, then),
+        Some(otherwise) => form(
+            todo,
+            "(_ __ else_)",
+            &[head[0], head[1], then, Statements(from_ref(otherwise))],
+        ),
+        None => form(todo, "(_ __)", &[head[0], head[1], then]),
     }
 }
 
-/// Writes `(for (int name = value; test; step)`, where each of the three may be left out.
-fn write_for(
-    writer: &mut Writer,
+/// `(for (int name = value; test; step) body)`, where each of the three may be left out.
+fn push_for<'a>(
+    todo: &mut Vec<Part<'a>>,
     place: Place,
-    start: Option<&ForStart>,
-    test: Option<&Expression>,
-    step: Option<&Simple>,
+    head: (
+        Option<&'a ForStart>,
+        Option<&'a Expression>,
+        Option<&'a Simple>,
+    ),
+    body: &'a Statement,
 ) -> Result<(), NoMemory> {
-    writer.mark("(for", place)?;
-    writer.words(" (")?;
-    if let Some(start) = start {
-        writer.words_name("int ", &start.name)?;
-        write_behind(writer, " = ", Some(&start.value))?;
-    }
-    writer.words(";")?;
-    write_behind(writer, " ", test)?;
-    writer.words(";")?;
+    let (start, test, step) = head;
+    form(todo, ")_)", &[Statements(from_ref(body))])?;
     if let Some(step) = step {
-        writer.words(" ")?;
-        write_simple(writer, step)?;
+        form(todo, " _", &[Act(step)])?;
     }
-    writer.words(")")
-}
-
-/// Writes a keyword and generators, with a space between.
-fn write_over(
-    writer: &mut Writer,
-    word: &str,
-    place: Place,
-    generators: &Generators,
-) -> Result<(), NoMemory> {
-    writer.mark(word, place)?;
-    writer.words(" ")?;
-    write_generators(writer, generators)
-}
-
-/// Writes `(selectMin (generators) key`.
-fn write_select_by(
-    writer: &mut Writer,
-    extreme: Extreme,
-    place: Place,
-    generators: &Generators,
-    key: &Expression,
-) -> Result<(), NoMemory> {
-    write_over(writer, selector_word(extreme), place, generators)?;
-    write_behind(writer, " ", Some(key))
-}
-
-/// Writes `(neighbor key selector`.
-fn write_neighbor(
-    writer: &mut Writer,
-    place: Place,
-    key: &Expression,
-    selector: &Name,
-) -> Result<(), NoMemory> {
-    write_head(writer, "(neighbor", place, key)?;
-    writer.words_name(" ", selector)
-}
-
-/// Writes `(whenever variable @ event (old, new)`, or with no names.
-fn write_whenever(
-    writer: &mut Writer,
-    place: Place,
-    variable: &Expression,
-    event: &Name,
-    names: Option<&Events>,
-) -> Result<(), NoMemory> {
-    write_head(writer, "(whenever", place, variable)?;
-    writer.words_name(" @ ", event)?;
-    if let Some(events) = names {
-        writer.words_name(" (", &events.old)?;
-        writer.words_name(", ", &events.new)?;
-        writer.words(")")?;
+    form(todo, ";_;", &[Behind(" ", test)])?;
+    if let Some(start) = start {
+        form(
+            todo,
+            "int _ = _",
+            &[Named(&start.name), Value(&start.value)],
+        )?;
     }
-    Ok(())
+    form(todo, "(_ (", &[Mark("for", place)])
 }
 
-/// Writes `(with atomic solver `.
-fn write_with(
-    writer: &mut Writer,
-    mode: WithMode,
-    place: Place,
-    solver: &Name,
+/// `(word (generators) body)`, or with a key behind the generators.
+fn push_over<'a>(
+    todo: &mut Vec<Part<'a>>,
+    word: Part<'a>,
+    generators: &'a Generators,
+    key: Option<&'a Expression>,
+    body: &'a Statement,
 ) -> Result<(), NoMemory> {
-    writer.mark(with_words(mode), place)?;
-    writer.words_name(" ", solver)?;
-    writer.words(" ")
+    form(
+        todo,
+        "(_ (__)__)",
+        &[
+            word,
+            Over(generators.generators.as_slice()),
+            Behind(" : ", generators.condition.as_deref()),
+            Behind(" ", key),
+            Statements(from_ref(body)),
+        ],
+    )
 }
 
-/// Writes `(parall name in domain`.
-fn write_parall(
-    writer: &mut Writer,
+/// `(whenever variable @ event (old, new) body)`, or with no names.
+fn push_whenever<'a>(
+    todo: &mut Vec<Part<'a>>,
     place: Place,
-    name: &Name,
-    domain: &Expression,
+    variable: &'a Expression,
+    event: &'a Name,
+    names: Option<&'a Events>,
+    body: &'a Statement,
 ) -> Result<(), NoMemory> {
-    writer.mark("(parall", place)?;
-    writer.words_name(" ", name)?;
-    write_behind(writer, " in ", Some(domain))
+    form(todo, "_)", &[Statements(from_ref(body))])?;
+    if let Some(names) = names {
+        form(todo, " (_, _)", &[Named(&names.old), Named(&names.new)])?;
+    }
+    form(
+        todo,
+        "(_ _ @ _",
+        &[Mark("whenever", place), Value(variable), Named(event)],
+    )
 }
 
-/// Writes what stands before the statements in a statement, and puts those on the list.
-fn open_statement<'a>(
-    writer: &mut Writer,
-    todo: &mut Vec<Rest<'a>>,
+/// Puts the parts of a statement on the list.
+pub(crate) fn push_statement<'a>(
+    todo: &mut Vec<Part<'a>>,
     statement: &'a Statement,
 ) -> Result<(), NoMemory> {
     match statement {
-        Statement::Block(block) => open_block(writer, todo, block),
-        Statement::Empty(place) => writer.mark(";", *place),
-        Statement::Declaration(declaration) => write_declaration(writer, declaration),
-        Statement::Simple(simple) => write_simple(writer, simple),
-        Statement::Return { place, value } => write_return(writer, *place, value.as_ref()),
+        Statement::Block(block) => form(
+            todo,
+            "{__",
+            &[
+                Statements(block.statements.as_slice()),
+                Mark(" }", block.place),
+            ],
+        ),
+        Statement::Empty(place) => form(todo, "_", &[Mark(";", *place)]),
+        Statement::Declaration(declaration) => push_declaration(todo, declaration),
+        Statement::Simple(simple) => push_simple(todo, simple),
+        Statement::Return { place, value } => form(
+            todo,
+            "(__)",
+            &[Mark("return", *place), Behind(" ", value.as_deref())],
+        ),
         Statement::If {
             place,
             test,
             then,
             otherwise,
         } => {
-            write_head(writer, "(if", *place, test)?;
-            push_branches(todo, then, otherwise.as_deref())
+            let head = [Mark("if", *place), Value(test)];
+            push_if(todo, &head, then, otherwise.as_deref())
         }
-        Statement::While { place, test, body } => {
-            write_head(writer, "(while", *place, test)?;
-            push_body(todo, body)
-        }
-        Statement::For {
-            place,
-            start,
-            test,
-            step,
+        Statement::While { place, test, body } => form(
+            todo,
+            "(_ __)",
+            &[
+                Mark("while", *place),
+                Value(test),
+                Statements(from_ref(body)),
+            ],
+        ),
+        Statement::For { place, head, body } => push_for(
+            todo,
+            *place,
+            (head.start.as_ref(), head.test.as_ref(), head.step.as_ref()),
             body,
-        } => {
-            write_for(writer, *place, start.as_ref(), test.as_ref(), step.as_ref())?;
-            push_body(todo, body)
-        }
+        ),
         Statement::ForAll {
             place,
             generators,
             body,
-        } => {
-            write_over(writer, "(forall", *place, generators)?;
-            push_body(todo, body)
-        }
+        } => push_over(todo, Mark("forall", *place), generators, None, body),
         Statement::Select {
             place,
             generators,
             body,
-        } => {
-            write_over(writer, "(select", *place, generators)?;
-            push_body(todo, body)
-        }
+        } => push_over(todo, Mark("select", *place), generators, None, body),
         Statement::SelectBy {
             place,
             extreme,
@@ -237,98 +237,65 @@ fn open_statement<'a>(
             key,
             body,
         } => {
-            write_select_by(writer, *extreme, *place, generators, key)?;
-            push_body(todo, body)
+            let word = Mark(selector_word(*extreme), *place);
+            push_over(todo, word, generators, Some(key), body)
         }
         Statement::Neighbor {
             place,
             key,
             selector,
             body,
-        } => {
-            write_neighbor(writer, *place, key, selector)?;
-            push_body(todo, body)
-        }
+        } => form(
+            todo,
+            "(_ _ __)",
+            &[
+                Mark("neighbor", *place),
+                Value(key),
+                Named(selector),
+                Statements(from_ref(body)),
+            ],
+        ),
         Statement::Whenever {
             place,
-            variable,
-            event,
-            names,
+            watched,
             body,
-        } => {
-            write_whenever(writer, *place, variable, event, names.as_ref())?;
-            push_body(todo, body)
-        }
+        } => push_whenever(
+            todo,
+            *place,
+            &watched.variable,
+            &watched.event,
+            watched.names.as_ref(),
+            body,
+        ),
         Statement::With {
             place,
             mode,
             solver,
             body,
-        } => {
-            write_with(writer, *mode, *place, solver)?;
-            todo.push(Rest::Words(")"))?;
-            open_block(writer, todo, body)
-        }
+        } => form(
+            todo,
+            "(_ _ {__)",
+            &[
+                Mark(with_words(*mode), *place),
+                Named(solver),
+                Statements(body.statements.as_slice()),
+                Mark(" }", body.place),
+            ],
+        ),
         Statement::Parall {
             place,
             name,
             domain,
             body,
-        } => {
-            write_parall(writer, *place, name, domain)?;
-            push_body(todo, body)
-        }
+        } => form(
+            todo,
+            "(_ _ in __)",
+            &[
+                Mark("parall", *place),
+                Named(name),
+                Value(domain),
+                Statements(from_ref(body)),
+            ],
+        ),
     }
-}
-
-/// Writes the opening of the first statement, and puts the others on the list.
-fn open_statements<'a>(
-    writer: &mut Writer,
-    todo: &mut Vec<Rest<'a>>,
-    statements: &'a [Statement],
-) -> Result<(), NoMemory> {
-    let Some(statement) = statements.first() else {
-        return Ok(());
-    };
-    writer.words(" ")?;
-    todo.push(Rest::Statements(&statements[1..]))?;
-    open_statement(writer, todo, statement)
-}
-
-/// Writes what is next, or its opening.
-fn write_rest<'a>(
-    writer: &mut Writer,
-    todo: &mut Vec<Rest<'a>>,
-    rest: Rest<'a>,
-) -> Result<(), NoMemory> {
-    match rest {
-        Rest::Words(words) => writer.words(words),
-        Rest::Close(place) => writer.mark(" }", place),
-        Rest::Statements(statements) => open_statements(writer, todo, statements),
-    }
-}
-
-/// Writes what is on the list, piece by piece, so that no statement is too deep.
-fn write_all(writer: &mut Writer, mut todo: Vec<Rest<'_>>) -> Result<(), NoMemory> {
-    for _turn in 0..u64::MAX {
-        let Some(rest) = todo.pop() else {
-            break;
-        };
-        write_rest(writer, &mut todo, rest)?;
-    }
-    Ok(())
-}
-
-/// Writes a statement.
-pub fn write_statement(writer: &mut Writer, statement: &Statement) -> Result<(), NoMemory> {
-    let mut todo = Vec::new(writer.alloc);
-    open_statement(writer, &mut todo, statement)?;
-    write_all(writer, todo)
-}
-
-/// Writes a block.
-pub fn write_block(writer: &mut Writer, block: &Block) -> Result<(), NoMemory> {
-    let mut todo = Vec::new(writer.alloc);
-    open_block(writer, &mut todo, block)?;
-    write_all(writer, todo)
 }

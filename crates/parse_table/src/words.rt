@@ -5,7 +5,7 @@ use comet_syntax::tree::{
 };
 
 /// The sign of an operator of a chain.
-pub fn chain_operator(operator: ChainOperator) -> &'static str {
+pub(crate) fn chain_operator(operator: ChainOperator) -> &'static str {
     match operator {
         ChainOperator::Or => "||",
         ChainOperator::And => "&&",
@@ -18,7 +18,7 @@ pub fn chain_operator(operator: ChainOperator) -> &'static str {
 }
 
 /// The sign of a comparison.
-pub fn comparison_operator(comparison: Comparison) -> &'static str {
+pub(crate) fn comparison_operator(comparison: Comparison) -> &'static str {
     match comparison {
         Comparison::Equal => "==",
         Comparison::NotEqual => "!=",
@@ -29,52 +29,52 @@ pub fn comparison_operator(comparison: Comparison) -> &'static str {
     }
 }
 
-/// The sign of an operator in front, behind an opening parenthesis.
-pub fn unary_operator(operator: UnaryOperator) -> &'static str {
+/// The sign of an operator in front.
+pub(crate) fn unary_operator(operator: UnaryOperator) -> &'static str {
     match operator {
-        UnaryOperator::Negative => "(-",
-        UnaryOperator::Not => "(!",
+        UnaryOperator::Negative => "-",
+        UnaryOperator::Not => "!",
     }
 }
 
 /// The keyword of an extreme of two.
-pub fn extreme_word(extreme: Extreme) -> &'static str {
+pub(crate) fn extreme_word(extreme: Extreme) -> &'static str {
     match extreme {
         Extreme::Min => "min",
         Extreme::Max => "max",
     }
 }
 
-/// The keyword of a selector with a key, behind an opening parenthesis.
-pub fn selector_word(extreme: Extreme) -> &'static str {
+/// The keyword of a selector with a key.
+pub(crate) fn selector_word(extreme: Extreme) -> &'static str {
     match extreme {
-        Extreme::Min => "(selectMin",
-        Extreme::Max => "(selectMax",
+        Extreme::Min => "selectMin",
+        Extreme::Max => "selectMax",
     }
 }
 
-/// The keyword of an aggregate, behind an opening parenthesis.
-pub fn aggregate_word(aggregate: Aggregate) -> &'static str {
+/// The keyword of an aggregate.
+pub(crate) fn aggregate_word(aggregate: Aggregate) -> &'static str {
     match aggregate {
-        Aggregate::Sum => "(sum",
-        Aggregate::Min => "(min",
-        Aggregate::Max => "(max",
-        Aggregate::All => "(all",
-        Aggregate::And => "(and",
-        Aggregate::Or => "(or",
-        Aggregate::SetOf => "(setof",
-        Aggregate::ArgMin => "(argMin",
-        Aggregate::ArgMax => "(argMax",
+        Aggregate::Sum => "sum",
+        Aggregate::Min => "min",
+        Aggregate::Max => "max",
+        Aggregate::All => "all",
+        Aggregate::And => "and",
+        Aggregate::Or => "or",
+        Aggregate::SetOf => "setof",
+        Aggregate::ArgMin => "argMin",
+        Aggregate::ArgMax => "argMax",
     }
 }
 
 /// The keyword of a truth value.
-pub fn truth_word(value: bool) -> &'static str {
+pub(crate) fn truth_word(value: bool) -> &'static str {
     if value { "true" } else { "false" }
 }
 
 /// The keyword of a type of incremental variables.
-pub fn incremental_word(word: Incremental) -> &'static str {
+pub(crate) fn incremental_word(word: Incremental) -> &'static str {
     match word {
         Incremental::Var => "var",
         Incremental::Inc => "inc",
@@ -82,7 +82,7 @@ pub fn incremental_word(word: Incremental) -> &'static str {
 }
 
 /// The keyword of what a function gives.
-pub fn kind_word(kind: ResultKind) -> &'static str {
+pub(crate) fn kind_word(kind: ResultKind) -> &'static str {
     match kind {
         ResultKind::Void => "void",
         ResultKind::Int => "int",
@@ -90,29 +90,29 @@ pub fn kind_word(kind: ResultKind) -> &'static str {
     }
 }
 
-/// The keywords of a `with`, behind an opening parenthesis.
-pub fn with_words(mode: WithMode) -> &'static str {
+/// The keywords of a `with`.
+pub(crate) fn with_words(mode: WithMode) -> &'static str {
     match mode {
-        WithMode::Atomic => "(with atomic",
-        WithMode::Delay => "(with delay",
+        WithMode::Atomic => "with atomic",
+        WithMode::Delay => "with delay",
     }
 }
 
-/// The sign of a write, with a space before and behind it.
-pub fn write_operator(operator: WriteOperator) -> &'static str {
+/// The sign of a write.
+pub(crate) fn write_operator(operator: WriteOperator) -> &'static str {
     match operator {
-        WriteOperator::Set => " = ",
-        WriteOperator::Add => " += ",
-        WriteOperator::Subtract => " -= ",
-        WriteOperator::Assign => " := ",
-        WriteOperator::Define => " <- ",
+        WriteOperator::Set => "=",
+        WriteOperator::Add => "+=",
+        WriteOperator::Subtract => "-=",
+        WriteOperator::Assign => ":=",
+        WriteOperator::Define => "<-",
     }
 }
 
-/// The sign of a step behind a space, and a closing parenthesis.
-pub fn step_operator(step: Step) -> &'static str {
+/// The sign of a step.
+pub(crate) fn step_operator(step: Step) -> &'static str {
     match step {
-        Step::Increment => " ++)",
-        Step::Decrement => " --)",
+        Step::Increment => "++",
+        Step::Decrement => "--",
     }
 }
