@@ -253,6 +253,12 @@ pub record IsExtreme (w : Writing) : Type 0 where
   pub right : Writing
   pub is : w ≡ extreme_of extreme place left right
 
+-- arguments of which there is a first one
+pub record IsListed (all : Vec Argument Global) : Type 0 where
+  pub first : Argument
+  pub more : List Argument
+  pub is : reverse all.items ≡ first ∷ more
+
 abbrev pub PairRestLevel : PairRest → Type 0
 PairRestLevel (pair_rests.Over domain more condition body) = Unit {0}
 PairRestLevel (pair_rests.Two called inner b right suffixes) = StartsRight b
@@ -273,4 +279,5 @@ Level grammar.and_tail links = LinksStart IsConjoining links
 Level grammar.or_tail links = LinksStart IsDisjoining links
 Level grammar.pair_named r = PairRestLevel r
 Level grammar.dimension_rest r = DimensionRestLevel r
+Level grammar.listed all = IsListed all
 Level _ _ = Unit {0}
