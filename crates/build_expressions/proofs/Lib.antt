@@ -1,1 +1,4 @@
+pub mod Fits
+pub mod Fitting
 pub mod Generators
+pub mod Links

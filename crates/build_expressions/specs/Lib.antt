@@ -1,1 +1,5 @@
+pub mod Made
+pub mod MadeArguments
 pub mod MadeGenerators
+pub mod MadeLevels
+pub mod MadeOperands

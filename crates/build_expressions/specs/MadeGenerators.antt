@@ -12,14 +12,14 @@ use Rattle.parse_stacks.specs.Undoing.{Values}
 
 -- the first generator, the others in order, and the condition
 abbrev pub GeneratorsMade : Values generators_generator → Generators → Type 0
-GeneratorsMade v x = written_generators x ≡ record { all = written_generator v.0 ∷ map written_generator (reverse v.1.0.items); only = option_value written v.1.1.0 }
+GeneratorsMade (first, (more, (condition, end))) x = written_generators x ≡ record { all = written_generator first ∷ map written_generator (reverse more.items); only = option_value written condition }
 
 -- one more before the others
 abbrev pub MoreGeneratorsMade : Values generators_tail_comma → Vec Generator Global → Type 0
-MoreGeneratorsMade v x = reverse x.items ≡ v.1.0 ∷ reverse v.1.1.0.items
+MoreGeneratorsMade (comma, (next, (more, end))) x = reverse x.items ≡ next ∷ reverse more.items
 
 abbrev pub GeneratorMade : Values generator_name → Generator → Type 0
-GeneratorMade v x = written_generator x ≡ record { bound = v.0; domain = written v.1.1.0 }
+GeneratorMade (name, (word, (domain, end))) x = written_generator x ≡ record { bound = name; domain = written domain }
 
 abbrev pub ConditionMade : Values condition_colon → Option Expression → Type 0
-ConditionMade v x = x ≡ Some v.1.0
+ConditionMade (colon, (test, end)) x = x ≡ Some test

@@ -4,6 +4,12 @@
 //! the stacks and puts there what is made of them.
 #![tactic(auto)]
 
+mod arguments;
 mod generating;
+mod laws;
+mod levels;
+mod making;
+mod operands;
+mod pairs;
 
 pub use generating::{undo_condition, undo_generator, undo_generators_form, undo_generators_more};

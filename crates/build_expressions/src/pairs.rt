@@ -1,0 +1,202 @@
+//! `min` and `max`, behind whose parenthesis two expressions or generators may stand.
+ghost use Rattle.std.specs.Prelude.{◌≡◌, IfOk};
+ghost use Rattle.comet_syntax.specs.Grammar.Symbols.{pair, pair_named, unnamed};
+ghost use Rattle.comet_syntax.specs.Grammar.Expressions.{pair_first_name, pair_named_called, pair_named_in, pair_unnamed, unnamed_min};
+ghost use Rattle.comet_syntax.specs.Written.Expressions.{written};
+ghost use Rattle.parse_stacks.specs.Undoing.{Ready, Undone};
+ghost use Rattle.build_expressions.specs.MadeOperands as made;
+ghost use Rattle.build_expressions.specs.MadeOperands.{Begun, NamedPairMade, PairMade, PairOverMade, PairTwoMade, UnnamedPairMade, of_pair};
+
+use crate::generating::{join_generators, make_generator};
+use crate::making::{make_aggregate, make_extreme};
+use cbl_base::{NoMemory, Place};
+use comet_syntax::tree::{Aggregate, Expression, Extreme, Name};
+use parse_stacks::{
+    Behind, Pair, PairRest, Stacks, link, name_operand, put, raise, suffix, take,
+};
+use std::alloc::Global;
+
+// `min` or `max` as an aggregate.
+fn aggregate_by(extreme: Extreme) -> Aggregate
+    ensures { result ≡ made.aggregate_by extreme }
+{
+    match extreme {
+        Extreme::Min => Aggregate::Min,
+        Extreme::Max => Aggregate::Max,
+    }
+}
+
+// `min` or `max` with what stands behind its parenthesis.
+fn make_pair(
+    alloc: Global,
+    which: Extreme,
+    place: Place,
+    behind: Pair,
+) -> Result<Expression, NoMemory>
+    ensures { IfOk result (λ e. written e ≡ of_pair which place behind) }
+{
+    match behind {
+        Pair::Two {
+            left,
+            right,
+            suffixes,
+        } => {
+            let primary = make_extreme(alloc, which, place, left, right)?;
+            let all = suffix(alloc, primary, suffixes)?;
+            Ok(all)
+        }
+        Pair::Over { generators, body } => {
+            let kind = aggregate_by(which);
+            let all = make_aggregate(alloc, kind, place, generators, body)?;
+            Ok(all)
+        }
+    }
+}
+
+// What begins with a name behind `min(` or `max(`.
+fn begin(alloc: Global, name: Name, rest: PairRest) -> Result<Pair, NoMemory>
+    ensures { IfOk result (λ p. Begun name rest p) }
+{
+    match rest {
+        PairRest::Over {
+            domain,
+            more,
+            condition,
+            body,
+        } => {
+            let first = make_generator(name, domain);
+            let generators = join_generators(alloc, first, more, condition)?;
+            Ok(Pair::Over { generators, body })
+        }
+        PairRest::Two {
+            called,
+            inner,
+            behind,
+            right,
+            suffixes,
+        } => {
+            let operand = name_operand(alloc, name, called, inner)?;
+            let left = raise(alloc, operand, behind)?;
+            Ok(Pair::Two {
+                left,
+                right,
+                suffixes,
+            })
+        }
+    }
+}
+
+/// `min(` or `max(` and what stands behind it
+pub fn undo_pair(alloc: Global, stacks: &mut Stacks, which: Extreme) -> Result<(), NoMemory>
+    requires { Ready unnamed_min stacks.old }
+    ensures { IfOk result (λ _. Undone unnamed unnamed_min (PairMade which) stacks.old stacks.new) }
+{
+    let place = take(&mut stacks.places);
+    let behind = take(&mut stacks.pairs);
+    let made = make_pair(alloc, which, place, behind)?;
+    put(&mut stacks.expressions, made)?;
+    Ok(())
+}
+
+/// A name, and what stands behind it
+pub fn undo_named_pair(alloc: Global, stacks: &mut Stacks) -> Result<(), NoMemory>
+    requires { Ready pair_first_name stacks.old }
+    ensures { IfOk result (λ _. Undone pair pair_first_name NamedPairMade stacks.old stacks.new) }
+{
+    let name = take(&mut stacks.names);
+    let rest = take(&mut stacks.pair_rests);
+    let made = begin(alloc, name, rest)?;
+    put(&mut stacks.pairs, made)?;
+    Ok(())
+}
+
+/// `left, right)` and suffixes
+pub fn undo_unnamed_pair(alloc: Global, stacks: &mut Stacks) -> Result<(), NoMemory>
+    requires { Ready pair_unnamed stacks.old }
+    ensures { IfOk result (λ _. Undone pair pair_unnamed UnnamedPairMade stacks.old stacks.new) }
+{
+    let operand = take(&mut stacks.expressions);
+    let product = take(&mut stacks.links);
+    let total = take(&mut stacks.links);
+    let up_to = take(&mut stacks.up_to);
+    let compared = take(&mut stacks.compared);
+    let conjunction = take(&mut stacks.links);
+    let disjunction = take(&mut stacks.links);
+    let branches = take(&mut stacks.branches);
+    let right = take(&mut stacks.expressions);
+    let suffixes = take(&mut stacks.suffixes);
+    let behind = Behind {
+        product,
+        total,
+        up_to,
+        compared,
+        conjunction,
+        disjunction,
+        branches,
+    };
+    let left = raise(alloc, operand, behind)?;
+    let made = Pair::Two {
+        left,
+        right,
+        suffixes,
+    };
+    put(&mut stacks.pairs, made)?;
+    Ok(())
+}
+
+/// `in domain, more : condition) body`
+pub fn undo_pair_over(alloc: Global, stacks: &mut Stacks) -> Result<(), NoMemory>
+    requires { Ready pair_named_in stacks.old }
+    ensures { IfOk result (λ _. Undone pair_named pair_named_in PairOverMade stacks.old stacks.new) }
+{
+    let domain = take(&mut stacks.expressions);
+    let more = take(&mut stacks.generator_lists);
+    let condition = take(&mut stacks.optional);
+    let operand = take(&mut stacks.expressions);
+    let product = take(&mut stacks.links);
+    let body = link(alloc, operand, product)?;
+    let made = PairRest::Over {
+        domain,
+        more,
+        condition,
+        body,
+    };
+    put(&mut stacks.pair_rests, made)?;
+    Ok(())
+}
+
+/// What the first expression goes on with behind its name, then `, right)` and suffixes
+pub fn undo_pair_two(stacks: &mut Stacks) -> Result<(), NoMemory>
+    requires { Ready pair_named_called stacks.old }
+    ensures { IfOk result (λ _. Undone pair_named pair_named_called PairTwoMade stacks.old stacks.new) }
+{
+    let called = take(&mut stacks.called);
+    let inner = take(&mut stacks.suffixes);
+    let product = take(&mut stacks.links);
+    let total = take(&mut stacks.links);
+    let up_to = take(&mut stacks.up_to);
+    let compared = take(&mut stacks.compared);
+    let conjunction = take(&mut stacks.links);
+    let disjunction = take(&mut stacks.links);
+    let branches = take(&mut stacks.branches);
+    let right = take(&mut stacks.expressions);
+    let suffixes = take(&mut stacks.suffixes);
+    let behind = Behind {
+        product,
+        total,
+        up_to,
+        compared,
+        conjunction,
+        disjunction,
+        branches,
+    };
+    let made = PairRest::Two {
+        called,
+        inner,
+        behind,
+        right,
+        suffixes,
+    };
+    put(&mut stacks.pair_rests, made)?;
+    Ok(())
+}
