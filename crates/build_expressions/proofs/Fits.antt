@@ -29,14 +29,16 @@ fits forms.BranchesNone v x l m = (tt, λ Y. ap (λ z. branches_text z Y) (sym m
 fits forms.BranchesQuestion v x l m = (tt, λ Y. ap (λ z. branches_text z Y) (sym m))
 fits forms.OrTailNone v x l m = no_links grammar.or_tail IsDisjoining x m
 fits forms.OrTailOrOr (place, (o, (p, (t, (u, (c, (k, (more, end)))))))) x l m =
-    let g = conjunction_level_goes (written o) p t u c k l.1.0 l.1.1.0 l.1.1.1.0 l.1.1.1.1.1.1.0 in
-    (joined_starts IsDisjoining _ more x m refl,
-    λ Y. ap (λ z. form grammar.or_tail bodies.or_tail_or_or ∷ mark words.OrOr place z) (goes_text g (links_text grammar.or_tail more Y)) ∙ joined_text grammar.or_tail _ more x m Y)
+    let g = conjunction_level_goes (written o) p t u c k l.1.0 l.1.1.0 l.1.1.1.0 l.1.1.1.1.1.1.0 in (
+      joined_starts IsDisjoining _ more x m refl,
+      λ Y. ap (λ z. form grammar.or_tail bodies.or_tail_or_or ∷ mark words.OrOr place z) (goes_text g (links_text grammar.or_tail more Y)) ∙ joined_text grammar.or_tail _ more x m Y,
+    )
 fits forms.AndTailNone v x l m = no_links grammar.and_tail IsConjoining x m
 fits forms.AndTailAndAnd (place, (o, (p, (t, (u, (c, (more, end))))))) x l m =
-    let g = comparison_level_goes (written o) p t u c l.1.0 l.1.1.0 l.1.1.1.0 in
-    (joined_starts IsConjoining _ more x m refl,
-    λ Y. ap (λ z. form grammar.and_tail bodies.and_tail_and_and ∷ mark words.AndAnd place z) (goes_text g (links_text grammar.and_tail more Y)) ∙ joined_text grammar.and_tail _ more x m Y)
+    let g = comparison_level_goes (written o) p t u c l.1.0 l.1.1.0 l.1.1.1.0 in (
+      joined_starts IsConjoining _ more x m refl,
+      λ Y. ap (λ z. form grammar.and_tail bodies.and_tail_and_and ∷ mark words.AndAnd place z) (goes_text g (links_text grammar.and_tail more Y)) ∙ joined_text grammar.and_tail _ more x m Y,
+    )
 fits forms.ComparisonTailNone v x l m = (tt, λ Y. ap (λ z. compared_text z Y) (sym m))
 fits forms.ComparisonTailEqualEqual (place, (o, (p, (t, (u, end))))) x l m = (tt, λ Y. compared_fits comparisons.Equal place o p t u m.0 m.2 l.1.0 l.1.1.0 l.1.1.1.0 Y ∙ ap (λ z. compared_text z Y) (sym m.1))
 fits forms.ComparisonTailNotEqual (place, (o, (p, (t, (u, end))))) x l m = (tt, λ Y. compared_fits comparisons.NotEqual place o p t u m.0 m.2 l.1.0 l.1.1.0 l.1.1.1.0 Y ∙ ap (λ z. compared_text z Y) (sym m.1))
@@ -47,10 +49,14 @@ fits forms.ComparisonTailGreaterEqual (place, (o, (p, (t, (u, end))))) x l m = (
 fits forms.RangeTailNone v x l m = (tt, λ Y. ap (λ z. up_to_text z Y) (sym m))
 fits forms.RangeTailDotDot (place, (o, (p, (t, end)))) x l m = (tt, λ Y. up_to_fits place o p t m.0 m.2 l.1.0 l.1.1.0 l.1.1.1.0 Y ∙ ap (λ z. up_to_text z Y) (sym m.1))
 fits forms.TotalTailNone v x l m = no_links grammar.total_tail IsAdding x m
-fits forms.TotalTailPlus (place, (o, (p, (more, end)))) x l m = (joined_starts IsAdding _ more x m (inl refl),
-    λ Y. ap (λ z. form grammar.total_tail bodies.total_tail_plus ∷ mark words.Plus place z) (product_text o p l.1.0 l.1.1.0 (links_text grammar.total_tail more Y)) ∙ joined_text grammar.total_tail _ more x m Y)
-fits forms.TotalTailMinus (place, (o, (p, (more, end)))) x l m = (joined_starts IsAdding _ more x m (inr refl),
-    λ Y. ap (λ z. form grammar.total_tail bodies.total_tail_minus ∷ mark words.Minus place z) (product_text o p l.1.0 l.1.1.0 (links_text grammar.total_tail more Y)) ∙ joined_text grammar.total_tail _ more x m Y)
+fits forms.TotalTailPlus (place, (o, (p, (more, end)))) x l m = (
+  joined_starts IsAdding _ more x m (inl refl),
+  λ Y. ap (λ z. form grammar.total_tail bodies.total_tail_plus ∷ mark words.Plus place z) (product_text o p l.1.0 l.1.1.0 (links_text grammar.total_tail more Y)) ∙ joined_text grammar.total_tail _ more x m Y,
+)
+fits forms.TotalTailMinus (place, (o, (p, (more, end)))) x l m = (
+  joined_starts IsAdding _ more x m (inr refl),
+  λ Y. ap (λ z. form grammar.total_tail bodies.total_tail_minus ∷ mark words.Minus place z) (product_text o p l.1.0 l.1.1.0 (links_text grammar.total_tail more Y)) ∙ joined_text grammar.total_tail _ more x m Y,
+)
 fits forms.ProductTailNone v x l m = no_links grammar.product_tail IsMultiplying x m
 fits forms.ProductTailStar (place, (o, (more, end))) x l m = (joined_starts IsMultiplying _ more x m (inl refl), λ Y. joined_text grammar.product_tail _ more x m Y)
 fits forms.ProductTailSlash (place, (o, (more, end))) x l m = (joined_starts IsMultiplying _ more x m (inr (inl refl)), λ Y. joined_text grammar.product_tail _ more x m Y)
@@ -58,8 +64,10 @@ fits forms.ProductTailPercent (place, (o, (more, end))) x l m = (joined_starts I
 fits forms.OperandName (n, (c, (s, end))) x l m =
     let g = operand_named n c s x m in
     (g.0, λ Y. ap (λ z. form grammar.operand bodies.operand_name ∷ name n z) ((named_goes n c s).rest Y) ∙ g.1 Y)
-fits forms.OperandUnnamed (e, end) x l m = (subst (λ z. IsOperand (written z)) (sym m) l.0.level,
-    λ Y. unnamed_operand (written e).head l.0.by l.0.head_is ((written e).operand_rest Y) ∙ ap (λ z. at_operand (written z) Y) (sym m))
+fits forms.OperandUnnamed (e, end) x l m = (
+  subst (λ z. IsOperand (written z)) (sym m) l.0.level,
+  λ Y. unnamed_operand (written e).head l.0.by l.0.head_is ((written e).operand_rest Y) ∙ ap (λ z. at_operand (written z) Y) (sym m),
+)
 fits forms.UnnamedLiteral (e, (s, end)) x l m =
     let g = unnamed_suffixed (written e) (by_literal l.0.text) (λ behind. behind) s (written x) l.0.is m in
     (g.0, λ Y. ap (λ z. form grammar.unnamed bodies.unnamed_literal ∷ literal_text z.head (closed_suffixes (reverse s.items) Y)) l.0.is ∙ g.1 Y)
@@ -81,9 +89,11 @@ fits forms.PairFirstName (n, (r, end)) x l m = (tt, λ Y. begun_fits n r x l.1.0
 fits forms.PairUnnamed (o, (p, (t, (u, (c, (k, (d, (b, (comma, (right, (parenthesis, (s, end)))))))))))) x l m =
     let starts : StartsRight (behind_of p t u c k d b) = record { product = l.1.0; total = l.1.1.0; conjunction = l.1.1.1.1.1.0; disjunction = l.1.1.1.1.1.1.0 } in
     (tt, λ Y. two_fits o (behind_of p t u c k d b) m.0 right s l.0 starts m.2 Y ∙ ap (λ z. pair_text z Y) (sym m.1))
-fits forms.PairNamedIn (word_in, (domain, (more, (condition, (parenthesis, (o, (p, end))))))) x l m = (subst PairRestLevel (sym m.1) tt,
-    λ Y. ap (λ z. form grammar.pair_named bodies.pair_named_in ∷ word words.In (whole (written domain) (generators_behind (map written_generator (reverse more.items)) (option_value written condition)
-    (word words.RightParenthesis z)))) (product_text o p l.1.1.1.1.1.0 l.1.1.1.1.1.1.0 Y ∙ ap (λ z. at_product z Y) (sym m.2)) ∙ ap (λ z. pair_rest_text z Y) (sym m.1))
+fits forms.PairNamedIn (word_in, (domain, (more, (condition, (parenthesis, (o, (p, end))))))) x l m = (
+  subst PairRestLevel (sym m.1) tt,
+  λ Y. ap (λ z. form grammar.pair_named bodies.pair_named_in ∷ word words.In (whole (written domain) (generators_behind (map written_generator (reverse more.items)) (option_value written condition)
+      (word words.RightParenthesis z)))) (product_text o p l.1.1.1.1.1.0 l.1.1.1.1.1.1.0 Y ∙ ap (λ z. at_product z Y) (sym m.2)) ∙ ap (λ z. pair_rest_text z Y) (sym m.1),
+)
 fits forms.PairNamedCalled (called, (inner, (p, (t, (u, (c, (k, (d, (b, (comma, (right, (parenthesis, (s, end))))))))))))) x l m =
     let starts : StartsRight (behind_of p t u c k d b) = record { product = l.1.1.0; total = l.1.1.1.0; conjunction = l.1.1.1.1.1.1.0; disjunction = l.1.1.1.1.1.1.1.0 } in
     (subst PairRestLevel (sym m) starts, λ Y. ap (λ z. pair_rest_text z Y) (sym m))
@@ -99,24 +109,36 @@ fits forms.ExtremeMin (place, (parenthesis, (left, (comma, (right, (closing, end
 fits forms.ExtremeMax (place, (parenthesis, (left, (comma, (right, (closing, end)))))) x l m =
     (record { extreme = extremes.Max; place = place; left = written left; right = written right; is = m }, λ Y. ap (λ z. extreme_text z.head Y) (sym m))
 fits forms.PostfixName (n, (c, (s, end))) x l m = (tt, λ Y. ap (λ z. form grammar.postfix bodies.postfix_name ∷ name n z) ((named_goes n c s).rest Y) ∙ postfix_named n c s x m Y)
-fits forms.PostfixLiteral (e, (s, end)) x l m = (tt, λ Y. ap (λ z. form grammar.postfix bodies.postfix_literal ∷ literal_text z.head (closed_suffixes (reverse s.items) Y)) l.0.is
-    ∙ postfix_suffixed (written e) (by_literal l.0.text) (λ behind. behind) s (written x) l.0.is m Y)
-fits forms.PostfixLeftBrace (place, (all, (brace, (s, end)))) x l m = (tt,
-    λ Y. postfix_suffixed (set_of place (map written_argument (reverse all.items))) (by_brace place (λ behind. listed_text (map written_argument (reverse all.items)) (word words.RightBrace behind))) (λ behind. behind) s
-    (written x) refl m Y)
-fits forms.PostfixExtreme (e, (s, end)) x l m = (tt, λ Y. ap (λ z. form grammar.postfix bodies.postfix_extreme ∷ extreme_text z.head (closed_suffixes (reverse s.items) Y)) l.0.is
-    ∙ postfix_suffixed (written e) (by_extreme l.0.extreme l.0.place (two_in_pair l.0.left l.0.right) (two_apart l.0.left l.0.right)) (λ behind. behind) s (written x) l.0.is m Y)
+fits forms.PostfixLiteral (e, (s, end)) x l m = (
+  tt,
+  λ Y. ap (λ z. form grammar.postfix bodies.postfix_literal ∷ literal_text z.head (closed_suffixes (reverse s.items) Y)) l.0.is
+      ∙ postfix_suffixed (written e) (by_literal l.0.text) (λ behind. behind) s (written x) l.0.is m Y,
+)
+fits forms.PostfixLeftBrace (place, (all, (brace, (s, end)))) x l m = (
+  tt,
+  λ Y. postfix_suffixed (set_of place (map written_argument (reverse all.items))) (by_brace place (λ behind. listed_text (map written_argument (reverse all.items)) (word words.RightBrace behind))) (λ behind. behind) s
+      (written x) refl m Y,
+)
+fits forms.PostfixExtreme (e, (s, end)) x l m = (
+  tt,
+  λ Y. ap (λ z. form grammar.postfix bodies.postfix_extreme ∷ extreme_text z.head (closed_suffixes (reverse s.items) Y)) l.0.is
+      ∙ postfix_suffixed (written e) (by_extreme l.0.extreme l.0.place (two_in_pair l.0.left l.0.right) (two_apart l.0.left l.0.right)) (λ behind. behind) s (written x) l.0.is m Y,
+)
 fits forms.CalledNone v x l m = (tt, λ Y. ap (λ z. called_text z Y) (sym m))
-fits forms.CalledLeftParenthesis v x l m = (tt,
-    λ Y. ap (λ z. form grammar.called bodies.called_left_parenthesis ∷ parenthesized (map written_argument z) Y) (sym m.2) ∙ ap (λ z. called_text z Y) (sym m.1))
+fits forms.CalledLeftParenthesis v x l m = (
+  tt,
+  λ Y. ap (λ z. form grammar.called bodies.called_left_parenthesis ∷ parenthesized (map written_argument z) Y) (sym m.2) ∙ ap (λ z. called_text z Y) (sym m.1),
+)
 fits forms.SuffixesNone v x l m = (tt, λ Y. ap (λ z. closed_suffixes (reverse z) Y) (sym m))
 fits forms.SuffixesLeftBracket v x l m = (tt, λ Y. ap (λ (z : List Grows). each (λ y. y) z (form grammar.suffixes [] ∷ Y)) (sym m))
 fits forms.SuffixesDot v x l m = (tt, λ Y. ap (λ (z : List Grows). each (λ y. y) z (form grammar.suffixes [] ∷ Y)) (sym m))
 fits forms.SecondNone v x l m = (tt, λ Y. ap (λ z. after_text grammar.second words.Comma (option_value written z) Y) (sym m))
 fits forms.SecondComma v x l m = (tt, λ Y. ap (λ z. after_text grammar.second words.Comma (option_value written z) Y) (sym m))
 fits forms.ArgumentsNone v x l m = (tt, λ Y. ap (λ z. arguments_text (map written_argument (reverse z)) Y) (sym m))
-fits forms.ArgumentsListed (all, end) x l m = (tt,
-    λ Y. listed_fits (reverse all.items) l.0.first l.0.more l.0.is Y ∙ ap (λ z. arguments_text (map written_argument (reverse z.items)) Y) (sym m))
+fits forms.ArgumentsListed (all, end) x l m = (
+  tt,
+  λ Y. listed_fits (reverse all.items) l.0.first l.0.more l.0.is Y ∙ ap (λ z. arguments_text (map written_argument (reverse z.items)) Y) (sym m),
+)
 fits forms.ListedArgument (a, (more, end)) x l m = (record { first = a; more = reverse more.items; is = m }, λ Y. ap (λ z. listed_text (map written_argument z) Y) (sym m))
 fits forms.ArgumentsTailNone v x l m = (tt, λ Y. ap (λ z. each more_argument (map written_argument (reverse z)) (form grammar.arguments_tail [] ∷ Y)) (sym m))
 fits forms.ArgumentsTailComma v x l m = (tt, λ Y. ap (λ z. each more_argument (map written_argument z) (form grammar.arguments_tail [] ∷ Y)) (sym m))

@@ -91,9 +91,10 @@ pub unnamed_suffixed : (w : Writing) (o : Opening) (t : Grows) (s : Vec Suffix G
     → IsUnnamed x × ((Y : List Shown) → opening o (t (closed_suffixes (reverse s.items) Y)) ≡ unnamed_text x.head (x.operand_rest Y))
 unnamed_suffixed w o t s x e m =
     let g = suffixed_goes w t (by_opening o) s e in
-    let h : x.head ≡ by_opening o = ap (λ z. z.head) m ∙ (g.head ∙ ap (λ z. z.head) e) in
-    (record { by = o; head_is = h; level = subst IsOperand (sym m) g.level },
-    λ Y. ap (opening o) (g.rest Y) ∙ (ap (λ z. opening o (z.operand_rest Y)) (sym m) ∙ ap (λ z. unnamed_text z (x.operand_rest Y)) (sym h)))
+    let h : x.head ≡ by_opening o = ap (λ z. z.head) m ∙ (g.head ∙ ap (λ z. z.head) e) in (
+      record { by = o; head_is = h; level = subst IsOperand (sym m) g.level },
+      λ Y. ap (opening o) (g.rest Y) ∙ (ap (λ z. opening o (z.operand_rest Y)) (sym m) ∙ ap (λ z. unnamed_text z (x.operand_rest Y)) (sym h)),
+    )
 
 pub postfix_suffixed : (w : Writing) (o : Opening) (t : Grows) (s : Vec Suffix Global) (x : Writing) → w ≡ from_primary (by_opening o) t → x ≡ with_suffixes w s
     → (Y : List Shown) → postfix_head (by_opening o) (t (closed_suffixes (reverse s.items) Y)) ≡ at_postfix x Y
@@ -104,8 +105,10 @@ postfix_suffixed w o t s x e m Y =
 
 -- a sign before an operand, or an aggregate
 pub unnamed_other : (t : Grows) (x : Writing) → x ≡ from_operand (by_opening (by_other t)) (λ behind. behind) → IsUnnamed x × ((Y : List Shown) → t Y ≡ unnamed_text x.head (x.operand_rest Y))
-unnamed_other t x m = (record { by = by_other t; head_is = ap (λ z. z.head) m; level = is_operand (by_opening (by_other t)) (λ behind. behind) m },
-    λ Y. ap (λ z. unnamed_text z.head (z.operand_rest Y)) (sym m))
+unnamed_other t x m = (
+  record { by = by_other t; head_is = ap (λ z. z.head) m; level = is_operand (by_opening (by_other t)) (λ behind. behind) m },
+  λ Y. ap (λ z. unnamed_text z.head (z.operand_rest Y)) (sym m),
+)
 
 pub aggregate_fits : (f : List Symbol) (w : Word) (place : Place) (g : Generators) (o : Expression) (p : Vec Link Global) (x : Writing) → IsOperand (written o) → LinksStart IsMultiplying p
     → x ≡ from_operand (by_opening (by_other (plain_aggregate f w place (written_generators g) (linked (written o) p)))) (λ behind. behind)

@@ -81,8 +81,15 @@ pub fn undo_disjunction(alloc: Global, stacks: &mut Stacks) -> Result<(), NoMemo
     let compared = take(&mut stacks.compared);
     let conjunction = take(&mut stacks.links);
     let more = take(&mut stacks.links);
-    let operand =
-        raise_to_conjunction(alloc, operand, product, total, up_to, compared, conjunction)?;
+    let operand = raise_to_conjunction(
+        alloc,
+        operand,
+        product,
+        total,
+        up_to,
+        compared,
+        conjunction,
+    )?;
     let all = join(more, ChainOperator::Or, place, operand)?;
     put(&mut stacks.links, all)?;
     Ok(())

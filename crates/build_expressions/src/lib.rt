@@ -5,6 +5,7 @@
 #![tactic(auto)]
 
 mod arguments;
+mod forms;
 mod generating;
 mod laws;
 mod levels;
@@ -12,4 +13,5 @@ mod making;
 mod operands;
 mod pairs;
 
+pub use forms::undo_expression;
 pub use generating::{undo_condition, undo_generator, undo_generators_form, undo_generators_more};

@@ -69,11 +69,7 @@ pub fn undo_unary(
 }
 
 /// `sum(generators) body` and its like
-pub fn undo_aggregate(
-    alloc: Global,
-    stacks: &mut Stacks,
-    kind: Aggregate,
-) -> Result<(), NoMemory>
+pub fn undo_aggregate(alloc: Global, stacks: &mut Stacks, kind: Aggregate) -> Result<(), NoMemory>
     requires { Ready unnamed_sum stacks.old }
     ensures { IfOk result (λ _. Undone unnamed unnamed_sum (AggregateMade kind) stacks.old stacks.new) }
 {

@@ -11,9 +11,7 @@ use crate::generating::{join_generators, make_generator};
 use crate::making::{make_aggregate, make_extreme};
 use cbl_base::{NoMemory, Place};
 use comet_syntax::tree::{Aggregate, Expression, Extreme, Name};
-use parse_stacks::{
-    Behind, Pair, PairRest, Stacks, link, name_operand, put, raise, suffix, take,
-};
+use parse_stacks::{Behind, Pair, PairRest, Stacks, link, name_operand, put, raise, suffix, take};
 use std::alloc::Global;
 
 // `min` or `max` as an aggregate.
