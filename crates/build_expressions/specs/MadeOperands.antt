@@ -1,6 +1,6 @@
 -- What is made of the values of the forms of operands.
 -- Definitions of this project.
-use Rattle.std.specs.Prelude.{Bool, ◌∷◌, Option, Some, ◌≡◌, map, reverse}
+use Rattle.std.specs.Prelude.{Bool, ◌∷◌, ◌≡◌, map, reverse}
 use Rattle.cbl_base.specs.declared.place.Place.{Place}
 use Rattle.comet_syntax.specs.declared.tree.expressions.Aggregate.{Aggregate}
 use Rattle.comet_syntax.specs.declared.tree.expressions.Aggregate.TheVariants as aggregates

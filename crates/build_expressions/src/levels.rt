@@ -114,7 +114,7 @@ pub fn undo_conjunction(alloc: Global, stacks: &mut Stacks) -> Result<(), NoMemo
 }
 
 /// `< right` and its like
-pub fn undo_comparison(
+pub fn undo_compared(
     alloc: Global,
     stacks: &mut Stacks,
     comparison: Comparison,

@@ -7,7 +7,7 @@
 mod arguments;
 mod forms;
 mod generating;
-mod laws;
+pub mod laws;
 mod levels;
 mod making;
 mod operands;
