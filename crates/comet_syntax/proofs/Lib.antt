@@ -3,6 +3,7 @@ pub mod Cuts
 pub mod Digits
 pub mod Exits
 pub mod Fronts
+pub mod Heads
 pub mod Lexing
 pub mod Strings
 pub mod TokenFaults

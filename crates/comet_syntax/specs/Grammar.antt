@@ -2,6 +2,7 @@ pub mod Alternatives
 pub mod Declarations
 pub mod Expressions
 pub mod First
+pub mod Heads
 pub mod Kinds
 pub mod Programs
 pub mod Statements

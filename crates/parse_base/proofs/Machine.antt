@@ -1,45 +1,47 @@
 -- What is read for sure is the beginning of every derivation, whole, cut or too deep.
-use Rattle.std.specs.Prelude.{ℕ, Bool, true, false, nat_eq, List, [], ◌∷◌, ◌++◌, ◌||◌, ◌&&◌, not, ◌+◌, ◌≡◌, ◌≤◌, ◌<◌, refl, IsTrue, ◌⊎◌, length, nat_lt}
-use Rattle.std.proofs.Common.{sym, ◌∙◌, ap, subst, arith, inl, inr, append_assoc, append-nil, suc, zero}
+use Rattle.std.specs.Prelude.{ℕ, Bool, true, false, nat_eq, List, [], ◌∷◌, ◌++◌, ◌||◌, ◌&&◌, not, ◌+◌, ◌≡◌, ◌≤◌, ◌<◌, refl, ◌⊎◌, length, nat_lt}
+use Rattle.std.proofs.Common.{sym, ◌∙◌, ap, subst, arith, inl, inr, append-nil, suc, zero}
 use Rattle.std.proofs.lemmas.Bool.Decides.{nat_tests}
 use Rattle.comet_syntax.specs.declared.token.Token.{Token}
 use Rattle.comet_syntax.specs.declared.stop.FormCause.{FormCause}
-use Rattle.comet_syntax.specs.declared.stop.FormCause.TheVariants.{Unexpected, UnexpectedEnd, TooDeep}
+use Rattle.comet_syntax.specs.declared.stop.FormCause.TheVariants.{TooDeep}
 use Rattle.comet_syntax.specs.Grammar.Kinds.{Kind, a_name, a_number, a_string, numbered_word, kind, kind_eq, one_of, next_in}
-use Rattle.comet_syntax.specs.Grammar.Symbols.{Part, Symbol, token, same, deeper, default, program}
+use Rattle.comet_syntax.specs.Grammar.Symbols.{Part, Symbol, token, same, deeper, default}
 use Rattle.comet_syntax.specs.Grammar.Alternatives.{alternatives}
 use Rattle.comet_syntax.specs.Grammar.First.{first}
-use Rattle.comet_syntax.specs.Derivation.{Item, want, part, push, depth_in, Event, chose, read, OneOf, here, there, MayTake, Derives, ends, reads, takes}
+use Rattle.comet_syntax.specs.Grammar.Heads.{heads, flat_heads, within}
+use Rattle.comet_syntax.proofs.Heads.{covers, covered}
+use Rattle.comet_syntax.specs.Derivation.{Item, want, part, push, Event, chose, read, OneOf, here, there, MayTake, Derives, ends, reads, takes}
 use Rattle.comet_syntax.specs.Refusal.{Whole, Broken, AnyDepth, Deeper, start, DerivesAll, DerivesAny, IsPossible, IsDeepAtLast, NoneDeep, EachPossible, NoTree, Refused}
 use Rattle.parse_base.specs.Reading.{fits, is_default, IsSolid, MustTake, Leads, stays, gets, picks, Stops, wrong, closed, deep, over, cause_at}
-use Rattle.parse_base.proofs.Table.{heads, flat_heads, some_empty, solid_head, all_solid, within, disjoint, empty, apart_from, apart, rank, below, all_below, covers, covered, are_solid, are_apart, are_below}
+use Rattle.parse_base.proofs.Table.{some_empty, solid_head, all_solid, disjoint, empty, apart_from, apart, rank, below, all_below, are_solid, are_apart, are_below}
 
-or_false : (a b : Bool) → (a || b) ≡ true → (a ≡ true) ⊎ (b ≡ true)
+pub or_false : (a b : Bool) → (a || b) ≡ true → (a ≡ true) ⊎ (b ≡ true)
 or_false true b h = inl refl
 or_false false b h = inr h
 
-or_left : (a b : Bool) → a ≡ true → (a || b) ≡ true
+pub or_left : (a b : Bool) → a ≡ true → (a || b) ≡ true
 or_left true b h = refl
 or_left false b h = cc
 
-or_right : (a b : Bool) → b ≡ true → (a || b) ≡ true
+pub or_right : (a b : Bool) → b ≡ true → (a || b) ≡ true
 or_right true b h = refl
 or_right false b h = h
 
-and_left : (a b : Bool) → (a && b) ≡ true → a ≡ true
+pub and_left : (a b : Bool) → (a && b) ≡ true → a ≡ true
 and_left true b h = refl
 and_left false b h = cc
 
-and_right : (a b : Bool) → (a && b) ≡ true → b ≡ true
+pub and_right : (a b : Bool) → (a && b) ≡ true → b ≡ true
 and_right true b h = h
 and_right false b h = cc
 
-one_of_left : (a b : List Kind) (k : Kind) → one_of a k ≡ true → one_of (a ++ b) k ≡ true
+pub one_of_left : (a b : List Kind) (k : Kind) → one_of a k ≡ true → one_of (a ++ b) k ≡ true
 one_of_left [] b k h = cc
 one_of_left (j ∷ js) b k h = elim (or_false (kind_eq j k) (one_of js k) h)
     [ inl e ↦ or_left _ _ e | inr e ↦ or_right (kind_eq j k) _ (one_of_left js b k e) ]
 
-one_of_right : (a b : List Kind) (k : Kind) → one_of b k ≡ true → one_of (a ++ b) k ≡ true
+pub one_of_right : (a b : List Kind) (k : Kind) → one_of b k ≡ true → one_of (a ++ b) k ≡ true
 one_of_right [] b k h = h
 one_of_right (j ∷ js) b k h = or_right (kind_eq j k) _ (one_of_right js b k h)
 
@@ -65,7 +67,7 @@ kind_same (numbered_word a) = eqb_same a
 pub kind_is : (j k : Kind) → j ≡ k → (kind_eq k j || false) ≡ true
 kind_is j k e = or_left _ _ (subst (λ x. kind_eq k x ≡ true) (sym e) (kind_same k))
 
-kind_equal : (j k : Kind) → kind_eq j k ≡ true → j ≡ k
+pub kind_equal : (j k : Kind) → kind_eq j k ≡ true → j ≡ k
 kind_equal a_name a_name h = refl
 kind_equal a_name a_number h = cc
 kind_equal a_name a_string h = cc
@@ -83,22 +85,22 @@ kind_equal (numbered_word a) a_number h = cc
 kind_equal (numbered_word a) a_string h = cc
 kind_equal (numbered_word a) (numbered_word b) h = let e : a ≡ b = grind arith in ap numbered_word e
 
-within_has : (ks js : List Kind) (k : Kind) → within ks js ≡ true → one_of ks k ≡ true → one_of js k ≡ true
+pub within_has : (ks js : List Kind) (k : Kind) → within ks js ≡ true → one_of ks k ≡ true → one_of js k ≡ true
 within_has [] js k w h = cc
 within_has (i ∷ ks) js k w h = elim (or_false (kind_eq i k) _ h) [
   | inl e ↦ subst (λ x. one_of js x ≡ true) (kind_equal i k e) (and_left _ _ w)
   | inr e ↦ within_has ks js k (and_right (one_of js i) _ w) e
 ]
 
-in_flat : {bs : List (List Symbol)} {b : List Symbol} (k : Kind) → OneOf bs b → one_of (heads b) k ≡ true → one_of (flat_heads bs) k ≡ true
+pub in_flat : {bs : List (List Symbol)} {b : List Symbol} (k : Kind) → OneOf bs b → one_of (heads b) k ≡ true → one_of (flat_heads bs) k ≡ true
 in_flat k here h = one_of_left _ _ k h
 in_flat k (there o) h = one_of_right _ _ k (in_flat k o h)
 
 -- what begins a form begins the part
-in_first : (n : Part) (b : List Symbol) (k : Kind) → OneOf (alternatives n) b → one_of (heads b) k ≡ true → one_of (first n) k ≡ true
+pub in_first : (n : Part) (b : List Symbol) (k : Kind) → OneOf (alternatives n) b → one_of (heads b) k ≡ true → one_of (first n) k ≡ true
 in_first n b k o h = within_has (flat_heads (alternatives n)) (first n) k (covers n) (in_flat k o h)
 
-next_in_first : (n : Part) (b : List Symbol) (X : List Token) → OneOf (alternatives n) b → next_in (heads b) X ≡ true → next_in (first n) X ≡ true
+pub next_in_first : (n : Part) (b : List Symbol) (X : List Token) → OneOf (alternatives n) b → next_in (heads b) X ≡ true → next_in (first n) X ≡ true
 next_in_first n b [] o h = h
 next_in_first n b (t ∷ ts) o h = in_first n b (kind t) o h
 

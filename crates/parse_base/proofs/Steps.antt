@@ -1,6 +1,6 @@
 -- The steps of which the proofs of the reading functions consist.
-use Rattle.std.specs.Prelude.{ℕ, Bool, true, false, List, [], ◌∷◌, ◌++◌, ◌+◌, ◌<◌, ◌≡◌, ◌≤◌, length, refl, Result, Ok, Err, IfErr, IsErrAnd, ◌||◌}
-use Rattle.std.proofs.Common.{sym, ◌∙◌, ap, subst, arith}
+use Rattle.std.specs.Prelude.{ℕ, Bool, true, false, List, [], ◌∷◌, ◌++◌, ◌+◌, ◌≡◌, ◌≤◌, length, refl, Result, IfErr, IsErrAnd, ◌||◌}
+use Rattle.std.proofs.Common.{sym, ap, subst}
 use Rattle.std.proofs.lemmas.Result.{err_from_is_err_and}
 use Rattle.cbl_base.specs.declared.place.Place.{Place}
 use Rattle.comet_syntax.specs.declared.token.Token.{Token}
@@ -11,14 +11,14 @@ use Rattle.comet_syntax.specs.Grammar.Kinds.{Kind, kind, kind_of, kind_eq, one_o
 use Rattle.comet_syntax.specs.Grammar.Symbols.{Part, Symbol, token, same, deeper, default}
 use Rattle.comet_syntax.specs.Grammar.Alternatives.{alternatives}
 use Rattle.comet_syntax.specs.Grammar.First.{first}
-use Rattle.comet_syntax.specs.Derivation.{Item, want, part, push, depth_in, Event, chose, read, OneOf, here, there, MayTake}
+use Rattle.comet_syntax.specs.Grammar.Heads.{heads}
+use Rattle.comet_syntax.specs.Derivation.{Item, want, part, push, depth_in, Event, chose, read, OneOf, MayTake}
 use Rattle.comet_syntax.specs.Written.Shown.{Shown, form, plain, placed, shown, kept, Grows}
 use Rattle.parse_base.specs.declared.stop.Stop.{Stop}
 use Rattle.parse_base.specs.declared.stop.Stop.TheVariants.{Fault, NoMemory}
-use Rattle.parse_base.specs.Reading.{Leads, stays, gets, picks, Stops, wrong, closed, deep, over, cause_at, IsSolid, MustTake, is_default}
-use Rattle.parse_base.specs.Promise.{Sees, Carries, waits, gains, settles, Reads, Reaches, Halts, Fails, halts, no_memory, Continues}
+use Rattle.parse_base.specs.Reading.{Leads, stays, gets, picks, wrong, closed, deep, cause_at, IsSolid, MustTake}
+use Rattle.parse_base.specs.Promise.{Sees, Carries, waits, gains, settles, Reads, Reaches, Halts, Fails, halts, no_memory}
 use Rattle.parse_base.proofs.Machine.{picked, alone, by_default, kind_is}
-use Rattle.parse_base.proofs.Table.{heads}
 
 -- what is written is kept of a derivation
 pub record Kept (limit : ℕ) (K : List Item) (ts : List Token) (tree : List Shown) (K' : List Item) (r : List Token) : Type 0 where

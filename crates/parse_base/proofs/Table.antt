@@ -1,22 +1,10 @@
 -- What is true of this grammar, by computation: no two forms of a part begin alike.
-use Rattle.std.specs.Prelude.{ℕ, Bool, true, false, List, [], ◌∷◌, ◌++◌, ◌||◌, ◌≡◌, refl, ◌&&◌, not, nat_lt}
+use Rattle.std.specs.Prelude.{ℕ, Bool, true, false, List, [], ◌∷◌, ◌||◌, ◌≡◌, refl, ◌&&◌, not, nat_lt}
 use Rattle.comet_syntax.specs.Grammar.Kinds.{Kind, one_of}
 use Rattle.comet_syntax.specs.Grammar.Symbols.{Part, Symbol, token, same, deeper, default, program, top, result_kind, parameters, parameters_tail, parameter, parameter_kind, brackets, template, class_name, block, statements, statement, otherwise, optional_value, for_start, for_step, events, with_mode, generators, generators_tail, condition, generator, declaration, int_rest, start_value, variable_rest, domain, variable_start, maker, dimensions, dimensions_tail, dimension, dimension_rest, simple, named_simple, new_value, write, first_name, item, items_tail, expression, branches, or_tail, and_tail, comparison_tail, range_tail, total_tail, product_tail, operand, unnamed, pair, pair_named, literal, extreme, postfix, called, suffixes, second, arguments, listed, arguments_tail, argument}
 use Rattle.comet_syntax.specs.Grammar.Alternatives.{alternatives}
-use Rattle.comet_syntax.specs.Grammar.First.{first}
+use Rattle.comet_syntax.specs.Grammar.Heads.{heads}
 use Rattle.parse_base.specs.Reading.{is_default}
-
--- the kinds that begin a form
-abbrev pub heads : List Symbol → List Kind
-heads [] = []
-heads (token m k ∷ body) = k ∷ []
-heads (same m ∷ body) = first m
-heads (default c m ∷ body) = []
-heads (deeper m ∷ body) = first m
-
-abbrev pub flat_heads : List (List Symbol) → List Kind
-flat_heads [] = []
-flat_heads (b ∷ bs) = heads b ++ flat_heads bs
 
 abbrev pub some_empty : List (List Symbol) → Bool
 some_empty [] = false
@@ -33,10 +21,6 @@ solid_head (deeper m ∷ body) = not (some_empty (alternatives m))
 abbrev pub all_solid : List (List Symbol) → Bool
 all_solid [] = true
 all_solid (b ∷ bs) = solid_head b && all_solid bs
-
-abbrev pub within : List Kind → List Kind → Bool
-within [] js = true
-within (k ∷ ks) js = one_of js k && within ks js
 
 abbrev pub disjoint : List Kind → List Kind → Bool
 disjoint [] js = true
@@ -130,14 +114,6 @@ below n (deeper m ∷ body) = nat_lt (rank m) n
 abbrev pub all_below : ℕ → List (List Symbol) → Bool
 all_below n [] = true
 all_below n (b ∷ bs) = below n b && all_below n bs
-
-pub covers : (n : Part) → within (flat_heads (alternatives n)) (first n) ≡ true
-covers program = refl
-covers _ = refl
-
-pub covered : (n : Part) → within (first n) (flat_heads (alternatives n)) ≡ true
-covered program = refl
-covered _ = refl
 
 pub are_solid : (n : Part) → all_solid (alternatives n) ≡ true
 are_solid program = refl

@@ -10,7 +10,9 @@ use Rattle.comet_syntax.specs.Grammar.First.{first}
 use Rattle.comet_syntax.specs.Derivation.{Item, want, part, push, Event, chose, read, OneOf, here, there, MayTake, Derives, ends, reads, takes}
 use Rattle.comet_syntax.specs.Refusal.{Whole}
 use Rattle.parse_base.specs.Reading.{fits, IsSolid, MustTake}
-use Rattle.parse_base.proofs.Table.{heads, flat_heads, solid_head, all_solid, within, covers, are_solid}
+use Rattle.comet_syntax.specs.Grammar.Heads.{heads, flat_heads, within}
+use Rattle.comet_syntax.proofs.Heads.{covers}
+use Rattle.parse_base.proofs.Table.{solid_head, all_solid, are_solid}
 use Rattle.parse_base.proofs.Machine.{kind_is, solid_of, picked, by_default}
 
 or_false : (a b : Bool) → (a || b) ≡ true → (a ≡ true) ⊎ (b ≡ true)

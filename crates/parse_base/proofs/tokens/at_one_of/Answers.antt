@@ -1,7 +1,7 @@
-use Rattle.std.proofs.Common.{rules, ◌≡◌, ◌∷◌, refl, ◌∙◌, ap, sym, List, [], map}
-use Rattle.std.specs.Prelude.{true, false}
+use Rattle.std.proofs.Common.{rules, ◌≡◌, ◌∷◌, refl, sym, List, [], map}
+use Rattle.std.specs.Prelude.{false}
 use Rattle.comet_syntax.specs.declared.token.Word.{Word}
-use Rattle.comet_syntax.specs.Grammar.Kinds.{Kind, a_word, a_name, a_number, a_string, one_of, next_in}
+use Rattle.comet_syntax.specs.Grammar.Kinds.{a_word, a_name, a_number, a_string, one_of}
 use Rattle.parse_base.proofs.tokens.at_one_of.Goals as goal
 
 no_name : (ws : List Word) → one_of (map a_word ws) a_name ≡ false

@@ -1,4 +1,4 @@
-use Rattle.std.specs.Prelude.{true, false}
+use Rattle.std.specs.Prelude.{false}
 use Rattle.comet_syntax.specs.Grammar.Kinds.{a_string}
 use Rattle.parse_base.specs.Promise.{no_memory}
 use Rattle.parse_base.proofs.Steps.{fails_wrong, passes_any}

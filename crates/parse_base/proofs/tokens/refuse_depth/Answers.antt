@@ -1,4 +1,4 @@
-use Rattle.std.proofs.Common.{◌≡◌, ◌∙◌}
+use Rattle.std.proofs.Common.{◌∙◌}
 use Rattle.parse_base.proofs.Steps.{fails_closed, fails_deep}
 use Rattle.parse_base.proofs.tokens.refuse_depth.Goals as goal
 

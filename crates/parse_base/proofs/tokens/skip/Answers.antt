@@ -1,10 +1,8 @@
 use Rattle.std.proofs.Common.{rules, ◌≡◌, ◌∷◌, refl, ◌∙◌, ap, sym}
-use Rattle.std.specs.Prelude.{Bool, [], true, false, ◌||◌}
+use Rattle.std.specs.Prelude.{Bool, true, false, ◌||◌}
 use denote.Enum.Bare.{same_true}
 use Rattle.comet_syntax.specs.contracts.token.Word.{the_type}
 use Rattle.comet_syntax.specs.declared.token.TokenKind.TheVariants as kinds
-use Rattle.comet_syntax.specs.Grammar.Kinds.{a_word, next_in}
-use Rattle.parse_base.specs.Promise.{Sees}
 use Rattle.parse_base.proofs.tokens.skip.Goals as goal
 
 pub returns-then-eq : goal.returns-then-eq

@@ -1,0 +1,5 @@
+pub mod Choices
+pub mod Depths
+pub mod Running
+pub mod Turns
+pub mod Undoing

@@ -1,0 +1,165 @@
+//! How the rows of the grammar's table are written.
+//!
+//! A row is a form and its symbols, as the grammar has them: `StatementWhile(at "while" "(" deeper
+//! Expression ")" deeper Statement)`. A sign or a keyword stands in quotes, behind `at` where the tree
+//! keeps its place; `name`, `number` and `string` are tokens of these kinds; a part stands by its name,
+//! behind `deeper` where it is one deeper, and behind `onward` at the head of a form for all other
+//! tokens. A form that begins with a token begins with that; one that begins with a part says `on` which
+//! kinds of token; one that is empty or begins with `onward` is for all other tokens, and stands last.
+
+/// The word that is spelled so.
+macro_rules! word {
+    ("(") => { Word::LeftParenthesis };
+    (")") => { Word::RightParenthesis };
+    ("{") => { Word::LeftBrace };
+    ("}") => { Word::RightBrace };
+    ("[") => { Word::LeftBracket };
+    ("]") => { Word::RightBracket };
+    (",") => { Word::Comma };
+    (";") => { Word::Semicolon };
+    (":") => { Word::Colon };
+    (":=") => { Word::Assign };
+    (":=:") => { Word::Swap };
+    ("<-") => { Word::Arrow };
+    ("=") => { Word::Equal };
+    ("==") => { Word::EqualEqual };
+    ("!=") => { Word::NotEqual };
+    ("<") => { Word::Less };
+    ("<=") => { Word::LessEqual };
+    (">") => { Word::Greater };
+    (">=") => { Word::GreaterEqual };
+    ("+") => { Word::Plus };
+    ("-") => { Word::Minus };
+    ("*") => { Word::Star };
+    ("/") => { Word::Slash };
+    ("%") => { Word::Percent };
+    ("++") => { Word::PlusPlus };
+    ("--") => { Word::MinusMinus };
+    ("+=") => { Word::PlusEqual };
+    ("-=") => { Word::MinusEqual };
+    ("!") => { Word::Exclamation };
+    ("&&") => { Word::AndAnd };
+    ("||") => { Word::OrOr };
+    ("<<") => { Word::LessLess };
+    ("..") => { Word::DotDot };
+    (".") => { Word::Dot };
+    ("@") => { Word::At };
+    ("?") => { Word::Question };
+    ("import") => { Word::Import };
+    ("include") => { Word::Include };
+    ("function") => { Word::Function };
+    ("void") => { Word::Void };
+    ("int") => { Word::Int };
+    ("bool") => { Word::Bool };
+    ("var") => { Word::Var };
+    ("inc") => { Word::Inc };
+    ("set") => { Word::Set };
+    ("range") => { Word::Range };
+    ("true") => { Word::True };
+    ("false") => { Word::False };
+    ("if") => { Word::If };
+    ("else") => { Word::Else };
+    ("while") => { Word::While };
+    ("for") => { Word::For };
+    ("forall") => { Word::ForAll };
+    ("in") => { Word::In };
+    ("select") => { Word::Select };
+    ("selectMin") => { Word::SelectMin };
+    ("selectMax") => { Word::SelectMax };
+    ("neighbor") => { Word::Neighbor };
+    ("whenever") => { Word::Whenever };
+    ("with") => { Word::With };
+    ("atomic") => { Word::Atomic };
+    ("delay") => { Word::Delay };
+    ("parall") => { Word::Parall };
+    ("return") => { Word::Return };
+    ("new") => { Word::New };
+    ("cout") => { Word::Cout };
+    ("endl") => { Word::Endl };
+    ("call") => { Word::Call };
+    ("sum") => { Word::Sum };
+    ("min") => { Word::Min };
+    ("max") => { Word::Max };
+    ("all") => { Word::All };
+    ("and") => { Word::And };
+    ("or") => { Word::Or };
+    ("setof") => { Word::SetOf };
+    ("argMin") => { Word::ArgMin };
+    ("argMax") => { Word::ArgMax };
+    ("Solver") => { Word::Solver };
+    ("LocalSolver") => { Word::LocalSolver };
+    ("ConstraintSystem") => { Word::ConstraintSystem };
+    ("FunctionExpr") => { Word::FunctionExpr };
+    ("FunctionSum") => { Word::FunctionSum };
+    ("UniformDistribution") => { Word::UniformDistribution };
+    ("InputFile") => { Word::InputFile };
+    ("MinNeighborSelector") => { Word::MinNeighborSelector };
+    ("BestMonitor") => { Word::BestMonitor };
+    ("Solution") => { Word::Solution };
+}
+
+/// Kinds of token.
+macro_rules! kinds {
+    ($($kind:tt)*) => { &[$(kind!($kind)),*] };
+}
+
+/// A kind of token.
+macro_rules! kind {
+    (name) => { Kind::Name };
+    (number) => { Kind::Number };
+    (string) => { Kind::Str };
+    ($word:tt) => { Kind::Word(word!($word)) };
+}
+
+/// The symbols of a form, behind those that are done.
+macro_rules! symbols {
+    ([$($done:tt)*]) => { &[$($done)*] };
+    ([$($done:tt)*] name $($rest:tt)*) => { symbols!([$($done)* Symbol::Named,] $($rest)*) };
+    ([$($done:tt)*] number $($rest:tt)*) => { symbols!([$($done)* Symbol::Numbered,] $($rest)*) };
+    ([$($done:tt)*] string $($rest:tt)*) => { symbols!([$($done)* Symbol::Quoted,] $($rest)*) };
+    ([$($done:tt)*] at $word:tt $($rest:tt)*) => {
+        symbols!([$($done)* Symbol::Mark(word!($word)),] $($rest)*)
+    };
+    ([$($done:tt)*] deeper $part:ident $($rest:tt)*) => {
+        symbols!([$($done)* Symbol::Deeper(Part::$part),] $($rest)*)
+    };
+    ([$($done:tt)*] onward deeper $part:ident $($rest:tt)*) => {
+        symbols!([$($done)* Symbol::OnwardDeeper(Part::$part),] $($rest)*)
+    };
+    ([$($done:tt)*] onward $part:ident $($rest:tt)*) => {
+        symbols!([$($done)* Symbol::Onward(Part::$part),] $($rest)*)
+    };
+    ([$($done:tt)*] $part:ident $($rest:tt)*) => {
+        symbols!([$($done)* Symbol::Same(Part::$part),] $($rest)*)
+    };
+    ([$($done:tt)*] $word:tt $($rest:tt)*) => {
+        symbols!([$($done)* Symbol::Word(word!($word)),] $($rest)*)
+    };
+}
+
+/// The kinds of token that a form begins with.
+macro_rules! begins {
+    ([$first:ident] $($symbol:tt)*) => { first::$first };
+    ([]) => { &[] };
+    ([] onward $($symbol:tt)*) => { &[] };
+    ([] at $word:tt $($symbol:tt)*) => { &[kind!($word)] };
+    ([] $token:tt $($symbol:tt)*) => { &[kind!($token)] };
+}
+
+/// Rows of forms of one of the groups of parts.
+macro_rules! rows {
+    ($group:ident $forms:ident $($form:ident($($symbol:tt)*) $(on $first:ident)?,)*) => {
+        [$(Row {
+            form: Form::$group($forms::$form),
+            symbols: symbols!([] $($symbol)*),
+            on: begins!([$($first)?] $($symbol)*),
+        },)*]
+    };
+}
+
+pub(crate) use begins;
+pub(crate) use kind;
+pub(crate) use kinds;
+pub(crate) use rows;
+pub(crate) use symbols;
+pub(crate) use word;
