@@ -1,4 +1,3 @@
-pub mod Forks
 pub mod Machine
 pub mod Steps
 pub mod Table

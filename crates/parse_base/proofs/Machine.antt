@@ -16,15 +16,15 @@ use Rattle.comet_syntax.specs.Refusal.{Whole, Broken, AnyDepth, Deeper, start, D
 use Rattle.parse_base.specs.Reading.{fits, is_default, IsSolid, MustTake, Leads, stays, gets, picks, Stops, wrong, closed, deep, over, cause_at}
 use Rattle.parse_base.proofs.Table.{some_empty, solid_head, all_solid, disjoint, empty, apart_from, apart, rank, below, all_below, are_solid, are_apart, are_below}
 
-pub or_false : (a b : Bool) → (a || b) ≡ true → (a ≡ true) ⊎ (b ≡ true)
+or_false : (a b : Bool) → (a || b) ≡ true → (a ≡ true) ⊎ (b ≡ true)
 or_false true b h = inl refl
 or_false false b h = inr h
 
-pub or_left : (a b : Bool) → a ≡ true → (a || b) ≡ true
+or_left : (a b : Bool) → a ≡ true → (a || b) ≡ true
 or_left true b h = refl
 or_left false b h = cc
 
-pub or_right : (a b : Bool) → b ≡ true → (a || b) ≡ true
+or_right : (a b : Bool) → b ≡ true → (a || b) ≡ true
 or_right true b h = refl
 or_right false b h = h
 
@@ -36,12 +36,12 @@ pub and_right : (a b : Bool) → (a && b) ≡ true → b ≡ true
 and_right true b h = h
 and_right false b h = cc
 
-pub one_of_left : (a b : List Kind) (k : Kind) → one_of a k ≡ true → one_of (a ++ b) k ≡ true
+one_of_left : (a b : List Kind) (k : Kind) → one_of a k ≡ true → one_of (a ++ b) k ≡ true
 one_of_left [] b k h = cc
 one_of_left (j ∷ js) b k h = elim (or_false (kind_eq j k) (one_of js k) h)
     [ inl e ↦ or_left _ _ e | inr e ↦ or_right (kind_eq j k) _ (one_of_left js b k e) ]
 
-pub one_of_right : (a b : List Kind) (k : Kind) → one_of b k ≡ true → one_of (a ++ b) k ≡ true
+one_of_right : (a b : List Kind) (k : Kind) → one_of b k ≡ true → one_of (a ++ b) k ≡ true
 one_of_right [] b k h = h
 one_of_right (j ∷ js) b k h = or_right (kind_eq j k) _ (one_of_right js b k h)
 
@@ -85,19 +85,19 @@ kind_equal (numbered_word a) a_number h = cc
 kind_equal (numbered_word a) a_string h = cc
 kind_equal (numbered_word a) (numbered_word b) h = let e : a ≡ b = grind arith in ap numbered_word e
 
-pub within_has : (ks js : List Kind) (k : Kind) → within ks js ≡ true → one_of ks k ≡ true → one_of js k ≡ true
+within_has : (ks js : List Kind) (k : Kind) → within ks js ≡ true → one_of ks k ≡ true → one_of js k ≡ true
 within_has [] js k w h = cc
 within_has (i ∷ ks) js k w h = elim (or_false (kind_eq i k) _ h) [
   | inl e ↦ subst (λ x. one_of js x ≡ true) (kind_equal i k e) (and_left _ _ w)
   | inr e ↦ within_has ks js k (and_right (one_of js i) _ w) e
 ]
 
-pub in_flat : {bs : List (List Symbol)} {b : List Symbol} (k : Kind) → OneOf bs b → one_of (heads b) k ≡ true → one_of (flat_heads bs) k ≡ true
+in_flat : {bs : List (List Symbol)} {b : List Symbol} (k : Kind) → OneOf bs b → one_of (heads b) k ≡ true → one_of (flat_heads bs) k ≡ true
 in_flat k here h = one_of_left _ _ k h
 in_flat k (there o) h = one_of_right _ _ k (in_flat k o h)
 
 -- what begins a form begins the part
-pub in_first : (n : Part) (b : List Symbol) (k : Kind) → OneOf (alternatives n) b → one_of (heads b) k ≡ true → one_of (first n) k ≡ true
+in_first : (n : Part) (b : List Symbol) (k : Kind) → OneOf (alternatives n) b → one_of (heads b) k ≡ true → one_of (first n) k ≡ true
 in_first n b k o h = within_has (flat_heads (alternatives n)) (first n) k (covers n) (in_flat k o h)
 
 pub next_in_first : (n : Part) (b : List Symbol) (X : List Token) → OneOf (alternatives n) b → next_in (heads b) X ≡ true → next_in (first n) X ≡ true
@@ -513,14 +513,6 @@ theorem = (
 )
 
 -- Which form a part must have at the next token.
-
--- it is the only form
-pub alone : (n : Part) (b : List Symbol) (ts : List Token) → alternatives n ≡ b ∷ [] → MustTake n b ts
-alone n b ts only other o may h = by_only (subst (λ z. OneOf z other) only o)
-  where
-    by_only : {b other : List Symbol} → OneOf (b ∷ []) other → other ≡ b
-    by_only here = refl
-    by_only (there x) = elim x [ ]
 
 apart_at : (b c : List Symbol) (bs : List (List Symbol)) (k : Kind) → apart_from b bs ≡ true → OneOf bs c → one_of (heads b) k ≡ true → one_of (heads c) k ≡ true → ⊥
 apart_at b c [] k h o p q = elim o [ ]

@@ -1,25 +1,16 @@
--- What a function of this crate promises: that symbols of the grammar were read and how they are written, or that reading surely stops.
+-- What a reader promises: that items of the grammar were read for sure and how they are written, or that reading surely stops.
 -- Definitions of this project.
 use Rattle.std.specs.Prelude.{ℕ, Bool, List, [], ◌∷◌, ◌≡◌, ◌≤◌, length}
-use Rattle.cbl_base.specs.declared.place.Place.{Place}
 use Rattle.comet_syntax.specs.declared.token.Token.{Token}
-use Rattle.comet_syntax.specs.declared.token.TokenKind.{TokenKind}
 use Rattle.comet_syntax.specs.declared.stop.FormCause.{FormCause}
 use Rattle.comet_syntax.specs.Grammar.Kinds.{Kind, kind}
 use Rattle.comet_syntax.specs.Grammar.Symbols.{Part, Symbol}
 use Rattle.comet_syntax.specs.Grammar.Alternatives.{alternatives}
 use Rattle.comet_syntax.specs.Derivation.{Item, want, part, push, OneOf, MayTake}
-use Rattle.comet_syntax.specs.Written.Shown.{Shown, form, shown, Grows}
+use Rattle.comet_syntax.specs.Written.Shown.{Shown, form, shown}
 use Rattle.parse_base.specs.declared.stop.Stop.{Stop}
 use Rattle.parse_base.specs.declared.stop.Stop.TheVariants.{Fault, NoMemory}
 use Rattle.parse_base.specs.Reading.{MustTake, Stops}
-
--- the next token has this kind and this place, and these stand behind it
-pub record Sees (ts : List Token) (k : TokenKind) (place : Place) (rest : List Token) : Type 0 where
-  pub next : Token
-  pub is : ts ≡ next ∷ rest
-  pub kind_is : next.kind ≡ k
-  pub place_is : next.place ≡ place
 
 -- what is read for sure, as it is written
 pub data Carries (limit : ℕ) : List Item → List Token → List Shown → List Item → List Token → Type 0 where
@@ -30,14 +21,7 @@ pub data Carries (limit : ℕ) : List Item → List Token → List Shown → Lis
       → OneOf (alternatives n) body → MayTake n body ts → MustTake n body ts
       → Carries limit (push body d K) ts tree K' rest → Carries limit (part n d ∷ K) ts (form n body ∷ tree) K' rest
 
--- The symbols at this depth are read from these tokens, and those are left. They are written in front of what comes behind.
-pub record Reads (limit : ℕ) (body : List Symbol) (d : ℕ) (ts rest : List Token) (tree : Grows) : Type 0 where
-  pub leads : (K K' : List Item) (r : List Token) (behind : List Shown) → Carries limit K rest behind K' r → Carries limit (push body d K) ts (tree behind) K' r
-
--- The first symbols lead to the second ones, with this much written.
-pub record Reaches (limit : ℕ) (body body' : List Symbol) (d : ℕ) (ts rest : List Token) (tree : Grows) : Type 0 where
-  pub reaches : (K K' : List Item) (r : List Token) (behind : List Shown) → Carries limit (push body' d K) rest behind K' r → Carries limit (push body d K) ts (tree behind) K' r
-
+-- what is read for sure leads to items where reading surely stops
 pub record Halts (limit : ℕ) (K : List Item) (ts : List Token) (left : ℕ) (c : FormCause) : Type 0 where
   pub tree : List Shown
   pub items : List Item
@@ -50,9 +34,3 @@ pub record Halts (limit : ℕ) (K : List Item) (ts : List Token) (left : ℕ) (c
 pub data Fails (limit : ℕ) (body : List Symbol) (d : ℕ) (ts : List Token) : Stop → Type 0 where
   halts : {left : ℕ} {c : FormCause} → ((K : List Item) → Halts limit (push body d K) ts left c) → Fails limit body d ts (Fault left c)
   no_memory : Fails limit body d ts NoMemory
-
--- The symbols are read, and with them what is written grows from the first text to the second.
-pub record Continues (limit : ℕ) (body : List Symbol) (d : ℕ) (ts rest : List Token) (from to : Grows) : Type 0 where
-  pub tree : Grows
-  pub reads : Reads limit body d ts rest tree
-  pub is : to ≡ (λ behind. from (tree behind))

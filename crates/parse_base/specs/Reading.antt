@@ -1,5 +1,5 @@
 -- What is read for sure, and where reading stops for sure: whatever stands behind, the next token leaves no other way.
--- Definitions of this project, for the promises of the functions in this crate.
+-- Definitions of this project, for the promises of a reader.
 use Rattle.std.specs.Prelude.{ℕ, Bool, true, false, List, [], ◌∷◌, ◌+◌, ◌≡◌, ◌≤◌}
 use Rattle.comet_syntax.specs.declared.token.Token.{Token}
 use Rattle.comet_syntax.specs.declared.stop.FormCause.{FormCause}
@@ -35,7 +35,7 @@ abbrev pub cause_at : List Token → FormCause
 cause_at [] = UnexpectedEnd
 cause_at (t ∷ ts) = Unexpected
 
--- a part that is never empty
+-- whether a form is empty, or one for all other tokens
 abbrev pub is_default : List Symbol → Bool
 is_default [] = true
 is_default (default c m ∷ b) = true
@@ -43,9 +43,11 @@ is_default (token q k ∷ b) = false
 is_default (same m ∷ b) = false
 is_default (deeper m ∷ b) = false
 
+-- a part that is never empty
 abbrev pub IsSolid : Part → Type 0
 IsSolid n = (b : List Symbol) → OneOf (alternatives n) b → is_default b ≡ true → ⊥
 
+-- whatever stands behind, nothing of these items is read at these tokens
 pub data Stops (limit : ℕ) : List Item → List Token → FormCause → Type 0 where
   wrong : {m : Bool} {k : Kind} {K : List Item} {ts : List Token} → next_in (k ∷ []) ts ≡ false → Stops limit (want m k ∷ K) ts (cause_at ts)
   closed : {n : Part} {d : ℕ} {K : List Item} {ts : List Token} → IsSolid n → next_in (first n) ts ≡ false → Stops limit (part n d ∷ K) ts (cause_at ts)

@@ -1,9 +1,10 @@
 //! Why reading stops.
-ghost use Rattle.std.specs.Prelude.{◌≡◌};
+ghost use Rattle.std.specs.Prelude.{◌≡◌, length};
+ghost use Rattle.parse_base.specs.Reading.{cause_at};
 ghost use Rattle.parse_base.specs.declared.stop.Stop.TheVariants as stops;
 
 use cbl_base::NoMemory as OutOfMemory;
-use comet_syntax::FormCause;
+use comet_syntax::{FormCause, Token};
 use std::alloc::{AllocError, AllocFailed};
 
 /// Why reading stops: at the token from which so many are left, or for want of memory.
@@ -40,5 +41,21 @@ impl<T: Drop> From<AllocFailed<T>> for Stop {
 
     fn from(_error: AllocFailed<T>) -> Stop {
         Stop::NoMemory
+    }
+}
+
+/// The refusal of the next token, or of the end.
+pub fn refuse(tokens: &[Token]) -> Stop
+    ensures { result ≡ stops.Fault (length tokens.now) (cause_at tokens.now) }
+{
+    match tokens.first() {
+        Some(_) => Stop::Fault {
+            left: tokens.len(),
+            cause: FormCause::Unexpected,
+        },
+        None => Stop::Fault {
+            left: 0,
+            cause: FormCause::UnexpectedEnd,
+        },
     }
 }
