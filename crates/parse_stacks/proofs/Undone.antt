@@ -5,7 +5,7 @@ use Rattle.comet_syntax.specs.Grammar.Kinds.{Kind, a_name, a_number, a_string, n
 use Rattle.comet_syntax.specs.Grammar.Symbols.{Part, Symbol, token, same, deeper, default}
 use Rattle.comet_syntax.specs.Derivation.{Item, part, push}
 use Rattle.comet_syntax.specs.Written.Shown.{Shown, Grows, form}
-use Rattle.parse_stacks.specs.Standing.{Stands, Fits, texts, Levels, token_text, TokenLevel}
+use Rattle.parse_stacks.specs.Standing.{Stands, Fits, FitsThere, MayStand, texts, Levels, token_text, TokenLevel}
 use Rattle.parse_stacks.specs.Texts.{text, Level}
 use Rattle.parse_stacks.specs.Undoing.{Kept, Values, TakesToken, TakesPart, Takes, Puts, Undoes}
 use Rattle.parse_stacks.specs.Values.{State, Value, stack, with_stack}
@@ -117,12 +117,16 @@ splits (deeper n ∷ body) d items a L s = part_then n a (λ x b. First (push bo
 splits (default h n ∷ body) d items a L s = part_then n a (λ x b. First (push body d items) L (text n x) (Level n x) b) (Tail body (Stood (default h n ∷ body) items L))
     (λ x b r. takes_then body b (Stood body items r.0) (λ v c. Stood (default h n ∷ body) items L (x, v) c) (part_stood n body items L x r.0 r.1 r.2) (splits body d items b r.0 r.3)) s
 
-pub undone_form : (n : Part) (body : List Symbol) (Made : Values body → Value n → Type 0) → Fits n body Made → (d : ℕ) (items : List Item) (a b : State) (L : List Shown)
-    → Stands (push body d items) a L → Undoes n body Made a b → Stands (part n d ∷ items) b (form n body ∷ L)
-undone_form n body Made fits d items a b L s u = takes_gives body a (λ v c. Stood body items L v c × ((x : Value n) × Made v x × Puts n x c b)) (Stands (part n d ∷ items) b (form n body ∷ L))
+-- what fits everywhere fits there
+pub fits_there : (n : Part) (body : List Symbol) (Made : Values body → Value n → Type 0) → Fits n body Made → FitsThere n body Made
+fits_there n body Made fits v x l m Y s = let h = fits v x l m in (h.0, h.1 Y)
+
+pub undone_form : (n : Part) (body : List Symbol) (Made : Values body → Value n → Type 0) → FitsThere n body Made → (d : ℕ) (items : List Item) (a b : State) (L : List Shown)
+    → MayStand n body L → Stands (push body d items) a L → Undoes n body Made a b → Stands (part n d ∷ items) b (form n body ∷ L)
+undone_form n body Made fits d items a b L may s u = takes_gives body a (λ v c. Stood body items L v c × ((x : Value n) × Made v x × Puts n x c b)) (Stands (part n d ∷ items) b (form n body ∷ L))
     (λ v c r.
     let k : Stood body items L v c = r.0 in
     let m : (x : Value n) × Made v x × Puts n x c b = r.1 in
-    let h : Level n m.0 × ((behind : List Shown) → form n body ∷ texts body v behind ≡ text n m.0 behind) = fits v m.0 k.2 m.1 in
-    (m.0, stack n c, m.2.0, (k.0, ap (λ z. form n body ∷ z) k.1 ∙ h.1 k.0, h.0, subst (λ z. Stands items z k.0) (sym m.2.1) k.3)))
+    let h : Level n m.0 × (form n body ∷ texts body v k.0 ≡ text n m.0 k.0) = fits v m.0 k.2 m.1 k.0 (subst (MayStand n body) k.1 may) in
+    (m.0, stack n c, m.2.0, (k.0, ap (λ z. form n body ∷ z) k.1 ∙ h.1, h.0, subst (λ z. Stands items z k.0) (sym m.2.1) k.3)))
     (takes_both body a (Stood body items L) (λ v c. (x : Value n) × Made v x × Puts n x c b) (splits body d items a L s) u)

@@ -5,7 +5,8 @@ use Rattle.cbl_base.specs.declared.place.Place.{Place}
 use Rattle.comet_syntax.specs.declared.token.TokenKind.TheVariants as kinds
 use Rattle.comet_syntax.specs.declared.token.Word.{Word}
 use Rattle.comet_syntax.specs.declared.token.Word.TheVariants as words
-use Rattle.comet_syntax.specs.Grammar.Kinds.{Kind, a_name, a_number, a_string, numbered_word}
+use Rattle.comet_syntax.specs.Grammar.Kinds.{Kind, a_name, a_number, a_string, numbered_word, kind_of, one_of}
+use Rattle.comet_syntax.specs.Grammar.First.{first}
 use Rattle.comet_syntax.specs.Grammar.Symbols.{Part, Symbol, token, same, deeper, default}
 use Rattle.comet_syntax.specs.Derivation.{Item, want, part}
 use Rattle.comet_syntax.specs.Written.Shown.{Shown, plain, placed, form, Grows, name}
@@ -72,3 +73,21 @@ Levels (default b n ∷ body) v = Level n v.0 × Levels body v.1
 -- what is made of the values of a form is written as the form and its values
 abbrev pub Fits : (n : Part) (body : List Symbol) → (Values body → Value n → Type 0) → Type 0
 Fits n body Made = (v : Values body) (x : Value n) → Levels body v → Made v x → Level n x × ((behind : List Shown) → form n body ∷ texts body v behind ≡ text n x behind)
+
+-- whether the next token of a listing is of one of these kinds
+abbrev pub next_shown : List Kind → List Shown → Bool
+next_shown ks [] = false
+next_shown ks (form n body ∷ L) = next_shown ks L
+next_shown ks (plain k ∷ L) = one_of ks (kind_of k)
+next_shown ks (placed k place ∷ L) = one_of ks (kind_of k)
+
+-- a part is left out, or has its form for all other tokens, only where the next token begins no other form
+abbrev pub MayStand : Part → List Symbol → List Shown → Type 0
+MayStand n [] L = next_shown (first n) L ≡ false
+MayStand n (default b m ∷ body) L = next_shown (first n) L ≡ false
+MayStand n _ L = Unit {0}
+
+-- the same as `Fits`, of listings in which the form may stand
+abbrev pub FitsThere : (n : Part) (body : List Symbol) → (Values body → Value n → Type 0) → Type 0
+FitsThere n body Made = (v : Values body) (x : Value n) → Levels body v → Made v x → (behind : List Shown) → MayStand n body (texts body v behind)
+    → Level n x × (form n body ∷ texts body v behind ≡ text n x behind)

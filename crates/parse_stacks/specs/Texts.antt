@@ -10,6 +10,7 @@ use Rattle.comet_syntax.specs.declared.tree.expressions.Argument.{Argument}
 use Rattle.comet_syntax.specs.declared.tree.expressions.ChainOperator.{ChainOperator}
 use Rattle.comet_syntax.specs.declared.tree.expressions.Extreme.{Extreme}
 use Rattle.comet_syntax.specs.declared.tree.expressions.Link.{Link}
+use Rattle.comet_syntax.specs.declared.tree.expressions.Suffix.{Suffix}
 use Rattle.comet_syntax.specs.declared.tree.statements.Step.{Step}
 use Rattle.comet_syntax.specs.declared.tree.statements.Step.TheVariants as steps
 use Rattle.comet_syntax.specs.declared.tree.statements.WriteOperator.{WriteOperator}
@@ -267,6 +268,15 @@ abbrev pub DimensionRestLevel : DimensionRest → Type 0
 DimensionRestLevel (dimension_rests.In e) = Unit {0}
 DimensionRestLevel (dimension_rests.Rest called suffixes b) = StartsRight b
 
+-- a bare name is set by no other form than the one for it
+abbrev pub IsSetElsewhere : List Suffix → WriteRest → Type 0
+IsSetElsewhere [] (write_rests.Value writes.Set e) = ⊥
+IsSetElsewhere all w = Unit {0}
+
+abbrev pub NamedRestLevel : NamedRest → Type 0
+NamedRestLevel (named_rests.Rest None suffixes w) = IsSetElsewhere (reverse suffixes.items) w
+NamedRestLevel r = Unit {0}
+
 -- what is known of the value of a part
 abbrev pub Level : (n : Part) → Value n → Type 0
 Level grammar.operand e = IsOperand (written e)
@@ -277,6 +287,7 @@ Level grammar.product_tail links = LinksStart IsMultiplying links
 Level grammar.total_tail links = LinksStart IsAdding links
 Level grammar.and_tail links = LinksStart IsConjoining links
 Level grammar.or_tail links = LinksStart IsDisjoining links
+Level grammar.named_simple r = NamedRestLevel r
 Level grammar.pair_named r = PairRestLevel r
 Level grammar.dimension_rest r = DimensionRestLevel r
 Level grammar.listed all = IsListed all
