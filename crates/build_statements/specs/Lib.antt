@@ -1,0 +1,2 @@
+pub mod MadeSimples
+pub mod MadeStatements
