@@ -327,7 +327,7 @@ module _ (users : ℕ → NumberRule) (env : ℕ → Outcome) where
       subst (AreFailing users env after) (failing_node t op args place items before true e same (ap is_some whole)) (found_push found after (before ++ failing_in (joined_terms (map subterms items))) t f is whole next are)
 
   -- a leaf never fails
-  pub leaf_adds : (t : Term) (found : List Failing) (before : List Term) → failure_of users env t ≡ None → (subterms t ≡ t ∷ [] ) → AreFailing users env found before → AreFailing users env found (before ++ failing_in (subterms t))
+  pub leaf_adds : (t : Term) (found : List Failing) (before : List Term) → failure_of users env t ≡ None → (subterms t ≡ t ∷ []) → AreFailing users env found before → AreFailing users env found (before ++ failing_in (subterms t))
   leaf_adds t found before none alone are = adds_none before (subterms t) found (ap failing_in alone ∙ one_filtered t false (ap is_some none)) are
 
 -- ---- what was posted

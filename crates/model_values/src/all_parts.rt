@@ -142,10 +142,7 @@ fn add_sum<U: UserValues>(
 /// The totals of all systems or of all objectives, or the first that doesn't fit; none where a member has no
 /// value.
 #[tactic(auto, using(crate::proofs::TotalSteps::sums_all))]
-pub(crate) fn sums_in<U: UserValues>(
-    setting: &Setting<'_, U>,
-    side: Side,
-) -> Result<Sums, NoMemory>
+pub(crate) fn sums_in<U: UserValues>(setting: &Setting<'_, U>, side: Side) -> Result<Sums, NoMemory>
     requires well_formed { IsWellFormed setting.now.model.now }
     requires kinds { HasKinds (kinds_in setting.now.model.now.vars.items) (env_of setting.now.cells.now) }
     ensures { IfOk result (λ r. listed_sums r ≡ fresh_sums (user_rules (U.viol_of setting.now.users.now) (U.viol_at setting.now.users.now)) setting.now.model.now (env_of setting.now.cells.now) side) }

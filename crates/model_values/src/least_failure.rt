@@ -128,7 +128,13 @@ fn supporting_failing<'a, U: UserValues>(
 {
     let mut failing = Vec::new(setting.alloc);
     for turn in 0..setting.model.posted.len() {
-        push_supporting(setting, whole, marks, setting.model.posted[turn], &mut failing)?;
+        push_supporting(
+            setting,
+            whole,
+            marks,
+            setting.model.posted[turn],
+            &mut failing,
+        )?;
     }
     Ok(failing)
 }
@@ -171,9 +177,7 @@ fn first_of(failing: &[Failing<'_>]) -> Option<Failure>
 
 /// The failure of the least numbered subterm that fails, where one does.
 #[tactic(auto, using(crate::proofs::FailureLaws::first_failing))]
-pub(crate) fn least_failure<U: UserValues>(
-    setting: &Setting<'_, U>,
-) -> Result<Failure, NoMemory>
+pub(crate) fn least_failure<U: UserValues>(setting: &Setting<'_, U>) -> Result<Failure, NoMemory>
     requires well_formed { IsWellFormed setting.now.model.now }
     requires kinds { HasKinds (kinds_in setting.now.model.now.vars.items) (env_of setting.now.cells.now) }
     ensures { IfOk result (λ f. f ≡ unwrap_or (first_failure (user_rules (U.viol_of setting.now.users.now) (U.viol_at setting.now.users.now)) (env_of setting.now.cells.now) (distinct_subterms setting.now.model.now)) no_failure) }

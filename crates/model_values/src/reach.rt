@@ -31,11 +31,7 @@ fn enter(marks: &mut Vec<bool>, stack: &mut Vec<u32>, var: u32) -> Result<(), No
 }
 
 /// Marks those of some variables that have no mark yet, and puts them on the stack.
-fn enter_all(
-    marks: &mut Vec<bool>,
-    stack: &mut Vec<u32>,
-    vars: &[u32],
-) -> Result<(), NoMemory>
+fn enter_all(marks: &mut Vec<bool>, stack: &mut Vec<u32>, vars: &[u32]) -> Result<(), NoMemory>
     ensures { OnOk result (Spreads vars.now marks.old.items stack.old.items marks.new.items stack.new.items) }
 {
     for var in vars {

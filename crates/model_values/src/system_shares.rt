@@ -75,13 +75,7 @@ fn weighed_in<U: UserValues>(
         weights: Vec::new(setting.alloc),
     };
     for turn in 0..setting.model.posted.len() {
-        weighed = weigh_posted(
-            setting,
-            marks,
-            system,
-            weighed,
-            setting.model.posted[turn],
-        )?;
+        weighed = weigh_posted(setting, marks, system, weighed, setting.model.posted[turn])?;
     }
     Ok(weighed)
 }

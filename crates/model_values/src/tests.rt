@@ -472,11 +472,20 @@ fn a_subterm_that_was_posted_to_another_system(rt: HostRuntime) -> Result<(), Fa
     let change = Move::Assign { var: 0, value: 4 };
     let wanted = AskStop::Fault(bracket, RunFault::OutOfRange);
     for whole in [SYSTEM, Whole::System(1)] {
-        assert_eq!(rt; delta_at(alloc, &model, &[1], whole, change), Some(Err(wanted)));
+        assert_eq!(rt;
+            delta_at(alloc, &model, &[1], whole, change),
+            Some(Err(wanted))
+        );
     }
     assert_eq!(rt; violations_at(alloc, &model, &[4], 1, 0), Some(Err(wanted)));
     assert_eq!(rt;
-        delta_at(alloc, &model, &[1], Whole::System(1), Move::Assign { var: 0, value: 3 }),
+        delta_at(
+            alloc,
+            &model,
+            &[1],
+            Whole::System(1),
+            Move::Assign { var: 0, value: 3 }
+        ),
         Some(Ok(22))
     );
     Ok(())

@@ -70,10 +70,7 @@ pub(crate) fn no_parts(alloc: Global) -> PartsHeld
 }
 
 /// The numbers so far and one more, where all have one.
-fn gather_number(
-    so_far: Option<Vec<i64>>,
-    outcome: Outcome,
-) -> Result<Option<Vec<i64>>, NoMemory>
+fn gather_number(so_far: Option<Vec<i64>>, outcome: Outcome) -> Result<Option<Vec<i64>>, NoMemory>
     ensures { IfOk result (λ r. listed_numbers r ≡ gather_number (listed_numbers so_far) outcome) }
 {
     match (so_far, outcome) {

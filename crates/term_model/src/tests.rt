@@ -122,12 +122,10 @@ fn models_that_may_not_be_asked(rt: HostRuntime) -> Result<(), Fail> {
     let mut elsewhere = model_of(alloc, 2)?;
     post(
         &mut elsewhere,
-        &[
-            Posted::Constrain {
-                system: 1,
-                member: 0,
-            },
-        ],
+        &[Posted::Constrain {
+            system: 1,
+            member: 0,
+        }],
     )?;
     let mut missing = model_of(alloc, 2)?;
     constrain(&mut missing, var(2))?;
