@@ -7,7 +7,7 @@ ghost use Rattle.build_declarations.specs.MadeDeclarations.{IsReady, IsUndone, I
 
 use cbl_base::NoMemory;
 use comet_syntax::tree::{Argument, Dimension, Dimensions, Expression, Name, Suffix};
-use parse_stacks::{Behind, DimensionRest, Stacks, name_operand, put, raise, take};
+use parse_stacks::{Behind, DimensionRest, Stacks, name_operand, put, raise, take, take_behind};
 use std::alloc::Global;
 
 // A dimension whose range begins with this operand.
@@ -93,15 +93,12 @@ pub fn undo_unnamed_dimension(alloc: Global, stacks: &mut Stacks) -> Result<(), 
     ensures { IfOk result (λ _. IsUndone forms.DimensionUnnamed stacks.old stacks.new) }
 {
     let operand = take(&mut stacks.expressions);
-    let behind = Behind {
-        product: take(&mut stacks.links),
-        total: take(&mut stacks.links),
-        up_to: take(&mut stacks.up_to),
-        compared: take(&mut stacks.compared),
-        conjunction: take(&mut stacks.links),
-        disjunction: take(&mut stacks.links),
-        branches: take(&mut stacks.branches),
-    };
+    let behind = take_behind(
+        &mut stacks.links,
+        &mut stacks.up_to,
+        &mut stacks.compared,
+        &mut stacks.branches,
+    );
     let dimension = make_unnamed(alloc, operand, behind)?;
     put(&mut stacks.dimensions, dimension)?;
     Ok(())
@@ -124,15 +121,12 @@ pub fn undo_called_rest(stacks: &mut Stacks) -> Result<(), NoMemory>
 {
     let called = take(&mut stacks.called);
     let suffixes = take(&mut stacks.suffixes);
-    let behind = Behind {
-        product: take(&mut stacks.links),
-        total: take(&mut stacks.links),
-        up_to: take(&mut stacks.up_to),
-        compared: take(&mut stacks.compared),
-        conjunction: take(&mut stacks.links),
-        disjunction: take(&mut stacks.links),
-        branches: take(&mut stacks.branches),
-    };
+    let behind = take_behind(
+        &mut stacks.links,
+        &mut stacks.up_to,
+        &mut stacks.compared,
+        &mut stacks.branches,
+    );
     put(
         &mut stacks.dimension_rests,
         DimensionRest::Rest {

@@ -1,8 +1,7 @@
 -- What is made of the values of each form of expressions is written as the form and its values.
-use Rattle.std.specs.Prelude.{List, [], ◌∷◌, ◌≡◌, map, reverse, refl}
+use Rattle.std.specs.Prelude.{List, [], ◌∷◌, map, reverse, refl}
 use Rattle.std.proofs.Common.{sym, ◌∙◌, ap, subst, inl, inr}
 use Rattle.comet_syntax.specs.declared.token.Word.TheVariants as words
-use Rattle.comet_syntax.specs.declared.tree.expressions.ChainOperator.TheVariants as chains
 use Rattle.comet_syntax.specs.declared.tree.expressions.Comparison.TheVariants as comparisons
 use Rattle.comet_syntax.specs.declared.tree.expressions.Extreme.TheVariants as extremes
 use Rattle.comet_syntax.specs.Grammar.Symbols as grammar
@@ -14,7 +13,7 @@ use Rattle.parse_machine.specs.declared.form.ExpressionForm.TheVariants as forms
 use Rattle.parse_machine.specs.Forms.{body_in_expression, part_in_expression}
 use Rattle.parse_stacks.specs.Levels.{IsAdding, IsConjoining, IsDisjoining, IsMultiplying, IsOperand, after_text, closed_suffixes}
 use Rattle.parse_stacks.specs.Standing.{Fits}
-use Rattle.parse_stacks.specs.Texts.{IsExtreme, IsLiteral, PairRestLevel, StartsRight, branches_text, called_text, compared_text, extreme_text, links_text, literal_text, pair_rest_text, pair_text, up_to_text}
+use Rattle.parse_stacks.specs.Texts.{IsLiteral, PairRestLevel, StartsRight, branches_text, called_text, compared_text, extreme_text, links_text, literal_text, pair_rest_text, pair_text, up_to_text}
 use Rattle.parse_stacks.proofs.GoingOn.{comparison_level_goes, conjunction_level_goes, named_goes, raised_goes}
 use Rattle.parse_stacks.proofs.Trees.{written_argument_expression, written_argument_str}
 use Rattle.build_expressions.specs.Made.{Made}

@@ -18,12 +18,11 @@ use Rattle.comet_syntax.specs.declared.tree.expressions.Name.{Name}
 use Rattle.comet_syntax.specs.declared.tree.expressions.Suffix.{Suffix}
 use Rattle.comet_syntax.specs.Grammar.Symbols as grammar
 use Rattle.comet_syntax.specs.Grammar.Symbols.{Part, Symbol}
-use Rattle.comet_syntax.specs.Grammar.Expressions.{arguments_listed, literal_number, operand_name, operand_unnamed, pair_first_name, pair_named_called, pair_named_in, pair_unnamed, postfix_name, range_tail_dot_dot}
+use Rattle.comet_syntax.specs.Grammar.Expressions.{arguments_listed, literal_number, operand_unnamed, pair_first_name, pair_named_called, pair_unnamed, range_tail_dot_dot}
 use Rattle.comet_syntax.specs.Grammar.Statements.{first_name_name}
 use Rattle.comet_syntax.specs.Written.Shown.{Shown, form, Grows, each, mark, name, word}
-use Rattle.comet_syntax.specs.Written.Expressions.{Head, LinkText, Opening, Writing, arguments_text, at_operand, at_postfix, at_product, by_extreme, by_name, by_opening, by_other, compared, comparison_form, extreme_aggregate, extreme_of, from_operand, from_primary, generators_behind, generators_text, link, listed_text, number, opening, operand_head, option_value, pair_generators, pair_head, plain_aggregate, postfix_head, two_apart, two_in_pair, unnamed_extreme, up_to, whole, word_of_comparison, word_of_extreme, written, written_argument, written_generator, written_generators, written_link}
+use Rattle.comet_syntax.specs.Written.Expressions.{Head, LinkText, Opening, Writing, arguments_text, at_operand, at_postfix, at_product, by_extreme, by_name, by_opening, by_other, compared, comparison_form, extreme_aggregate, extreme_of, from_operand, from_primary, generators_text, listed_text, number, opening, operand_head, pair_generators, pair_head, plain_aggregate, postfix_head, two_apart, two_in_pair, unnamed_extreme, up_to, whole, word_of_comparison, word_of_extreme, written, written_argument, written_generators, written_link}
 use Rattle.parse_stacks.specs.declared.tails.Behind.{Behind}
-use Rattle.parse_stacks.specs.declared.tails.Compared.{Compared}
 use Rattle.parse_stacks.specs.declared.tails.Pair.{Pair}
 use Rattle.parse_stacks.specs.declared.tails.Pair.TheVariants as pairs
 use Rattle.parse_stacks.specs.declared.tails.PairRest.{PairRest}
@@ -31,7 +30,7 @@ use Rattle.parse_stacks.specs.declared.tails.PairRest.TheVariants as pair_rests
 use Rattle.parse_stacks.specs.declared.tails.UpTo.{UpTo}
 use Rattle.parse_stacks.specs.Levels.{IsAdding, IsMultiplying, IsOperand, Starts, closed_suffixes, closed_texts}
 use Rattle.parse_stacks.specs.Raised.{linked, named_operand, raised, range_level, total_of, with_suffixes}
-use Rattle.parse_stacks.specs.Texts.{IsListed, IsUnnamed, LinksStart, PairRestLevel, StartsRight, behind_text, compared_text, links_text, literal_text, number_text, pair_rest_text, pair_text, unnamed_text, up_to_text}
+use Rattle.parse_stacks.specs.Texts.{IsUnnamed, LinksStart, PairRestLevel, StartsRight, behind_text, links_text, literal_text, number_text, pair_rest_text, pair_text, unnamed_text, up_to_text}
 use Rattle.parse_stacks.proofs.GoingOn.{Goes, is_operand, named_goes, product_goes, raised_goes, range_level_goes, suffixed_goes, total_goes}
 use Rattle.build_expressions.specs.MadeOperands.{Begun, of_pair}
 

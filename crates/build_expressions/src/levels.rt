@@ -10,8 +10,8 @@ use crate::making::make_link;
 use cbl_base::{NoMemory, Place};
 use comet_syntax::tree::{ChainOperator, Comparison, Expression, Link};
 use parse_stacks::{
-    Behind, Branches, Compared, Stacks, UpTo, link, put, raise, raise_to_comparison,
-    raise_to_conjunction, raise_to_range, raise_to_total, take,
+    Branches, Compared, Stacks, UpTo, link, put, raise, raise_to_comparison, raise_to_conjunction,
+    raise_to_range, raise_to_total, take, take_behind,
 };
 use std::alloc::Global;
 
@@ -36,22 +36,12 @@ pub fn undo_whole(alloc: Global, stacks: &mut Stacks) -> Result<(), NoMemory>
     ensures { IfOk result (λ _. Undone expression expression_operand WholeMade stacks.old stacks.new) }
 {
     let operand = take(&mut stacks.expressions);
-    let product = take(&mut stacks.links);
-    let total = take(&mut stacks.links);
-    let up_to = take(&mut stacks.up_to);
-    let compared = take(&mut stacks.compared);
-    let conjunction = take(&mut stacks.links);
-    let disjunction = take(&mut stacks.links);
-    let branches = take(&mut stacks.branches);
-    let behind = Behind {
-        product,
-        total,
-        up_to,
-        compared,
-        conjunction,
-        disjunction,
-        branches,
-    };
+    let behind = take_behind(
+        &mut stacks.links,
+        &mut stacks.up_to,
+        &mut stacks.compared,
+        &mut stacks.branches,
+    );
     let made = raise(alloc, operand, behind)?;
     put(&mut stacks.expressions, made)?;
     Ok(())
@@ -114,7 +104,7 @@ pub fn undo_conjunction(alloc: Global, stacks: &mut Stacks) -> Result<(), NoMemo
 }
 
 /// `< right` and its like
-pub fn undo_comparison(
+pub fn undo_compared(
     alloc: Global,
     stacks: &mut Stacks,
     comparison: Comparison,

@@ -11,7 +11,9 @@ use crate::generating::{join_generators, make_generator};
 use crate::making::{make_aggregate, make_extreme};
 use cbl_base::{NoMemory, Place};
 use comet_syntax::tree::{Aggregate, Expression, Extreme, Name};
-use parse_stacks::{Behind, Pair, PairRest, Stacks, link, name_operand, put, raise, suffix, take};
+use parse_stacks::{
+    Pair, PairRest, Stacks, link, name_operand, put, raise, suffix, take, take_behind,
+};
 use std::alloc::Global;
 
 // `min` or `max` as an aggregate.
@@ -114,24 +116,14 @@ pub fn undo_unnamed_pair(alloc: Global, stacks: &mut Stacks) -> Result<(), NoMem
     ensures { IfOk result (λ _. Undone pair pair_unnamed UnnamedPairMade stacks.old stacks.new) }
 {
     let operand = take(&mut stacks.expressions);
-    let product = take(&mut stacks.links);
-    let total = take(&mut stacks.links);
-    let up_to = take(&mut stacks.up_to);
-    let compared = take(&mut stacks.compared);
-    let conjunction = take(&mut stacks.links);
-    let disjunction = take(&mut stacks.links);
-    let branches = take(&mut stacks.branches);
+    let behind = take_behind(
+        &mut stacks.links,
+        &mut stacks.up_to,
+        &mut stacks.compared,
+        &mut stacks.branches,
+    );
     let right = take(&mut stacks.expressions);
     let suffixes = take(&mut stacks.suffixes);
-    let behind = Behind {
-        product,
-        total,
-        up_to,
-        compared,
-        conjunction,
-        disjunction,
-        branches,
-    };
     let left = raise(alloc, operand, behind)?;
     let made = Pair::Two {
         left,
@@ -170,24 +162,14 @@ pub fn undo_pair_two(stacks: &mut Stacks) -> Result<(), NoMemory>
 {
     let called = take(&mut stacks.called);
     let inner = take(&mut stacks.suffixes);
-    let product = take(&mut stacks.links);
-    let total = take(&mut stacks.links);
-    let up_to = take(&mut stacks.up_to);
-    let compared = take(&mut stacks.compared);
-    let conjunction = take(&mut stacks.links);
-    let disjunction = take(&mut stacks.links);
-    let branches = take(&mut stacks.branches);
+    let behind = take_behind(
+        &mut stacks.links,
+        &mut stacks.up_to,
+        &mut stacks.compared,
+        &mut stacks.branches,
+    );
     let right = take(&mut stacks.expressions);
     let suffixes = take(&mut stacks.suffixes);
-    let behind = Behind {
-        product,
-        total,
-        up_to,
-        compared,
-        conjunction,
-        disjunction,
-        branches,
-    };
     let made = PairRest::Two {
         called,
         inner,

@@ -1,3 +1,4 @@
+pub mod Four
 pub mod GoingOn
 pub mod Trees
 pub mod Undone

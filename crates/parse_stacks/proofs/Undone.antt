@@ -10,18 +10,12 @@ use Rattle.parse_stacks.specs.Texts.{text, Level}
 use Rattle.parse_stacks.specs.Undoing.{Kept, Values, TakesToken, TakesPart, Takes, Puts, Undoes}
 use Rattle.parse_stacks.specs.Values.{State, Value, stack, with_stack}
 
-heads_same : {A : Type 0} {x y : A} {xs ys : List A} → x ∷ xs ≡ y ∷ ys → x ≡ y
-heads_same e = cc
-
-tails_same : {A : Type 0} {x y : A} {xs ys : List A} → x ∷ xs ≡ y ∷ ys → xs ≡ ys
-tails_same e = cc
-
 -- what holds of what is taken in two ways holds together
 top_both : {A B : Type 0} (s : List A) (f : List A → B) (P Q : A → B → Type 0) → ((x : A) × (xs : List A) × (s ≡ x ∷ xs) × P x (f xs)) → ((x : A) × (xs : List A) × (s ≡ x ∷ xs) × Q x (f xs))
     → (x : A) × (xs : List A) × (s ≡ x ∷ xs) × (P x (f xs) × Q x (f xs))
 top_both s f P Q (x, xs, e, p) (y, ys, d, q) =
-    let h = heads_same (sym d ∙ e) in
-    let t = tails_same (sym d ∙ e) in
+    let h : y ≡ x = cc in
+    let t : ys ≡ xs = cc in
     (x, xs, e, (p, subst (λ z. Q x (f z)) t (subst (λ z. Q z (f ys)) h q)))
 
 token_both : (m : Bool) (k : Kind) (a : State) (P Q : Kept m k → State → Type 0) → TakesToken m k a P → TakesToken m k a Q → TakesToken m k a (λ x b. P x b × Q x b)

@@ -1,6 +1,6 @@
 -- The value that each part of a program has, and the stacks on which values stand, each seen with its top first.
 -- Definitions of this project.
-use Rattle.std.specs.Prelude.{ℕ, Bool, List, Option, reverse}
+use Rattle.std.specs.Prelude.{ℕ, Bool, List, [], Option, reverse}
 use Rattle.std.specs.declared.alloc.Global.{Global}
 use Rattle.std.specs.declared.vec.Vec.{Vec}
 use Rattle.cbl_base.specs.declared.place.Place.{Place}
@@ -148,6 +148,61 @@ state s = record {
   writes = reverse s.writes.items;
   items = reverse s.items.items;
   item_lists = reverse s.item_lists.items;
+}
+
+-- stacks on which nothing stands
+abbrev pub empty_stacks : State
+empty_stacks = record {
+  places = [];
+  names = [];
+  texts = [];
+  expressions = [];
+  optional = [];
+  links = [];
+  compared = [];
+  up_to = [];
+  branches = [];
+  called = [];
+  suffixes = [];
+  lists = [];
+  arguments = [];
+  pairs = [];
+  pair_rests = [];
+  all_generators = [];
+  generator_lists = [];
+  generators = [];
+  templates = [];
+  classes = [];
+  declarations = [];
+  int_rests = [];
+  variable_rests = [];
+  variable_starts = [];
+  makers = [];
+  all_dimensions = [];
+  second_dimensions = [];
+  dimensions = [];
+  dimension_rests = [];
+  programs = [];
+  tops = [];
+  results = [];
+  parameter_lists = [];
+  parameters = [];
+  parameter_types = [];
+  brackets = [];
+  blocks = [];
+  statement_lists = [];
+  statements = [];
+  otherwise = [];
+  for_starts = [];
+  for_steps = [];
+  events = [];
+  modes = [];
+  simples = [];
+  named_rests = [];
+  new_values = [];
+  writes = [];
+  items = [];
+  item_lists = [];
 }
 
 -- the value of a part

@@ -12,7 +12,7 @@ pub use raising::{
     link, name_operand, raise, raise_to_comparison, raise_to_conjunction, raise_to_range,
     raise_to_total, suffix,
 };
-pub use stacks::{Stacks, put, take};
+pub use stacks::{Stacks, put, take, take_behind};
 pub use tails::{
     Behind, Branches, Compared, DimensionRest, IntRest, NamedRest, NewValue, Pair, PairRest,
     ParameterType, UpTo, VariableRest, WriteRest,

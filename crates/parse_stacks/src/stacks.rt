@@ -1,9 +1,10 @@
 //! The values of what a listing says, by their types: a stack for each, with the top at its end.
 ghost use Rattle.std.specs.Prelude.{◌≡◌, ◌<◌, ◌∷◌, length, reverse, IfOk};
+ghost use Rattle.parse_stacks.specs.Values.{empty_stacks, state};
 
 use crate::tails::{
-    Branches, Compared, DimensionRest, IntRest, NamedRest, NewValue, Pair, PairRest, ParameterType,
-    UpTo, VariableRest, WriteRest,
+    Behind, Branches, Compared, DimensionRest, IntRest, NamedRest, NewValue, Pair, PairRest,
+    ParameterType, UpTo, VariableRest, WriteRest,
 };
 use cbl_base::{NoMemory, Place, Text};
 use comet_syntax::tree::{
@@ -70,7 +71,9 @@ pub struct Stacks {
 
 impl Stacks {
     /// Empty stacks.
-    pub fn new(alloc: Global) -> Stacks {
+    pub fn new(alloc: Global) -> Stacks
+        ensures { state result ≡ empty_stacks }
+    {
         Stacks {
             places: Vec::new(alloc),
             names: Vec::new(alloc),
@@ -140,4 +143,36 @@ pub fn put<T: Drop>(stack: &mut Vec<T>, value: T) -> Result<(), NoMemory>
 {
     stack.push(value)?;
     Ok(())
+}
+
+/// Takes what stands behind an operand, level by level: the four topmost lists of links, and the tops of the other
+/// stacks.
+pub fn take_behind(
+    links: &mut Vec<Vec<Link>>,
+    up_to: &mut Vec<Option<UpTo>>,
+    compared: &mut Vec<Option<Compared>>,
+    branches: &mut Vec<Option<Branches>>,
+) -> Behind
+    requires four { 3 < length links.old.items }
+    requires end { 0 < length up_to.old.items }
+    requires right { 0 < length compared.old.items }
+    requires choice { 0 < length branches.old.items }
+    ensures links { reverse links.old.items ≡ result.product ∷ result.total ∷ result.conjunction ∷ result.disjunction ∷ reverse links.new.items }
+    ensures up_to { reverse up_to.old.items ≡ result.up_to ∷ reverse up_to.new.items }
+    ensures compared { reverse compared.old.items ≡ result.compared ∷ reverse compared.new.items }
+    ensures branches { reverse branches.old.items ≡ result.branches ∷ reverse branches.new.items }
+{
+    let product = take(links);
+    let total = take(links);
+    let conjunction = take(links);
+    let disjunction = take(links);
+    Behind {
+        product,
+        total,
+        up_to: take(up_to),
+        compared: take(compared),
+        conjunction,
+        disjunction,
+        branches: take(branches),
+    }
 }

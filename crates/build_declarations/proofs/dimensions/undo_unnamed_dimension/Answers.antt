@@ -1,30 +1,9 @@
-use Rattle.std.proofs.Common.{refl}
+use Rattle.std.specs.Prelude.{refl}
+use Rattle.parse_stacks.proofs.Four.{has_four}
 use Rattle.build_declarations.proofs.dimensions.undo_unnamed_dimension.Goals as goal
 
+pub take_behind-behind-requires-clause-four : goal.take_behind-behind-requires-clause-four
+take_behind-behind-requires-clause-four c = has_four c.args.stacks.now.links.items c.requires.3.2 c.requires.3.3.2 c.requires.3.3.3.3.3.2 c.requires.3.3.3.3.3.3.2
+
 pub returns : goal.returns
-returns c = (
-  c.take-operand.result,
-  _,
-  c.take-operand.ensures,
-  (
-    c.take.result,
-    _,
-    c.take.ensures,
-    (
-      c.take-2.result,
-      _,
-      c.take-2.ensures,
-      (
-        c.take-3.result,
-        _,
-        c.take-3.ensures,
-        (
-          c.take-4.result,
-          _,
-          c.take-4.ensures,
-          (c.take-5.result, _, c.take-5.ensures, (c.take-6.result, _, c.take-6.ensures, (c.take-7.result, _, c.take-7.ensures, (c.in_ok-dimension.dimension, c.in_ok-dimension.ensures, (c.in_ok-put.ensures, refl))))),
-        ),
-      ),
-    ),
-  ),
-)
+returns c = (_, _, c.take-operand.ensures, (c.take_behind-behind.result.product, _, c.take_behind-behind.ensures.links, (c.take_behind-behind.result.total, _, refl, (c.take_behind-behind.result.up_to, _, c.take_behind-behind.ensures.up_to, (c.take_behind-behind.result.compared, _, c.take_behind-behind.ensures.compared, (c.take_behind-behind.result.conjunction, _, refl, (c.take_behind-behind.result.disjunction, _, refl, (c.take_behind-behind.result.branches, _, c.take_behind-behind.ensures.branches, (c.in_ok-dimension.dimension, c.in_ok-dimension.ensures, (c.in_ok-put.ensures, refl))))))))))

@@ -48,41 +48,41 @@ returns-in-AndTailAndAnd c = as_form c.args.stacks.now c.undo_conjunction.new.st
 pub returns-in-ComparisonTailNone : goal.returns-in-ComparisonTailNone
 returns-in-ComparisonTailNone c = as_form c.args.stacks.now c.undo_no_comparison.new.stacks c.undo_no_comparison.result c.in-ComparisonTailNone.is c.undo_no_comparison.ensures
 
-pub undo_comparison-requires : goal.undo_comparison-requires
-undo_comparison-requires c = subst (λ f. Ready (body_in_expression f) c.args.stacks.now) c.in-ComparisonTailEqualEqual.is c.requires
+pub undo_compared-requires : goal.undo_compared-requires
+undo_compared-requires c = subst (λ f. Ready (body_in_expression f) c.args.stacks.now) c.in-ComparisonTailEqualEqual.is c.requires
 
 pub returns-in-ComparisonTailEqualEqual : goal.returns-in-ComparisonTailEqualEqual
-returns-in-ComparisonTailEqualEqual c = as_form c.args.stacks.now c.undo_comparison.new.stacks c.undo_comparison.result c.in-ComparisonTailEqualEqual.is c.undo_comparison.ensures
+returns-in-ComparisonTailEqualEqual c = as_form c.args.stacks.now c.undo_compared.new.stacks c.undo_compared.result c.in-ComparisonTailEqualEqual.is c.undo_compared.ensures
 
-pub undo_comparison-requires-in-ComparisonTailNotEqual : goal.undo_comparison-requires-in-ComparisonTailNotEqual
-undo_comparison-requires-in-ComparisonTailNotEqual c = subst (λ f. Ready (body_in_expression f) c.args.stacks.now) c.in-ComparisonTailNotEqual.is c.requires
+pub undo_compared-requires-in-ComparisonTailNotEqual : goal.undo_compared-requires-in-ComparisonTailNotEqual
+undo_compared-requires-in-ComparisonTailNotEqual c = subst (λ f. Ready (body_in_expression f) c.args.stacks.now) c.in-ComparisonTailNotEqual.is c.requires
 
 pub returns-in-ComparisonTailNotEqual : goal.returns-in-ComparisonTailNotEqual
-returns-in-ComparisonTailNotEqual c = as_form c.args.stacks.now c.undo_comparison-in-ComparisonTailNotEqual.new.stacks c.undo_comparison-in-ComparisonTailNotEqual.result c.in-ComparisonTailNotEqual.is c.undo_comparison-in-ComparisonTailNotEqual.ensures
+returns-in-ComparisonTailNotEqual c = as_form c.args.stacks.now c.undo_compared-in-ComparisonTailNotEqual.new.stacks c.undo_compared-in-ComparisonTailNotEqual.result c.in-ComparisonTailNotEqual.is c.undo_compared-in-ComparisonTailNotEqual.ensures
 
-pub undo_comparison-requires-in-ComparisonTailLess : goal.undo_comparison-requires-in-ComparisonTailLess
-undo_comparison-requires-in-ComparisonTailLess c = subst (λ f. Ready (body_in_expression f) c.args.stacks.now) c.in-ComparisonTailLess.is c.requires
+pub undo_compared-requires-in-ComparisonTailLess : goal.undo_compared-requires-in-ComparisonTailLess
+undo_compared-requires-in-ComparisonTailLess c = subst (λ f. Ready (body_in_expression f) c.args.stacks.now) c.in-ComparisonTailLess.is c.requires
 
 pub returns-in-ComparisonTailLess : goal.returns-in-ComparisonTailLess
-returns-in-ComparisonTailLess c = as_form c.args.stacks.now c.undo_comparison-in-ComparisonTailLess.new.stacks c.undo_comparison-in-ComparisonTailLess.result c.in-ComparisonTailLess.is c.undo_comparison-in-ComparisonTailLess.ensures
+returns-in-ComparisonTailLess c = as_form c.args.stacks.now c.undo_compared-in-ComparisonTailLess.new.stacks c.undo_compared-in-ComparisonTailLess.result c.in-ComparisonTailLess.is c.undo_compared-in-ComparisonTailLess.ensures
 
-pub undo_comparison-requires-in-ComparisonTailLessEqual : goal.undo_comparison-requires-in-ComparisonTailLessEqual
-undo_comparison-requires-in-ComparisonTailLessEqual c = subst (λ f. Ready (body_in_expression f) c.args.stacks.now) c.in-ComparisonTailLessEqual.is c.requires
+pub undo_compared-requires-in-ComparisonTailLessEqual : goal.undo_compared-requires-in-ComparisonTailLessEqual
+undo_compared-requires-in-ComparisonTailLessEqual c = subst (λ f. Ready (body_in_expression f) c.args.stacks.now) c.in-ComparisonTailLessEqual.is c.requires
 
 pub returns-in-ComparisonTailLessEqual : goal.returns-in-ComparisonTailLessEqual
-returns-in-ComparisonTailLessEqual c = as_form c.args.stacks.now c.undo_comparison-in-ComparisonTailLessEqual.new.stacks c.undo_comparison-in-ComparisonTailLessEqual.result c.in-ComparisonTailLessEqual.is c.undo_comparison-in-ComparisonTailLessEqual.ensures
+returns-in-ComparisonTailLessEqual c = as_form c.args.stacks.now c.undo_compared-in-ComparisonTailLessEqual.new.stacks c.undo_compared-in-ComparisonTailLessEqual.result c.in-ComparisonTailLessEqual.is c.undo_compared-in-ComparisonTailLessEqual.ensures
 
-pub undo_comparison-requires-in-ComparisonTailGreater : goal.undo_comparison-requires-in-ComparisonTailGreater
-undo_comparison-requires-in-ComparisonTailGreater c = subst (λ f. Ready (body_in_expression f) c.args.stacks.now) c.in-ComparisonTailGreater.is c.requires
+pub undo_compared-requires-in-ComparisonTailGreater : goal.undo_compared-requires-in-ComparisonTailGreater
+undo_compared-requires-in-ComparisonTailGreater c = subst (λ f. Ready (body_in_expression f) c.args.stacks.now) c.in-ComparisonTailGreater.is c.requires
 
 pub returns-in-ComparisonTailGreater : goal.returns-in-ComparisonTailGreater
-returns-in-ComparisonTailGreater c = as_form c.args.stacks.now c.undo_comparison-in-ComparisonTailGreater.new.stacks c.undo_comparison-in-ComparisonTailGreater.result c.in-ComparisonTailGreater.is c.undo_comparison-in-ComparisonTailGreater.ensures
+returns-in-ComparisonTailGreater c = as_form c.args.stacks.now c.undo_compared-in-ComparisonTailGreater.new.stacks c.undo_compared-in-ComparisonTailGreater.result c.in-ComparisonTailGreater.is c.undo_compared-in-ComparisonTailGreater.ensures
 
-pub undo_comparison-requires-in-ComparisonTailGreaterEqual : goal.undo_comparison-requires-in-ComparisonTailGreaterEqual
-undo_comparison-requires-in-ComparisonTailGreaterEqual c = subst (λ f. Ready (body_in_expression f) c.args.stacks.now) c.in-ComparisonTailGreaterEqual.is c.requires
+pub undo_compared-requires-in-ComparisonTailGreaterEqual : goal.undo_compared-requires-in-ComparisonTailGreaterEqual
+undo_compared-requires-in-ComparisonTailGreaterEqual c = subst (λ f. Ready (body_in_expression f) c.args.stacks.now) c.in-ComparisonTailGreaterEqual.is c.requires
 
 pub returns-in-ComparisonTailGreaterEqual : goal.returns-in-ComparisonTailGreaterEqual
-returns-in-ComparisonTailGreaterEqual c = as_form c.args.stacks.now c.undo_comparison-in-ComparisonTailGreaterEqual.new.stacks c.undo_comparison-in-ComparisonTailGreaterEqual.result c.in-ComparisonTailGreaterEqual.is c.undo_comparison-in-ComparisonTailGreaterEqual.ensures
+returns-in-ComparisonTailGreaterEqual c = as_form c.args.stacks.now c.undo_compared-in-ComparisonTailGreaterEqual.new.stacks c.undo_compared-in-ComparisonTailGreaterEqual.result c.in-ComparisonTailGreaterEqual.is c.undo_compared-in-ComparisonTailGreaterEqual.ensures
 
 pub returns-in-RangeTailNone : goal.returns-in-RangeTailNone
 returns-in-RangeTailNone c = as_form c.args.stacks.now c.undo_no_range.new.stacks c.undo_no_range.result c.in-RangeTailNone.is c.undo_no_range.ensures

@@ -1,5 +1,9 @@
 use Rattle.std.specs.Prelude.{refl}
+use Rattle.parse_stacks.proofs.Four.{has_four}
 use Rattle.build_expressions.proofs.pairs.undo_pair_two.Goals as goal
 
+pub take_behind-behind-requires-clause-four : goal.take_behind-behind-requires-clause-four
+take_behind-behind-requires-clause-four c = has_four c.args.stacks.now.links.items c.requires.3.3.2 c.requires.3.3.3.2 c.requires.3.3.3.3.3.3.2 c.requires.3.3.3.3.3.3.3.2
+
 pub returns : goal.returns
-returns c = (_, _, c.take-called.ensures, (_, _, c.take-inner.ensures, (_, _, c.take-product.ensures, (_, _, c.take-total.ensures, (_, _, c.take-up_to.ensures, (_, _, c.take-compared.ensures, (_, _, c.take-conjunction.ensures, (_, _, c.take-disjunction.ensures, (_, _, c.take-branches.ensures, (_, _, c.take-right.ensures, (_, _, c.take-suffixes.ensures, (_, refl, (c.in_ok-put.ensures, refl)))))))))))))
+returns c = (_, _, c.take-called.ensures, (_, _, c.take-inner.ensures, (c.take_behind-behind.result.product, _, c.take_behind-behind.ensures.links, (c.take_behind-behind.result.total, _, refl, (c.take_behind-behind.result.up_to, _, c.take_behind-behind.ensures.up_to, (c.take_behind-behind.result.compared, _, c.take_behind-behind.ensures.compared, (c.take_behind-behind.result.conjunction, _, refl, (c.take_behind-behind.result.disjunction, _, refl, (c.take_behind-behind.result.branches, _, c.take_behind-behind.ensures.branches, (_, _, c.take-right.ensures, (_, _, c.take-suffixes.ensures, (_, refl, (c.in_ok-put.ensures, refl)))))))))))))
