@@ -1,6 +1,5 @@
 -- The steps of undoing a listing from its end.
 use Rattle.std.specs.Prelude.{ℕ, ℤ, Bool, true, false, List, [], ◌∷◌, ◌++◌, ◌&&◌, ◌≡◌, ◌<◌, length, reverse, refl}
-use Rattle.std.specs.List.{list_all}
 use Rattle.std.proofs.Common.{sym, ◌∙◌, ap, subst, arith, append_assoc}
 use Rattle.std.specs.declared.alloc.Global.{Global}
 use Rattle.std.specs.declared.vec.Vec.{Vec}
@@ -12,12 +11,10 @@ use Rattle.comet_syntax.specs.declared.token.TokenKind.{TokenKind}
 use Rattle.comet_syntax.specs.declared.token.TokenKind.TheVariants as kinds
 use Rattle.comet_syntax.specs.declared.token.Word.{Word}
 use Rattle.comet_syntax.specs.declared.token.Word.TheVariants as words
-use Rattle.comet_syntax.specs.declared.tree.expressions.Expression.{Expression}
-use Rattle.comet_syntax.specs.declared.tree.expressions.Name.{Name}
 use Rattle.comet_syntax.specs.declared.tree.program.TopPart.{TopPart}
 use Rattle.comet_syntax.specs.Grammar.Alternatives.{alternatives}
 use Rattle.comet_syntax.specs.Grammar.First.{first}
-use Rattle.comet_syntax.specs.Grammar.Kinds.{Kind, a_name, a_number, a_string, numbered_word, kind, kind_of, next_in}
+use Rattle.comet_syntax.specs.Grammar.Kinds.{Kind, a_name, a_number, a_string, numbered_word, kind_of, next_in}
 use Rattle.comet_syntax.specs.Grammar.Symbols.{Part, Symbol, token, same, deeper, default, program}
 use Rattle.comet_syntax.specs.Derivation.{Item, want, part, push, OneOf, here, there, MayTake}
 use Rattle.comet_syntax.specs.Refusal.{start}
@@ -25,14 +22,15 @@ use Rattle.comet_syntax.specs.Written.Shown.{Shown, form, plain, placed, shown}
 use Rattle.comet_syntax.specs.Written.Expressions.{Writing, written, number}
 use Rattle.comet_syntax.specs.Written.Programs.{all_tops}
 use Rattle.parse_base.specs.Promise.{Carries, waits, gains, settles}
+use Rattle.parse_base.proofs.Machine.{and_left, and_right}
 use Rattle.parse_machine.specs.declared.event.Event.{Event}
 use Rattle.parse_machine.specs.declared.event.Event.TheVariants as events
 use Rattle.parse_machine.specs.declared.form.Form.{Form}
 use Rattle.parse_machine.specs.Forms.{part_in, body_in}
 use Rattle.parse_machine.specs.Listing.{reads, shown_all}
 use Rattle.parse_machine.specs.Undoing.{after, items_after, Needs, NeedsPart, NeedsToken}
-use Rattle.parse_machine.proofs.Undoing.{reads_chose, shown_chose, reads_before, shown_read, some_token, items_after_one, items_after_all, needs}
-use Rattle.parse_stacks.specs.Standing.{Stands, MayStand, next_shown, word_numbered, token_text}
+use Rattle.parse_machine.proofs.Undoing.{reads_chose, shown_chose, reads_before, shown_read, some_token, items_after_one, items_after_all, needs, heads_same, tails_same, token_after}
+use Rattle.parse_stacks.specs.Standing.{Stands, MayStand, next_shown, word_numbered}
 use Rattle.parse_stacks.specs.Texts.{number_text}
 use Rattle.parse_stacks.specs.Undoing.{Takes, Undoes}
 use Rattle.parse_stacks.specs.Values.{State}
@@ -65,14 +63,10 @@ all_usual : (n : Part) → usual_forms (alternatives n) ≡ true
 all_usual program = refl
 all_usual _ = refl
 
-and_both : (a b : Bool) → (a && b) ≡ true → (a ≡ true) × (b ≡ true)
-and_both true b h = (refl, h)
-and_both false b h = absurd cc
-
 usual_in : (bs : List (List Symbol)) (f : List Symbol) → usual_forms bs ≡ true → OneOf bs f → usual_form f ≡ true
 usual_in [] f w o = elim o [ ]
-usual_in (b ∷ bs) f w here = (and_both (usual_form b) (usual_forms bs) w).0
-usual_in (b ∷ bs) f w (there o) = usual_in bs f (and_both (usual_form b) (usual_forms bs) w).1 o
+usual_in (b ∷ bs) f w here = and_left (usual_form b) (usual_forms bs) w
+usual_in (b ∷ bs) f w (there o) = usual_in bs f (and_right (usual_form b) (usual_forms bs) w) o
 
 abbrev Usual : List Item → Type 0
 Usual [] = Unit {0}
@@ -81,20 +75,10 @@ Usual (part n d ∷ items) = Usual items
 
 usual_push : (body : List Symbol) (d : ℕ) (items : List Item) → usual_form body ≡ true → Usual items → Usual (push body d items)
 usual_push [] d items w u = u
-usual_push (token m k ∷ body) d items w u = let b = and_both (usual m k) (usual_form body) w in (b.0, usual_push body d items b.1 u)
+usual_push (token m k ∷ body) d items w u = (and_left (usual m k) (usual_form body) w, usual_push body d items (and_right (usual m k) (usual_form body) w) u)
 usual_push (same n ∷ body) d items w u = usual_push body d items w u
 usual_push (deeper n ∷ body) d items w u = usual_push body d items w u
 usual_push (default h n ∷ body) d items w u = usual_push body d items w u
-
-heads_same : {A : Type 0} {x y : A} {xs ys : List A} → x ∷ xs ≡ y ∷ ys → x ≡ y
-heads_same e = cc
-
-tails_same : {A : Type 0} {x y : A} {xs ys : List A} → x ∷ xs ≡ y ∷ ys → xs ≡ ys
-tails_same e = cc
-
-token_after : (m : Bool) (t : Token) (k : Kind) (K : List Item) → after (shown m t) (want m k ∷ K) ≡ K
-token_after false t k K = refl
-token_after true t k K = refl
 
 -- on the way only usual tokens are wanted
 usual_on : {limit : ℕ} {K K' : List Item} {ts r : List Token} {tree : List Shown} → Carries limit K ts tree K' r

@@ -66,14 +66,14 @@ token_needs : (m : Bool) (t : Token) (k : Kind) (K : List Item) → kind t ≡ k
 token_needs false t k K e = record { behind = K; is = ap (λ z. want false z ∷ K) (sym e) }
 token_needs true t k K e = record { behind = K; is = ap (λ z. want true z ∷ K) (sym e) }
 
-token_after : (m : Bool) (t : Token) (k : Kind) (K : List Item) → after (shown m t) (want m k ∷ K) ≡ K
+pub token_after : (m : Bool) (t : Token) (k : Kind) (K : List Item) → after (shown m t) (want m k ∷ K) ≡ K
 token_after false t k K = refl
 token_after true t k K = refl
 
-heads_same : {A : Type 0} {x y : A} {xs ys : List A} → x ∷ xs ≡ y ∷ ys → x ≡ y
+pub heads_same : {A : Type 0} {x y : A} {xs ys : List A} → x ∷ xs ≡ y ∷ ys → x ≡ y
 heads_same e = cc
 
-tails_same : {A : Type 0} {x y : A} {xs ys : List A} → x ∷ xs ≡ y ∷ ys → xs ≡ ys
+pub tails_same : {A : Type 0} {x y : A} {xs ys : List A} → x ∷ xs ≡ y ∷ ys → xs ≡ ys
 tails_same e = cc
 
 -- what is read leads to the items that it leaves to come

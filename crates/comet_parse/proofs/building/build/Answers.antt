@@ -1,8 +1,7 @@
-use Rattle.std.proofs.Common.{rules, arith, ◌++◌, ◌∷◌, [], ◌≡◌, ◌<◌, length, reverse, sym, ◌∙◌, ap, subst}
+use Rattle.std.proofs.Common.{rules, arith, ◌++◌, ◌∷◌, [], ◌≡◌, reverse, ◌∙◌, ap}
 use Rattle.std.proofs.lemmas.List.{length-reverse}
 use Rattle.comet_syntax.specs.Written.Programs.{all_tops}
 use Rattle.parse_machine.specs.declared.event.Event.TheVariants as events
-use Rattle.parse_machine.specs.Listing.{shown_all}
 use Rattle.parse_stacks.specs.Values.{state}
 use Rattle.comet_parse.proofs.Steps.{begun, ready_chose, done_chose, some_read, done_read, some_program, built}
 use Rattle.comet_parse.proofs.building.build.Goals as goal

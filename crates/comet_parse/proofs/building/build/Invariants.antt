@@ -1,4 +1,4 @@
-use Rattle.std.proofs.Common.{ℕ, length}
+use Rattle.std.proofs.Common.{length}
 use Rattle.parse_machine.specs.Listing.{shown_all}
 use Rattle.parse_stacks.specs.Values.{state}
 use Rattle.comet_parse.specs.Building.{Building}
