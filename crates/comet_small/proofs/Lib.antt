@@ -4,3 +4,4 @@ pub mod Closing
 pub mod Exits
 pub mod Layers
 pub mod Rows
+pub mod Scoped

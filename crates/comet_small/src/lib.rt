@@ -8,9 +8,11 @@
 
 mod declaration;
 mod expression;
+mod laws;
 mod shape;
 mod small;
 mod statement;
 mod variables;
 
+pub use laws::small_programs_are_scoped;
 pub use small::small_of;

@@ -68,6 +68,7 @@ fn are_number_and_set(inputs: &[Input]) -> bool
 /// Whether an operation that isn't a user's constraint takes these inputs.
 pub fn takes(op: &Op, inputs: &[Input]) -> bool
     ensures no_user { result ≡ true → is_user op.now ≡ false }
+    ensures exact { (users : ℕ → NumberRule) → is_user op.now ≡ false → result ≡ (rule_of users op.now).takes (kinds_of inputs.now) }
     ensures takes { result ≡ true → (users : ℕ → NumberRule) → IsTrue ((rule_of users op.now).takes (kinds_of inputs.now)) }
 {
     match op {

@@ -1,6 +1,6 @@
 //! Numbers and lists of numbers, as a table has them: `5`, `MIN`, `[1,2,2]`, `[]`.
 
-use crate::stop::Stop;
+use table_file::Stop;
 use cbl_base::{Input, IntSet, Numbers};
 use std::alloc::Global;
 

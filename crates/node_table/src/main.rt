@@ -9,16 +9,14 @@
 mod answers;
 mod from_scratch;
 mod given;
-mod stop;
 mod subject;
 mod walk;
 mod zeros;
 
-use crate::stop::Stop;
 use crate::walk::{Walked, walk_of};
 use crate::zeros::NoZeros;
 use std::process::ExitCode;
-use std::{env, fs};
+use table_file::{Stop, status_of, table_of};
 use user_constraint::UserConstraint;
 
 /// Walks through each node's states, prints what came of it, and says whether all is as it should be.
@@ -51,21 +49,10 @@ fn follow_table<R: Print + AllocGlobal>(rt: &R, table: &str) -> Result<bool, Sto
     Ok(good)
 }
 
-/// The table that the first word names.
-fn table_of(rt: &HostRuntime) -> Result<String, Stop> {
-    let mut words = env::args(rt)?.skip(1);
-    match words.next() {
-        Some(name) => Ok(fs::read_to_string(rt, name.as_str())?),
-        None => Err(Stop::Form),
-    }
-}
-
 fn main(rt: HostRuntime) -> ExitCode {
-    let Ok(table) = table_of(&rt) else {
-        return ExitCode::FAILURE;
+    let good = match table_of(&rt) {
+        Ok(table) => follow_table(&rt, table.as_str()),
+        Err(stop) => Err(stop),
     };
-    match follow_table(&rt, table.as_str()) {
-        Ok(true) => ExitCode::SUCCESS,
-        _ => ExitCode::FAILURE,
-    }
+    status_of(good)
 }

@@ -1,7 +1,7 @@
 //! What a line of a table names: an operation, a constraint, or a node of no operation.
 
 use crate::given::Given;
-use crate::stop::Stop;
+use table_file::Stop;
 use cbl_base::{Input, IntSet, Numbers};
 use cbl_operations::Op;
 use node_states::plain_operation;

@@ -6,7 +6,7 @@ ghost use Rattle.cbl_base.specs.Inputs.{kinds_of};
 use crate::answers::{probed_text, told_of_node};
 use crate::from_scratch::told_from_scratch;
 use crate::given::{givens, inputs_of};
-use crate::stop::Stop;
+use table_file::Stop;
 use crate::subject::{Subject, subject_of};
 use crate::zeros::NoZeros;
 use cbl_base::{Change, Input, NodeRule};

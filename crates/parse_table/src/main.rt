@@ -12,16 +12,14 @@ mod part;
 mod programs;
 mod reading;
 mod statements;
-mod stop;
 mod words;
 mod writer;
 
 use crate::notation::bytes_of;
 use crate::reading::answer_of;
-use crate::stop::Stop;
 use crate::writer::Places;
 use std::process::ExitCode;
-use std::{env, fs};
+use table_file::{Stop, status_of, table_of};
 
 /// What the answers of a table are compared with.
 #[derive(Clone, Copy, PartialEq, Eq, Debug)]
@@ -81,21 +79,10 @@ fn is_answer<R: Print + AllocGlobal>(
     Ok(false)
 }
 
-/// The table that the first word names.
-fn table_of(rt: &HostRuntime) -> Result<String, Stop> {
-    let mut words = env::args(rt)?.skip(1);
-    match words.next() {
-        Some(name) => Ok(fs::read_to_string(rt, name.as_str())?),
-        None => Err(Stop::Form),
-    }
-}
-
 fn main(rt: HostRuntime) -> ExitCode {
-    let Ok(table) = table_of(&rt) else {
-        return ExitCode::FAILURE;
+    let good = match table_of(&rt) {
+        Ok(table) => read_table(&rt, table.as_str()),
+        Err(stop) => Err(stop),
     };
-    match read_table(&rt, table.as_str()) {
-        Ok(true) => ExitCode::SUCCESS,
-        _ => ExitCode::FAILURE,
-    }
+    status_of(good)
 }

@@ -1,7 +1,7 @@
 //! Bytes, as a table has them: what stands between two ` is an end of a line, a tab, a byte in hexadecimal
 //! digits, or a part again and again.
 
-use crate::stop::Stop;
+use table_file::Stop;
 use cbl_base::NoMemory;
 use std::alloc::Global;
 

@@ -8,7 +8,7 @@ use Rattle.comet_syntax.specs.declared.program.Declaration.TheVariants.{Free, De
 use Rattle.comet_syntax.specs.Tree.{Tree, number, variable, join}
 use Rattle.stmt_run.specs.Value.{Outcome, ◌>>=◌, value_of}
 use Rattle.stmt_run.specs.Fresh.{fresh_behind, fresh_values}
-use Rattle.stmt_run.specs.Scoped.{NamesBelow, IsScopedFrom, IsScoped}
+use Rattle.comet_syntax.specs.Scoped.{NamesBelow, IsScopedFrom, IsScoped}
 use Rattle.stmt_run.specs.EqualsExpression.{HasItsValue, AreTheirValues}
 
 -- a term that names only the first variables has its value of their values alone

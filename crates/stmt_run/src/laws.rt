@@ -4,7 +4,7 @@ ghost use Rattle.comet_syntax.specs.declared.program.Declaration.{Declaration};
 ghost use Rattle.comet_syntax.specs.declared.program.Act.{Act};
 ghost use Rattle.stmt_run.specs.Fresh.{fresh_values};
 ghost use Rattle.stmt_run.specs.Meaning.{meaning_of};
-ghost use Rattle.stmt_run.specs.Scoped.{IsScoped};
+ghost use Rattle.comet_syntax.specs.Scoped.{IsScoped};
 ghost use Rattle.stmt_run.specs.EqualsExpression.{AreTheirValues};
 ghost use Rattle.stmt_run.specs.OverflowOnly.{IsDoneOrOverflow};
 

@@ -1,2 +1,0 @@
-pub mod ThereAndBack
-pub mod Taken
