@@ -9,9 +9,9 @@ use crate::subject::Subject;
 use cbl_base::{Input, NoMemory, RunFault};
 use cbl_operations::Op;
 use cbl_violations::{repeat_value, weighted_total_value};
+use model_values::{NoUsers, value_of, violation_at};
 use node_states::takes;
 use std::alloc::Global;
-use term_model::{NoUsers, value_of, violation_at};
 
 /// Where there are no such inputs. No node has this fault.
 const NO_SUCH_INPUTS: RunFault = RunFault::NotClosed;

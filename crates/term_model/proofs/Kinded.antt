@@ -1,20 +1,14 @@
 -- What the kind of a node says of its arguments, and of its value.
-use Rattle.std.proofs.Common.{◌≡◌, ℕ, ℤ, Bool, true, false, List, [], ◌∷◌, ◌++◌, Option, Some, None, Result, Ok, Err, IsTrue, IsSome, IfOk, All, fold, map, is_some, refl, sym, ap, ◌∙◌, subst, true≢false, ◌&&◌}
+use Rattle.std.proofs.Common.{◌≡◌, ℕ, ℤ, Bool, true, false, List, [], ◌∷◌, Option, Some, None, IsTrue, IsSome, All, fold, map, is_some, refl, sym, ap, ◌∙◌, true≢false, ◌&&◌}
 use Rattle.std.specs.Prelude.{if◌then◌else◌}
 use Rattle.std.proofs.lemmas.List.Elements.{All-nil, All-cons}
-use Rattle.cbl_base.specs.Inputs.{InputKind, kind_of, kinds_of}
-use Rattle.cbl_base.specs.declared.input.Input.{Input}
-use Rattle.cbl_base.specs.declared.faults.RunFault.{RunFault}
-use Rattle.cbl_base.specs.declared.place.Place.{Place}
+use Rattle.cbl_base.specs.Inputs.{InputKind}
 use Rattle.cbl_operations.specs.RuleOf.{rule_of, value_kind}
 use Rattle.cbl_operations.specs.declared.op.Op.{Op}
 use Rattle.cbl_operations.specs.declared.op.Op.TheVariants.{Add, Sub, Mul, Div, Rem, Neg, Abs, Least, Greatest, Sum, ArgMin, ArgMax, Count, Element, Element2, Eq, Ne, Le, Lt, And, Or, Not, SetOf, Union, Inter, Minus, Card, Member, ViolEq, ViolNe, ViolLe, ViolLt, AllDifferent, AtMost, AtLeast, Exactly, Knapsack, MultiKnapsack, Sequence, AllOf, AnyOf, NotHeld, User}
-use Rattle.cbl_operations.proofs.KindLaws.{kind_of_values}
-use Rattle.term_model.specs.Kinds.{gather_kind, all_kinds, node_kind, has_fields, AreKinds}
-use Rattle.term_model.specs.Outcomes.{Outcome, gather, at_turn}
+use Rattle.term_model.specs.Kinds.{gather_kind, all_kinds, node_kind, has_fields}
 use Rattle.term_model.specs.Users.{user_rules, no_users}
 use Rattle.term_model.specs.declared.term.Term.{Term}
-use Rattle.term_model.specs.declared.outcome.Failure.{Failure}
 
 not_none : {X : Type 0} (o : Option X) → o ≡ None → IsSome o → ⊥
 not_none o e h = true≢false (sym h ∙ ap is_some e)
@@ -98,33 +92,5 @@ pub takes_args : (viol_of : ℕ → List ℤ → ℤ) (viol_at : ℕ → List �
 takes_args viol_of viol_at op kinds h =
     takes_same viol_of viol_at op kinds ∙ (both ((rule_of no_users op).takes kinds) (has_fields op) (value_kind op) h).0
 
-kind_of_node : (op : Op) (kinds : List InputKind) → IsSome (node_kind op (Some kinds)) → node_kind op (Some kinds) ≡ Some (value_kind op)
+pub kind_of_node : (op : Op) (kinds : List InputKind) → IsSome (node_kind op (Some kinds)) → node_kind op (Some kinds) ≡ Some (value_kind op)
 kind_of_node op kinds h = (both ((rule_of no_users op).takes kinds) (has_fields op) (value_kind op) h).1
-
-kind_at_turn : (turn : ℕ) (place : Place) (kind : InputKind) (value : Result Input RunFault) → ((x : Input) → value ≡ Ok x → kind_of x ≡ kind) → IfOk (at_turn turn place value) (λ x. Some kind ≡ Some (kind_of x))
-kind_at_turn turn place kind (Ok x) is = ap Some (sym (is x refl))
-kind_at_turn turn place kind (Err fault) is = tt
-
--- so is the kind of what it comes to
-pub kind_of_operated : (viol_of : ℕ → List ℤ → ℤ) (viol_at : ℕ → List ℤ → ℕ → ℤ) (op : Op) (turn : ℕ) (place : Place) (inputs : List Input) (kinds : Option (List InputKind)) (outcome : Outcome) →
-    kinds ≡ Some (kinds_of inputs) → IsSome (node_kind op kinds) → outcome ≡ at_turn turn place ((rule_of (user_rules viol_of viol_at) op).value inputs) →
-    IfOk outcome (λ x. node_kind op kinds ≡ Some (kind_of x))
-kind_of_operated viol_of viol_at op turn place inputs kinds outcome e h is =
-    let some : IsSome (node_kind op (Some (kinds_of inputs))) = subst (λ k. IsSome (node_kind op k)) e h in
-    let kind : node_kind op kinds ≡ Some (value_kind op) = ap (node_kind op) e ∙ kind_of_node op (kinds_of inputs) some in
-    subst (λ o. IfOk o (λ x. node_kind op kinds ≡ Some (kind_of x))) (sym is)
-    (subst (λ k. IfOk (at_turn turn place ((rule_of (user_rules viol_of viol_at) op).value inputs)) (λ x. k ≡ Some (kind_of x))) (sym kind)
-    (kind_at_turn turn place (value_kind op) ((rule_of (user_rules viol_of viol_at) op).value inputs) (kind_of_values (user_rules viol_of viol_at) op inputs)))
-
--- one more value, and its kind
-kinds_more : (xs : List Input) (x : Input) → kinds_of (xs ++ x ∷ []) ≡ kinds_of xs ++ kind_of x ∷ []
-kinds_more [] x = refl
-kinds_more (y ∷ xs) x = ap (λ t. kind_of y ∷ t) (kinds_more xs x)
-
-pub kinds_gather : (so_far : Result (List Input) Failure) (outcome : Outcome) (kinds : Option (List InputKind)) (kind : Option InputKind) → AreKinds so_far kinds → IfOk outcome (λ x. kind ≡ Some (kind_of x)) → AreKinds (gather so_far outcome) (gather_kind kinds kind)
-kinds_gather (Ok xs) (Ok x) kinds kind e h =
-    subst (λ k. gather_kind k kind ≡ Some (kinds_of (xs ++ x ∷ []))) (sym e)
-    (subst (λ k. gather_kind (Some (kinds_of xs)) k ≡ Some (kinds_of (xs ++ x ∷ []))) (sym h) (ap Some (sym (kinds_more xs x))))
-kinds_gather (Ok xs) (Err f) kinds kind e h = tt
-kinds_gather (Err f) (Ok x) kinds kind e h = tt
-kinds_gather (Err f) (Err g) kinds kind e h = tt

@@ -1,26 +1,18 @@
--- Each round makes the outcomes known of the variables that rank one higher.
-use Rattle.std.proofs.Common.{◌≡◌, ℕ, ℤ, zero, suc, ◌+◌, ◌<◌, true, List, [], ◌∷◌, Option, Some, None, Ok, IsSome, is_some, length, replicate, refl, sym, ap, subst, arith, true≢false, All, map, slice_get, Err}
-use Rattle.std.specs.List.{list_all}
-use native.Mathlib.Decide.{ℕ_discrete}
+-- A term that has a kind names variables that have one, so a variable depends on the model's own.
+use Rattle.std.proofs.Common.{◌≡◌, ℕ, zero, suc, ◌<◌, List, [], ◌∷◌, Option, Some, None, IsSome, length, refl, sym, ap, subst, arith, true≢false, All, map}
 use Rattle.std.proofs.lemmas.List.Elements.{All-head, All-tail, All-nil, All-cons, All-append, All-contains}
-use Rattle.std.proofs.lemmas.List.{length-replicate}
 use Rattle.std.specs.Option.{option_map}
-use Rattle.cbl_base.specs.NumberRule.{NumberRule}
 use Rattle.cbl_base.specs.Inputs.{InputKind}
-use Rattle.cbl_base.specs.declared.input.Input.{Input}
-use Rattle.term_model.specs.Definitions.{definition_of, term_of, named_by, vars_named, vars_of, vars_step, joined, DependsOn, IsAcyclic}
+use Rattle.term_model.specs.Definitions.{definition_of, term_of, named_by, vars_named, vars_of, vars_step, joined, DependsOn}
 use Rattle.term_model.specs.Kinds.{kinds_in, kind_of_term, kind_step}
-use Rattle.term_model.specs.Outcomes.{Outcome, known, unknown}
-use Rattle.term_model.specs.Settling.{is_known, IsRight, KeepsKnown, IsKnownBelow}
 use Rattle.term_model.specs.Wellformed.{IsWellFormed}
+use Rattle.term_model.specs.declared.model.Definition.{Definition}
 use Rattle.term_model.specs.declared.model.Model.{Model}
 use Rattle.term_model.specs.declared.model.VarDecl.{VarDecl}
 use Rattle.term_model.specs.declared.term.Term.{Term}
 use Rattle.term_model.specs.declared.term.Term.TheOpen.{Term-F}
 use Rattle.term_model.specs.declared.term.Term.TheViews.{roll-Term}
 use Rattle.term_model.specs.declared.term.Term.TheFolds.{fold-roll-Term, map-Term, ind-Term}
-use Rattle.term_model.specs.declared.definitions.Defined.{Defined}
-use Rattle.term_model.specs.declared.model.Definition.{Definition}
 use Rattle.term_model.proofs.Kinded.{args_kinded}
 use Rattle.term_model.proofs.VarLaws.{definition_found, definition_kinded}
 
@@ -62,56 +54,15 @@ some_within (v ∷ vars) zero h = omega arith
 some_within (v ∷ vars) (suc i) h = let rest = some_within vars i h in omega arith
 
 module _ (M : Model) (formed : IsWellFormed M) where
-  names_of : (i : ℕ) (entry : Option Defined) → definition_of M i ≡ entry → i < length M.vars.items → All (IsKinded (kinds_in M.vars.items)) (named_by M.defs.items entry)
+  names_of : (i : ℕ) (entry : Option ℕ) → definition_of M i ≡ entry → i < length M.vars.items → All (IsKinded (kinds_in M.vars.items)) (named_by M.defs.items entry)
   names_of i None e lt = All-nil (IsKinded (kinds_in M.vars.items))
-  names_of i (Some entry) e lt =
-      let found = definition_found M i entry e in
-      let term : term_of M.defs.items entry ≡ Some found.0.term = ap (option_map (λ (d : Definition). d.term)) found.1 in
+  names_of i (Some d) e lt =
+      let found = definition_found M i d e in
+      let term : term_of M.defs.items d ≡ Some found.0.term = ap (option_map (λ (d : Definition). d.term)) found.1 in
       subst (λ t. All (IsKinded (kinds_in M.vars.items)) (vars_named t)) (sym term)
-      (names_kinded (kinds_in M.vars.items) found.0.term (definition_kinded M formed i lt entry found.0 e found.1))
+      (names_kinded (kinds_in M.vars.items) found.0.term (definition_kinded M formed i lt d found.0 e found.1))
 
   -- a variable depends on the model's own
   pub names_within : (i d : ℕ) → i < length M.vars.items → DependsOn M i d → d < length M.vars.items
   names_within i d lt in' =
       some_within M.vars.items d (All-contains (IsKinded (kinds_in M.vars.items)) (named_by M.defs.items (definition_of M i)) d (names_of i (definition_of M i) refl lt) in')
-
-pub round_more : (M : Model) → IsWellFormed M → (acyclic : IsAcyclic M) (k : ℕ) (old after : List (Option Outcome)) → IsKnownBelow M acyclic.rank k old →
-    ((i : ℕ) → i < length M.vars.items → ((d : ℕ) → DependsOn M i d → is_known old d ≡ true) → is_known after i ≡ true) → IsKnownBelow M acyclic.rank (k + 1) after
-round_more M formed acyclic k old after below settled i lt ranks =
-    settled i lt (λ d in'. let falls = acyclic.falls i d in' in below d (names_within M formed i d lt in') (omega arith))
-
-pub known_where_some : (cells : List (Option Outcome)) → list_all is_some cells ≡ true → (i : ℕ) → i < length cells → is_known cells i ≡ true
-known_where_some [] h i lt = absurd (omega arith)
-known_where_some (Some o ∷ cells) h zero lt = refl
-known_where_some (Some o ∷ cells) h (suc i) lt = known_where_some cells h i (omega arith)
-known_where_some (None ∷ cells) h i lt = absurd (true≢false (sym h))
-
-none_at : (n i : ℕ) (o : Outcome) → slice_get (replicate n None) i ≡ Some (Some o) → ⊥
-none_at zero i o e = let c : None ≡ Some (Some o) = e in cc
-none_at (suc n) zero o e = let c : Some None ≡ Some (Some o) = e in cc
-none_at (suc n) (suc i) o e = none_at n i o e
-
-none_known : (n i : ℕ) (x : Input) → known (slice_get (replicate n None) i) ≡ Ok x → ⊥
-none_known zero i x e = let c : Err unknown ≡ Ok x = e in cc
-none_known (suc n) zero x e = let c : Err unknown ≡ Ok x = e in cc
-none_known (suc n) (suc i) x e = none_known n i x e
-
-pub right_start : (users : ℕ → NumberRule) (M : Model) (a : List ℤ) (cells : List (Option Outcome)) → cells ≡ replicate (length M.vars.items) None → IsRight users M a cells
-right_start users M a cells e = subst (IsRight users M a) (sym e) (record {
-  count = length-replicate (length M.vars.items) None;
-  right = λ i o at. absurd (none_at (length M.vars.items) i o at);
-  kinds = λ i x at. absurd (none_known (length M.vars.items) i x at);
-})
-
--- one variable more was settled
-pub kept_both : (old mid after : List (Option Outcome)) → KeepsKnown old mid → KeepsKnown mid after → KeepsKnown old after
-kept_both old mid after first second i known = second i (first i known)
-
-pub settled_more : (M : Model) (old mid after : List (Option Outcome)) (k : ℕ) → KeepsKnown old mid → ((i : ℕ) → i < k → ((d : ℕ) → DependsOn M i d → is_known old d ≡ true) → is_known mid i ≡ true) →
-    KeepsKnown mid after → (((d : ℕ) → DependsOn M k d → is_known mid d ≡ true) → is_known after k ≡ true) →
-    (i : ℕ) → i < k + 1 → ((d : ℕ) → DependsOn M i d → is_known old d ≡ true) → is_known after i ≡ true
-settled_more M old mid after k kept settled keeps last i lt ready = cases (ℕ_discrete i k)
-  where
-    cases : Dec (i ≡ k) → is_known after i ≡ true
-    cases (yes is) = subst (λ j. is_known after j ≡ true) (sym is) (last (λ d in'. kept d (ready d (subst (λ j. DependsOn M j d) (sym is) in'))))
-    cases (no ne) = keeps i (settled i (omega (arith, ne)) ready)

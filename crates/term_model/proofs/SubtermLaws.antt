@@ -1,222 +1,295 @@
--- Terms that are written the same have the same subterms; and how many different ones stand in a list is
--- one number, to which those that stand there already add nothing.
-use Rattle.std.proofs.Common.{◌≡◌, ◌⊎◌, inl, inr, ◌||◌, ℤ, ℕ, zero, suc, ◌+◌, ◌<◌, ◌≤◌, Bool, true, false, List, [], ◌∷◌, ◌++◌, Some, None, length, get_or, map, refl, sym, ap, ◌∙◌, subst, arith, slice_get, Contains}
-use Rattle.std.specs.Prelude.{slice_index_or, unwrap_or, nat_eq}
-use Rattle.std.specs.List.{list_any}
+-- Equal terms have equal subterms, so a term that was posted before adds none; and what is first among the
+-- distinct subterms is first among all.
+use Rattle.std.proofs.Common.{◌≡◌, ℕ, zero, suc, Bool, true, false, cond, ◌||◌, inl, inr, Vec, Global, List, [], ◌∷◌, ◌++◌, Some, None, fold, map, refl, sym, ap, ◌∙◌, subst, slice_get, All, length, ◌⊎◌}
+use Rattle.std.specs.Prelude.{unwrap_or, if◌then◌else◌}
+use Rattle.std.specs.List.{find, list_any}
+use Rattle.std.proofs.lemmas.Bool.{and_parts}
 use Rattle.std.proofs.lemmas.List.{append_assoc, append-nil}
-use Rattle.std.proofs.lemmas.List.Elements.{Contains-append_left, Contains-append_cases, Contains-append_right, Contains-push}
-use Rattle.std.proofs.lemmas.Map.Keys.{IsDistinct-from_apart}
-use Rattle.std.proofs.lemmas.Map.Steps.{length-le_from_distinct_below}
+use Rattle.std.proofs.lemmas.List.Elements.{All-nil, All-cons, All-head, All-tail, All-append}
+use Rattle.std.proofs.lemmas.List.Sums.{fold-append}
 use Rattle.cbl_operations.specs.declared.op.Op.{Op}
-use Rattle.term_model.specs.DistinctSubterms.{Symbol, number, number_set, variable, operation, Writing, Written, wholes_of, written_constant, written_variable, written_node, written_step, written, term_posted, subterms_posted, subterms_where, IsDistinctCount, HasSubterms}
+use Rattle.cbl_base.specs.declared.place.Place.{Place}
+use Rattle.term_model.specs.Posting.{term_posted}
+use Rattle.term_model.specs.SameOperations.{same_operation}
+use Rattle.term_model.specs.SameTerms.{all_pass, same_layer, same_term}
+use Rattle.term_model.specs.Subterms.{arguments_of, each_listed, joined_terms, once, subterms, subterms_posted, subterms_step, subterms_where, with_subterm}
 use Rattle.term_model.specs.declared.model.Model.{Model}
 use Rattle.term_model.specs.declared.model.Posted.{Posted}
 use Rattle.term_model.specs.declared.term.Term.{Term}
 use Rattle.term_model.specs.declared.term.Term.TheOpen.{Term-F}
-use Rattle.term_model.specs.declared.term.Term.TheViews.{roll-Term}
-use Rattle.term_model.specs.declared.term.Term.TheFolds.{fold-roll-Term, map-Term, ind-Term}
-use Rattle.term_model.proofs.UsableLaws.{not_eq}
+use Rattle.term_model.specs.declared.term.Term.TheViews.{Node, out-Term, out-roll-Term, roll-Term}
+use Rattle.term_model.specs.declared.term.Term.TheVariants.{rolls-Node}
+use Rattle.term_model.specs.declared.term.Term.TheFolds.{fold-Term, fold-roll-Term, ind-Term, map-Term}
+use Rattle.term_model.proofs.EqualTerms.{roll_out, same_congruent, same_term_equiv}
+use Rattle.term_model.proofs.NamingLaws.{last_or}
+use Rattle.term_model.proofs.SameLaws.{same_roll}
 
--- ---- a term is read back from how it is written, by a stack
-put : List Written → List Written → List Written
-put [] stack = stack
-put (w ∷ ws) stack = put ws (w ∷ stack)
+abbrev Test : Type 0
+Test = Term → Bool
 
-taken : ℕ → List Written → List Written → List Written
-taken zero stack ws = ws
-taken (suc n) [] ws = ws
-taken (suc n) (w ∷ stack) ws = taken n stack (w ∷ ws)
+-- ---- the subterms of one layer
+abbrev Lister : Type 0
+Lister = Term → List Term
 
-left : ℕ → List Written → List Written
-left zero stack = stack
-left (suc n) [] = []
-left (suc n) (w ∷ stack) = left n stack
+each_joined : (ts : List Term) → each_listed (map (fold-Term Lister subterms_step) ts) ts ≡ joined_terms (map subterms ts)
+each_joined [] = refl
+each_joined (t ∷ ts) = ap (λ us. subterms t ++ us) (each_joined ts)
 
-taken_put : (ws stack done : List Written) (k : ℕ) → taken (length ws + k) (put ws stack) done ≡ taken k stack (ws ++ done)
-unfolding put taken
-taken_put [] stack done k = ap (λ n. taken n stack done) (let e : 0 + k ≡ k = omega arith in e)
-taken_put (w ∷ ws) stack done k =
-    ap (λ n. taken n (put ws (w ∷ stack)) done) (let e : suc (length ws) + k ≡ length ws + suc k = omega arith in e) ∙ taken_put ws (w ∷ stack) done (suc k)
+abbrev below : Term-F Term → List Term
+below y = joined_terms (map subterms (arguments_of y))
 
-left_put : (ws stack : List Written) (k : ℕ) → left (length ws + k) (put ws stack) ≡ left k stack
-unfolding put left
-left_put [] stack k = ap (λ n. left n stack) (let e : 0 + k ≡ k = omega arith in e)
-left_put (w ∷ ws) stack k =
-    ap (λ n. left n (put ws (w ∷ stack))) (let e : suc (length ws) + k ≡ length ws + suc k = omega arith in e) ∙ left_put ws (w ∷ stack) (suc k)
+abbrev own : Term-F Term → Term → List Term
+own (Term-F.Const x) t = t ∷ []
+own (Term-F.ConstSet s) t = t ∷ []
+own (Term-F.Var v) t = []
+own (Term-F.Node op args place) t = t ∷ []
 
-read_one : Symbol → List Written → List Written
-read_one (number x) stack = written_constant (number x) ∷ stack
-read_one (number_set s) stack = written_constant (number_set s) ∷ stack
-read_one (variable i) stack = written_variable i ∷ stack
-read_one (operation op n) stack = written_node op (taken n stack []) ∷ left n stack
+by_layer : (y : Term-F Term) (t : Term) → out-Term t ≡ y → subterms_step (map-Term Term Lister (fold-Term Lister subterms_step) y) t ≡ below y ++ own y t
+by_layer (Term-F.Const x) t e = refl
+by_layer (Term-F.ConstSet s) t e = refl
+by_layer (Term-F.Var v) t e = refl
+by_layer (Term-F.Node op args place) t e =
+    ap (λ z. each_listed (map (fold-Term Lister subterms_step) args.items) (arguments_of z) ++ t ∷ []) e ∙ ap (λ us. us ++ t ∷ []) (each_joined args.items)
 
-read : Writing → List Written → List Written
-read [] stack = stack
-read (s ∷ code) stack = read code (read_one s stack)
+pub subterms_roll : (y : Term-F Term) → subterms (roll-Term y) ≡ below y ++ own y (roll-Term y)
+subterms_roll y = ap (λ (f : Lister). f (roll-Term y)) (fold-roll-Term Lister subterms_step y) ∙ by_layer y (roll-Term y) (out-roll-Term y)
 
-node_read : (op : Op) (ws stack : List Written) → read_one (operation op (length ws)) (put ws stack) ≡ written_node op ws ∷ stack
-unfolding read_one taken left
-node_read op ws stack =
-    let n : length ws ≡ length ws + 0 = omega arith in
-    ap (λ us. written_node op us ∷ left (length ws) (put ws stack)) (ap (λ k. taken k (put ws stack) []) n ∙ taken_put ws stack [] 0 ∙ append-nil ws)
-    ∙ ap (λ us. written_node op ws ∷ us) (ap (λ k. left k (put ws stack)) n ∙ left_put ws stack 0)
+pub subterms_node : (t : Term) (op : Op) (args : Vec Term Global) (place : Place) → t ≡ Node op args place → subterms t ≡ joined_terms (map subterms args.items) ++ t ∷ []
+subterms_node t op args place e =
+    let whole : t ≡ roll-Term (Term-F.Node op args place) = e ∙ sym (rolls-Node op args place) in
+    ap subterms whole ∙ subterms_roll (Term-F.Node op args place) ∙ ap (λ u. joined_terms (map subterms args.items) ++ u ∷ []) (sym whole)
 
--- reading what is written of a term puts it on the stack
-abbrev IsRead : Written → Type 0
-IsRead w = (more : Writing) (stack : List Written) → read (w.whole ++ more) stack ≡ read more (w ∷ stack)
+-- ---- what stands among others
+one_or : (a b : Bool) → a ≡ true → (a || b) ≡ true
+one_or true b h = refl
+one_or false b h = let c : false ≡ true = h in cc
+
+other_or : (a b : Bool) → b ≡ true → (a || b) ≡ true
+other_or true b h = refl
+other_or false b h = h
+
+pub any_append : (p : Test) (xs ys : List Term) → list_any p (xs ++ ys) ≡ (list_any p xs || list_any p ys)
+any_append p [] ys = refl
+any_append p (x ∷ xs) ys = ap (λ b. p x || b) (any_append p xs ys) ∙ or_assoc (p x) (list_any p xs) (list_any p ys)
+  where
+    or_assoc : (a b c : Bool) → (a || (b || c)) ≡ ((a || b) || c)
+    or_assoc true b c = refl
+    or_assoc false b c = refl
+
+any_left : (p : Test) (xs ys : List Term) → list_any p xs ≡ true → list_any p (xs ++ ys) ≡ true
+any_left p xs ys h = any_append p xs ys ∙ one_or (list_any p xs) (list_any p ys) h
+
+any_right : (p : Test) (xs ys : List Term) → list_any p ys ≡ true → list_any p (xs ++ ys) ≡ true
+any_right p xs ys h = any_append p xs ys ∙ other_or (list_any p xs) (list_any p ys) h
+
+pub any_same : (p q : Test) → ((t : Term) → p t ≡ q t) → (xs : List Term) → list_any p xs ≡ list_any q xs
+any_same p q same [] = refl
+any_same p q same (x ∷ xs) = ap (λ b. b || list_any p xs) (same x) ∙ ap (λ b. q x || b) (any_same p q same xs)
+
+abbrev StandsIn : List Term → Term → Type 0
+StandsIn ts u = list_any (same_term u) ts ≡ true
+
+all_left : (us xs ys : List Term) → All (StandsIn xs) us → All (StandsIn (xs ++ ys)) us
+all_left us xs ys all i d lt = any_left _ xs ys (all i d lt)
+
+all_right : (us xs ys : List Term) → All (StandsIn ys) us → All (StandsIn (xs ++ ys)) us
+all_right us xs ys all i d lt = any_right _ xs ys (all i d lt)
+
+-- ---- equal terms have equal subterms
+abbrev IsAgain : Term → Type 0
+IsAgain t = (u : Term) → same_term t u ≡ true → All (StandsIn (subterms t)) (subterms u)
 
 abbrev Known : Type 0
-Known = (t : Term) × IsRead (written t)
+Known = (t : Term) × IsAgain t
 
-args_read : (es : List Known) (more : Writing) (stack : List Written) → read (wholes_of (map written (map (λ e. e.0) es)) ++ more) stack ≡ read more (put (map written (map (λ e. e.0) es)) stack)
-unfolding put
-args_read [] more stack = refl
-args_read (e ∷ es) more stack =
-    let ws = map written (map (λ e. e.0) es) in
-    ap (λ code. read code stack) (append_assoc (written e.0).whole (wholes_of ws) more)
-    ∙ e.1 (wholes_of ws ++ more) stack ∙ args_read es more (written e.0 ∷ stack)
+abbrev terms_of : List Known → List Term
+terms_of es = map (λ e. e.0) es
 
-constant_read : (x : ℤ) → IsRead (written_constant (number x))
-unfolding read read_one
-constant_read x more stack = refl
+args_again : (es : List Known) (us : List Term) → all_pass (map same_term (terms_of es)) us ≡ true → All (StandsIn (joined_terms (map subterms (terms_of es)))) (joined_terms (map subterms us))
+args_again [] [] h = All-nil (StandsIn [])
+args_again [] (u ∷ us) h = let c : false ≡ true = h in cc
+args_again (e ∷ es) [] h = let c : false ≡ true = h in cc
+args_again (e ∷ es) (u ∷ us) h =
+    let parts = and_parts (same_term e.0 u) (all_pass (map same_term (terms_of es)) us) h in
+    let all = joined_terms (map subterms (terms_of es)) in
+    All-append (StandsIn (subterms e.0 ++ all)) (subterms u) (joined_terms (map subterms us))
+    (all_left (subterms u) (subterms e.0) all (e.1 u parts.0))
+    (all_right (joined_terms (map subterms us)) (subterms e.0) all (args_again es us parts.1))
 
-set_read : (s : List ℤ) → IsRead (written_constant (number_set s))
-unfolding read read_one
-set_read s more stack = refl
+itself_in : (t u : Term) → same_term t u ≡ true → StandsIn (t ∷ []) u
+itself_in t u h = one_or (same_term u t) false (same_term_equiv.symm u t ∙ h)
 
-variable_read : (i : ℕ) → IsRead (written_variable i)
-unfolding read read_one
-variable_read i more stack = refl
+one_in : (t u : Term) → same_term t u ≡ true → All (StandsIn (t ∷ [])) (u ∷ [])
+one_in t u h = All-cons (StandsIn (t ∷ [])) u [] (itself_in t u h) (All-nil (StandsIn (t ∷ [])))
 
-step_read : (s : Symbol) (more : Writing) (stack : List Written) → read (s ∷ more) stack ≡ read more (read_one s stack)
-unfolding read
-step_read s more stack = refl
+layer_again : (y : Term-F Known) (z : Term-F Term) (t u : Term) → same_term t u ≡ true → same_layer (map-Term Term Test same_term (map-Term Known Term (λ e. e.0) y)) z ≡ true →
+    All (StandsIn (below (map-Term Known Term (λ e. e.0) y) ++ own (map-Term Known Term (λ e. e.0) y) t)) (below z ++ own z u)
+layer_again (Term-F.Const x) (Term-F.Const x') t u same h = one_in t u same
+layer_again (Term-F.Const x) (Term-F.ConstSet s) t u same h = let c : false ≡ true = h in cc
+layer_again (Term-F.Const x) (Term-F.Var v) t u same h = let c : false ≡ true = h in cc
+layer_again (Term-F.Const x) (Term-F.Node op args place) t u same h = let c : false ≡ true = h in cc
+layer_again (Term-F.ConstSet s) (Term-F.Const x) t u same h = let c : false ≡ true = h in cc
+layer_again (Term-F.ConstSet s) (Term-F.ConstSet s') t u same h = one_in t u same
+layer_again (Term-F.ConstSet s) (Term-F.Var v) t u same h = let c : false ≡ true = h in cc
+layer_again (Term-F.ConstSet s) (Term-F.Node op args place) t u same h = let c : false ≡ true = h in cc
+layer_again (Term-F.Var v) (Term-F.Const x) t u same h = let c : false ≡ true = h in cc
+layer_again (Term-F.Var v) (Term-F.ConstSet s) t u same h = let c : false ≡ true = h in cc
+layer_again (Term-F.Var v) (Term-F.Var v') t u same h = All-nil (StandsIn [])
+layer_again (Term-F.Var v) (Term-F.Node op args place) t u same h = let c : false ≡ true = h in cc
+layer_again (Term-F.Node op args place) (Term-F.Const x) t u same h = let c : false ≡ true = h in cc
+layer_again (Term-F.Node op args place) (Term-F.ConstSet s) t u same h = let c : false ≡ true = h in cc
+layer_again (Term-F.Node op args place) (Term-F.Var v) t u same h = let c : false ≡ true = h in cc
+layer_again (Term-F.Node op args place) (Term-F.Node op' args' place') t u same h =
+    let parts = and_parts (same_operation op' op) (all_pass (map same_term (terms_of args.items)) args'.items) h in
+    let all = joined_terms (map subterms (terms_of args.items)) in
+    All-append (StandsIn (all ++ t ∷ [])) (joined_terms (map subterms args'.items)) (u ∷ [])
+    (all_left (joined_terms (map subterms args'.items)) all (t ∷ []) (args_again args.items args'.items parts.1))
+    (all_right (u ∷ []) all (t ∷ []) (one_in t u same))
 
-layer_read : (y : Term-F Known) → IsRead (written (roll-Term (map-Term Known Term (λ e. e.0) y)))
-layer_read (Term-F.Const x) = subst IsRead (sym (fold-roll-Term Written written_step (Term-F.Const x))) (constant_read x)
-layer_read (Term-F.ConstSet s) = subst IsRead (sym (fold-roll-Term Written written_step (Term-F.ConstSet s))) (set_read s)
-layer_read (Term-F.Var v) = subst IsRead (sym (fold-roll-Term Written written_step (Term-F.Var v))) (variable_read v.index)
-layer_read (Term-F.Node op args place) =
-    let ws = map written (map (λ e. e.0) args.items) in
-    subst IsRead (sym (fold-roll-Term Written written_step (map-Term Known Term (λ e. e.0) (Term-F.Node op args place))))
-    (λ more stack.
-    ap (λ code. read code stack) (append_assoc (wholes_of ws) (operation op (length ws) ∷ []) more)
-    ∙ args_read args.items (operation op (length ws) ∷ more) stack
-    ∙ step_read (operation op (length ws)) more (put ws stack)
-    ∙ ap (read more) (node_read op ws stack))
-
-is_read : (t : Term) → IsRead (written t)
-is_read = ind-Term (λ t. IsRead (written t)) (λ x y is. subst (λ z. IsRead (written (roll-Term z))) is (layer_read y))
-
-first_of_both : (x y : Written) → x ∷ [] ≡ y ∷ [] → x ≡ y
-first_of_both x y e = ap (λ ws. get_or ws 0 x) e
-
-nothing_left : (stack : List Written) → read [] stack ≡ stack
-unfolding read
-nothing_left stack = refl
-
-pub written_same : (t u : Term) → (written t).whole ≡ (written u).whole → (written t).subterms ≡ (written u).subterms
-written_same t u e =
-    let one = sym (nothing_left (written t ∷ [])) ∙ sym (is_read t [] []) ∙ ap (λ code. read (code ++ []) []) e ∙ is_read u [] [] ∙ nothing_left (written u ∷ []) in
-    ap (λ (w : Written). w.subterms) (first_of_both (written t) (written u) one)
-
--- ---- one number of different ones
-index_there : (xs : List Writing) (i : ℕ) (d x : Writing) → i < length xs → slice_index_or xs i d ≡ x → slice_get xs i ≡ Some x
-index_there [] i d x lt e = absurd (omega arith)
-index_there (y ∷ xs) zero d x lt e = ap Some e
-index_there (y ∷ xs) (suc i) d x lt e = index_there xs i d x (omega arith) e
-
-some_there : (xs : List Writing) (i : ℕ) → i < length xs → (x : Writing) × (slice_get xs i ≡ Some x)
-some_there [] i lt = absurd (omega arith)
-some_there (y ∷ xs) zero lt = (y, refl)
-some_there (y ∷ xs) (suc i) lt = some_there xs i (omega arith)
-
-one_below : (n q count : ℕ) (b : Bool) → nat_eq q n ≡ b → n < count → (others : Bool) → (others ≡ true → q < count) → (b || others) ≡ true → q < count
-one_below n q count true is lt others more e = let same : q ≡ n = grind (arith, is) in omega (arith, same, lt)
-one_below n q count false is lt others more e = more e
-
-module _ (ys : List Writing) where
-  -- where each of them stands in the other list
-  places : (xs : List Writing) → ((x : Writing) → Contains xs x → Contains ys x) → List ℕ
-  places [] h = []
-  places (x ∷ xs) h = (h x (Contains-append_left (x ∷ []) xs x (Contains-push [] x))).0 ∷ places xs (λ z c. h z (Contains-append_right (x ∷ []) xs z c))
-
-  length-places : (xs : List Writing) (h : (x : Writing) → Contains xs x → Contains ys x) → length (places xs h) ≡ length xs
-  unfolding places
-  length-places [] h = refl
-  length-places (x ∷ xs) h = ap suc (length-places xs (λ z c. h z (Contains-append_right (x ∷ []) xs z c)))
-
-  place_there : (xs : List Writing) (h : (x : Writing) → Contains xs x → Contains ys x) (i d : ℕ) (x : Writing) → slice_get xs i ≡ Some x → (get_or (places xs h) i d < length ys) × (slice_get ys (get_or (places xs h) i d) ≡ Some x)
-  unfolding places
-  place_there [] h i d x e = let c : None ≡ Some x = e in cc
-  place_there (y ∷ xs) h zero d x e =
-      let at = h y (Contains-append_left (y ∷ []) xs y (Contains-push [] y)) in
-      (at.1, index_there ys at.0 y y at.1 at.2 ∙ e)
-  place_there (y ∷ xs) h (suc i) d x e = place_there xs (λ z c. h z (Contains-append_right (y ∷ []) xs z c)) i d x e
-
-  places_below : (xs : List Writing) (h : (x : Writing) → Contains xs x → Contains ys x) (q : ℕ) → list_any (nat_eq q) (places xs h) ≡ true → q < length ys
-  unfolding places
-  places_below [] h q e = let c : false ≡ true = e in cc
-  places_below (y ∷ xs) h q e =
-      let at = h y (Contains-append_left (y ∷ []) xs y (Contains-push [] y)) in
-      let h' : (x : Writing) → Contains xs x → Contains ys x = λ z c. h z (Contains-append_right (y ∷ []) xs z c) in
-      one_below at.0 q (length ys) (nat_eq q at.0) refl at.1 (list_any (nat_eq q) (places xs h')) (places_below xs h' q) e
-
-some_same : (x y : Writing) → Some x ≡ Some y → x ≡ y
-some_same x y e = ap (λ o. unwrap_or o x) e
-
--- a list without equal ones whose members stand in another is no longer than that
-no_longer : (xs ys : List Writing) → ((i j : ℕ) (t : Writing) → slice_get xs i ≡ Some t → slice_get xs j ≡ Some t → i ≡ j) → ((x : Writing) → Contains xs x → Contains ys x) → length xs ≤ length ys
-no_longer xs ys once h =
-    let apart : (i j d : ℕ) → i < j → j < length (places ys xs h) → nat_eq (get_or (places ys xs h) i d) (get_or (places ys xs h) j d) ≡ false =
-    λ i j d lt within.
-    let within' : j < length xs = subst (λ n. j < n) (length-places ys xs h) within in
-    let one = some_there xs i (omega (arith, lt, within')) in
-    let other = some_there xs j within' in
-    not_eq (get_or (places ys xs h) i d) (get_or (places ys xs h) j d)
-    (λ same.
-    let here : Some one.0 ≡ Some other.0 = sym (place_there ys xs h i d one.0 one.1).1 ∙ ap (slice_get ys) (sym same) ∙ (place_there ys xs h j d other.0 other.1).1 in
-    let back : slice_get xs j ≡ Some one.0 = other.1 ∙ sym here in
-    let i=j : i ≡ j = once i j one.0 one.1 back in
-    omega (arith, lt, i=j)) in
-    let le = length-le_from_distinct_below (places ys xs h) (length ys) (IsDistinct-from_apart nat_eq (places ys xs h) apart) (places_below ys xs h) in
-    subst (λ n. n ≤ length ys) (length-places ys xs h) le
-
-pub count_same : (terms : List Writing) (m n : ℕ) → IsDistinctCount terms m → IsDistinctCount terms n → m ≡ n
-count_same terms m n one other =
-    let le : length one.distinct ≤ length other.distinct = no_longer one.distinct other.distinct one.once (λ t c. other.all t (one.from t c)) in
-    let ge : length other.distinct ≤ length one.distinct = no_longer other.distinct one.distinct other.once (λ t c. one.all t (other.from t c)) in
-    let same : length one.distinct ≡ length other.distinct = omega (arith, le, ge) in
-    sym one.long ∙ same ∙ other.long
-
--- those that stand there already add nothing
-pub count_again : (terms more : List Writing) (n : ℕ) → ((t : Writing) → Contains more t → Contains terms t) → IsDistinctCount terms n → IsDistinctCount (terms ++ more) n
-count_again terms more n within count = record {
-  distinct = count.distinct;
-  long = count.long;
-  once = count.once;
-  from = λ t c. Contains-append_left terms more t (count.from t c);
-  all = λ t c. cases t (Contains-append_cases terms more t c);
-}
+pub subterms_again : (t : Term) → IsAgain t
+subterms_again = ind-Term IsAgain (λ x y is. subst (λ z. IsAgain (roll-Term z)) is (rolled (map-Term Known Term (λ e. e.0) y) (layer_again y)))
   where
-    cases : (t : Writing) → Contains terms t ⊎ Contains more t → Contains count.distinct t
-    cases t (inl c) = count.all t c
-    cases t (inr c) = count.all t (within t c)
+    rolled : (z : Term-F Term) → ((w : Term-F Term) (t u : Term) → same_term t u ≡ true → same_layer (map-Term Term Test same_term z) w ≡ true → All (StandsIn (below z ++ own z t)) (below w ++ own w u)) → IsAgain (roll-Term z)
+    rolled z h u same =
+        let whole : subterms u ≡ below (out-Term u) ++ own (out-Term u) u = ap subterms (sym (roll_out u)) ∙ subterms_roll (out-Term u) ∙ ap (λ v. below (out-Term u) ++ own (out-Term u) v) (roll_out u) in
+        subst (λ ts. All (StandsIn ts) (subterms u)) (sym (subterms_roll z))
+        (subst (All (StandsIn (below z ++ own z (roll-Term z)))) (sym whole) (h (out-Term u) (roll-Term z) u same (sym (same_roll z u) ∙ same)))
+
+-- ---- each once
+with_any : (y x : Term) (ds : List Term) (is : Bool) → list_any (same_term x) ds ≡ is → list_any (same_term y) (if is then ds else ds ++ x ∷ []) ≡ (list_any (same_term y) ds || same_term y x)
+with_any y x ds false e = any_append (same_term y) ds (x ∷ []) ∙ ap (λ b. list_any (same_term y) ds || b) (last (same_term y x))
+  where
+    last : (b : Bool) → (b || false) ≡ b
+    last true = refl
+    last false = refl
+with_any y x ds true e = cases (same_term y x) refl
+  where
+    cases : (b : Bool) → same_term y x ≡ b → list_any (same_term y) ds ≡ (list_any (same_term y) ds || same_term y x)
+    cases true h = any_same (same_term y) (same_term x) (λ z. same_congruent y x z h) ds ∙ e ∙ sym (other_or (list_any (same_term y) ds) (same_term y x) h)
+    cases false h = last (list_any (same_term y) ds) (same_term y x) h
+      where
+        last : (a b : Bool) → b ≡ false → a ≡ (a || b)
+        last true b k = refl
+        last false b k = sym k
+
+fold_any : (y : Term) (ds xs : List Term) → list_any (same_term y) (fold with_subterm ds xs) ≡ (list_any (same_term y) ds || list_any (same_term y) xs)
+fold_any y ds [] = last (list_any (same_term y) ds)
+  where
+    last : (b : Bool) → b ≡ (b || false)
+    last true = refl
+    last false = refl
+fold_any y ds (x ∷ xs) =
+    fold_any y (with_subterm ds x) xs ∙ ap (λ b. b || list_any (same_term y) xs) (with_any y x ds (list_any (same_term x) ds) refl)
+    ∙ or_assoc (list_any (same_term y) ds) (same_term y x) (list_any (same_term y) xs)
+  where
+    or_assoc : (a b c : Bool) → ((a || b) || c) ≡ (a || (b || c))
+    or_assoc true b c = refl
+    or_assoc false b c = refl
+
+-- each of them stands there once at least
+pub once_all : (y : Term) (xs : List Term) → list_any (same_term y) (once xs) ≡ list_any (same_term y) xs
+once_all y xs = fold_any y [] xs
+
+-- those that stand there add nothing
+fold_none : (ds ys : List Term) → All (StandsIn ds) ys → fold with_subterm ds ys ≡ ds
+fold_none ds [] all = refl
+fold_none ds (y ∷ ys) all =
+    let here : with_subterm ds y ≡ ds = ap (λ b. if b then ds else ds ++ y ∷ []) (All-head (StandsIn ds) y ys all) in
+    ap (λ es. fold with_subterm es ys) here ∙ fold_none ds ys (All-tail (StandsIn ds) y ys all)
+
+once_again : (xs ys : List Term) → All (StandsIn xs) ys → once (xs ++ ys) ≡ once xs
+once_again xs ys all =
+    fold-append with_subterm [] xs ys ∙ fold_none (once xs) ys (λ i d lt. once_all _ xs ∙ all i d lt)
+
+joined_push : (tss : List (List Term)) (ts : List Term) → joined_terms (tss ++ ts ∷ []) ≡ joined_terms tss ++ ts
+joined_push [] ts = append-nil ts
+joined_push (us ∷ tss) ts = ap (λ vs. us ++ vs) (joined_push tss ts) ∙ sym (append_assoc us (joined_terms tss) ts)
+
+map_push : {X Y : Type 0} (f : X → Y) (xs : List X) (x : X) → map f (xs ++ x ∷ []) ≡ map f xs ++ f x ∷ []
+map_push f [] x = refl
+map_push f (y ∷ xs) x = ap (λ ys. f y ∷ ys) (map_push f xs x)
 
 posted_push : (M : Model) (posted : List Posted) (p : Posted) → subterms_posted M (posted ++ p ∷ []) ≡ subterms_posted M posted ++ subterms_where (term_posted M p)
-posted_push M [] p = append-nil (subterms_where (term_posted M p))
-posted_push M (q ∷ posted) p = ap (λ ts. subterms_where (term_posted M q) ++ ts) (posted_push M posted p) ∙ sym (append_assoc (subterms_where (term_posted M q)) (subterms_posted M posted) (subterms_where (term_posted M p)))
+posted_push M posted p =
+    ap joined_terms (map_push (λ q. subterms_where (term_posted M q)) posted p) ∙ joined_push (map (λ q. subterms_where (term_posted M q)) posted) (subterms_where (term_posted M p))
 
--- the subterms of a term that was posted stand among all
-posted_within : (M : Model) (posted : List Posted) (k : ℕ) (q : Posted) → slice_get posted k ≡ Some q → (t : Writing) → Contains (subterms_where (term_posted M q)) t → Contains (subterms_posted M posted) t
-posted_within M [] k q e t c = let no : None ≡ Some q = e in cc
-posted_within M (p ∷ posted) zero q e t c = Contains-append_left (subterms_where (term_posted M p)) (subterms_posted M posted) t (subst (λ r. Contains (subterms_where (term_posted M r)) t) (sym (ap (λ o. unwrap_or o p) e)) c)
-posted_within M (p ∷ posted) (suc k) q e t c = Contains-append_right (subterms_where (term_posted M p)) (subterms_posted M posted) t (posted_within M posted k q e t c)
+posted_within : (M : Model) (posted : List Posted) (k : ℕ) (q : Posted) (us : List Term) → slice_get posted k ≡ Some q → All (StandsIn (subterms_where (term_posted M q))) us → All (StandsIn (subterms_posted M posted)) us
+posted_within M [] k q us e all = let c : None ≡ Some q = e in cc
+posted_within M (p ∷ posted) zero q us e all =
+    all_left us (subterms_where (term_posted M p)) (subterms_posted M posted) (subst (λ r. All (StandsIn (subterms_where (term_posted M r))) us) (sym (ap (λ o. unwrap_or o p) e)) all)
+posted_within M (p ∷ posted) (suc k) q us e all = all_right us (subterms_where (term_posted M p)) (subterms_posted M posted) (posted_within M posted k q us e all)
 
-pub posted_again : (M : Model) (posted : List Posted) (k n : ℕ) (p q : Posted) (t u : Term) → slice_get posted k ≡ Some q → term_posted M q ≡ Some t → term_posted M p ≡ Some u → (written t).whole ≡ (written u).whole →
-    HasSubterms M posted n → HasSubterms M (posted ++ p ∷ []) n
-posted_again M posted k n p q t u there is of same count =
-    let again : subterms_where (term_posted M p) ≡ subterms_where (term_posted M q) = ap subterms_where of ∙ sym (written_same t u same) ∙ ap subterms_where (sym is) in
-    subst (λ ts. IsDistinctCount ts n) (sym (posted_push M posted p))
-    (count_again (subterms_posted M posted) (subterms_where (term_posted M p)) n
-    (λ v c. posted_within M posted k q there v (subst (λ ts. Contains ts v) again c)) count)
+pub posted_again : (M : Model) (posted : List Posted) (k : ℕ) (p q : Posted) (t u : Term) → slice_get posted k ≡ Some q → term_posted M q ≡ Some t → term_posted M p ≡ Some u → same_term t u ≡ true →
+    once (subterms_posted M (posted ++ p ∷ [])) ≡ once (subterms_posted M posted)
+posted_again M posted k p q t u there is of same =
+    let all : All (StandsIn (subterms_where (term_posted M q))) (subterms_where (term_posted M p)) =
+    subst (λ o. All (StandsIn (subterms_where o)) (subterms_where (term_posted M p))) (sym is)
+    (subst (λ o. All (StandsIn (subterms t)) (subterms_where o)) (sym of) (subterms_again t u same)) in
+    ap once (posted_push M posted p) ∙ once_again (subterms_posted M posted) (subterms_where (term_posted M p)) (posted_within M posted k q (subterms_where (term_posted M p)) there all)
+
+-- ---- the first with a property
+abbrev pub Respects : Test → Type 0
+Respects p = (t u : Term) → same_term t u ≡ true → p t ≡ p u
+
+find_skip : (p : Test) (ds : List Term) (x : Term) (xs : List Term) → p x ≡ false → find p (ds ++ x ∷ xs) ≡ find p (ds ++ xs)
+find_skip p [] x xs e = ap (λ b. cond b (Some x) (find p xs)) e
+find_skip p (d ∷ ds) x xs e = ap (λ o. cond (p d) (Some d) o) (find_skip p ds x xs e)
+
+find_early : (p : Test) (ds ys : List Term) → list_any p ds ≡ true → find p (ds ++ ys) ≡ find p ds
+find_early p [] ys h = let c : false ≡ true = h in cc
+find_early p (d ∷ ds) ys h = cases (p d) refl (find_early p ds ys)
+  where
+    cases : (b : Bool) → p d ≡ b → (list_any p ds ≡ true → find p (ds ++ ys) ≡ find p ds) → find p ((d ∷ ds) ++ ys) ≡ find p (d ∷ ds)
+    cases true e later = ap (λ b. cond b (Some d) (find p (ds ++ ys))) e ∙ sym (ap (λ b. cond b (Some d) (find p ds)) e)
+    cases false e later = ap (λ b. cond b (Some d) (find p (ds ++ ys))) e ∙ later (sym (ap (λ b. b || list_any p ds) e) ∙ h) ∙ sym (ap (λ b. cond b (Some d) (find p ds)) e)
+
+any_by : (p : Test) (x : Term) (ds : List Term) → Respects p → p x ≡ true → list_any (same_term x) ds ≡ true → list_any p ds ≡ true
+any_by p x [] fits e h = h
+any_by p x (d ∷ ds) fits e h = cases (same_term x d) refl (any_by p x ds fits e)
+  where
+    cases : (b : Bool) → same_term x d ≡ b → (list_any (same_term x) ds ≡ true → list_any p ds ≡ true) → list_any p (d ∷ ds) ≡ true
+    cases true same later = one_or (p d) (list_any p ds) (sym (fits x d same) ∙ e)
+    cases false other later = other_or (p d) (list_any p ds) (later (sym (ap (λ b. b || list_any (same_term x) ds) other) ∙ h))
+
+with_find : (p : Test) (x : Term) (ds xs : List Term) (is : Bool) → Respects p → list_any (same_term x) ds ≡ is → find p ((if is then ds else ds ++ x ∷ []) ++ xs) ≡ find p (ds ++ x ∷ xs)
+with_find p x ds xs false fits e = ap (find p) (append_assoc ds (x ∷ []) xs)
+with_find p x ds xs true fits e = cases (p x) refl
+  where
+    cases : (b : Bool) → p x ≡ b → find p (ds ++ xs) ≡ find p (ds ++ x ∷ xs)
+    cases true h = find_early p ds xs (any_by p x ds fits h e) ∙ sym (find_early p ds (x ∷ xs) (any_by p x ds fits h e))
+    cases false h = sym (find_skip p ds x xs h)
+
+fold_find : (p : Test) (ds xs : List Term) → Respects p → find p (fold with_subterm ds xs) ≡ find p (ds ++ xs)
+fold_find p ds [] fits = ap (find p) (sym (append-nil ds))
+fold_find p ds (x ∷ xs) fits = fold_find p (with_subterm ds x) xs fits ∙ with_find p x ds xs (list_any (same_term x) ds) fits refl
+
+pub once_find : (p : Test) (xs : List Term) → Respects p → find p (once xs) ≡ find p xs
+once_find p xs fits = fold_find p [] xs fits
+
+-- ---- no two are equal
+abbrev pub AreApart : List Term → Type 0
+AreApart ts = (i j : ℕ) (t u : Term) → slice_get ts i ≡ Some t → slice_get ts j ≡ Some u → same_term t u ≡ true → i ≡ j
+
+any_at : (p : Test) (ds : List Term) (i : ℕ) (t : Term) → slice_get ds i ≡ Some t → p t ≡ true → list_any p ds ≡ true
+any_at p [] i t e h = let c : None ≡ Some t = e in cc
+any_at p (d ∷ ds) zero t e h = one_or (p d) (list_any p ds) (ap p (ap (λ o. unwrap_or o d) e) ∙ h)
+any_at p (d ∷ ds) (suc i) t e h = other_or (p d) (list_any p ds) (any_at p ds i t e h)
+
+apart_push : (ds : List Term) (x : Term) → list_any (same_term x) ds ≡ false → AreApart ds → (i j : ℕ) (t u : Term) → same_term t u ≡ true →
+    (slice_get ds i ≡ Some t) ⊎ ((i ≡ length ds) × (t ≡ x)) → (slice_get ds j ≡ Some u) ⊎ ((j ≡ length ds) × (u ≡ x)) → i ≡ j
+apart_push ds x e apart i j t u same (inl h) (inl k) = apart i j t u h k same
+apart_push ds x e apart i j t u same (inl h) (inr k) =
+    let c : true ≡ false = sym (any_at (same_term x) ds i t h (same_term_equiv.symm x t ∙ ap (same_term t) (sym k.1) ∙ same)) ∙ e in cc
+apart_push ds x e apart i j t u same (inr h) (inl k) = let c : true ≡ false = sym (any_at (same_term x) ds j u k (ap (λ z. same_term z u) (sym h.1) ∙ same)) ∙ e in cc
+apart_push ds x e apart i j t u same (inr h) (inr k) = h.0 ∙ sym k.0
+
+with_apart : (ds : List Term) (x : Term) (is : Bool) → list_any (same_term x) ds ≡ is → AreApart ds → AreApart (if is then ds else ds ++ x ∷ [])
+with_apart ds x true e apart = apart
+with_apart ds x false e apart = λ i j t u at of same. apart_push ds x e apart i j t u same (last_or ds x i t at) (last_or ds x j u of)
+
+fold_apart : (ds xs : List Term) → AreApart ds → AreApart (fold with_subterm ds xs)
+fold_apart ds [] apart = apart
+fold_apart ds (x ∷ xs) apart = fold_apart (with_subterm ds x) xs (with_apart ds x (list_any (same_term x) ds) refl apart)
+
+pub once_apart : (xs : List Term) → AreApart (once xs)
+once_apart xs = fold_apart [] xs (λ i j t u at of same. let c : None ≡ Some t = at in cc)

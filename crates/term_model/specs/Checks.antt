@@ -1,12 +1,12 @@
 -- What the check of a model finds out: each is true only where a part of "the model is well formed" holds.
 use Rattle.std.specs.declared.alloc.Global.{Global}
-use Rattle.std.specs.Prelude.{◌≡◌, ℕ, ◌+◌, ◌<◌, ◌≤◌, Bool, true, List, Vec, length, Option, Some, None, filter_map, nat_eq, nat_lt, slice_get, slice_index_or, slice_set, if◌then◌else◌}
+use Rattle.std.specs.Prelude.{◌≡◌, ℕ, ◌+◌, ◌<◌, ◌≤◌, Bool, true, List, Vec, length, Option, Some, None, filter_map, nat_lt, slice_get, slice_index_or, slice_set}
 use Rattle.std.specs.List.{All, list_all, range_with_len}
 use Rattle.cbl_base.specs.Inputs.{InputKind, number_kind, is_number_kind}
 use Rattle.term_model.specs.Depth.{depth_of}
 use Rattle.term_model.specs.Kinds.{kind_of_term, kind_of_var, kinds_in}
-use Rattle.term_model.specs.Wellformed.{IsMember, constrain_number, part_number}
-use Rattle.term_model.specs.declared.definitions.Defined.{Defined}
+use Rattle.term_model.specs.Posting.{number_by}
+use Rattle.term_model.specs.Wellformed.{IsMember}
 use Rattle.term_model.specs.declared.model.Definition.{Definition}
 use Rattle.term_model.specs.declared.model.Model.{Model}
 use Rattle.term_model.specs.declared.model.Posted.{Posted}
@@ -14,9 +14,8 @@ use Rattle.term_model.specs.declared.model.Total.{Total}
 use Rattle.term_model.specs.declared.model.VarDecl.{VarDecl}
 use Rattle.term_model.specs.declared.model.VarKind.{VarKind}
 use Rattle.term_model.specs.declared.term.Term.{Term}
-use Rattle.term_model.specs.declared.all_parts.Posting.{Posting}
-use Rattle.term_model.specs.declared.wholes.Side.{Side}
-use Rattle.term_model.specs.declared.wholes.Side.TheVariants.{Systems, Objectives}
+use Rattle.term_model.specs.declared.posting.Posting.{Posting}
+use Rattle.term_model.specs.declared.posting.Side.{Side}
 
 -- whether a variable's kind is that of numbers
 abbrev pub is_number_var : VarKind → Bool
@@ -31,15 +30,6 @@ IsKindWithin kinds limit term None = Unit {0}
 abbrev pub IsTotal : Model → Total → Type 0
 IsTotal M total = All (IsMember M) total.members.items
 
--- the numbers of the members of one system or objective
-abbrev pub number_by : Side → ℕ → Posted → Option ℕ
-number_by Systems = constrain_number
-number_by Objectives = part_number
-
-abbrev pub number_in : ℕ → Option Posting → Option ℕ
-number_in k (Some posting) = if nat_eq posting.total k then Some posting.member else None
-number_in k None = None
-
 -- the counts say how many members of each were posted, each once and in order
 abbrev pub AreCounts : Side → List Posted → List ℕ → Type 0
 AreCounts side posted counts = (k n : ℕ) → slice_get counts k ≡ Some n → filter_map (number_by side k) posted ≡ range_with_len 0 n
@@ -49,12 +39,12 @@ abbrev pub IsCounted : List ℕ → List ℕ → Posting → Type 0
 IsCounted old new posting = (slice_get old posting.total ≡ Some posting.member) × (new ≡ slice_set old posting.total (posting.member + 1))
 
 -- the number of the definition at a variable's place in a table
-abbrev pub owner_in : Option (Option Defined) → Option ℕ
-owner_in (Some (Some entry)) = Some entry.def
+abbrev pub owner_in : Option (Option ℕ) → Option ℕ
+owner_in (Some (Some d)) = Some d
 owner_in (Some None) = None
 owner_in None = None
 
-abbrev pub owner_at : List (Option Defined) → ℕ → Option ℕ
+abbrev pub owner_at : List (Option ℕ) → ℕ → Option ℕ
 owner_at table i = owner_in (slice_get table i)
 
 -- whether a variable ranks below another
@@ -68,10 +58,10 @@ is_below ranks i d = nat_lt (rank_at ranks d) (rank_at ranks i)
 abbrev pub IsAllCounted : List ℕ → List Total → ℕ → Type 0
 IsAllCounted counts totals k = (total : Total) → slice_get totals k ≡ Some total → slice_get counts k ≡ Some (length total.members.items)
 
-abbrev pub IsOwned : List (Option Defined) → List Definition → ℕ → Type 0
+abbrev pub IsOwned : List (Option ℕ) → List Definition → ℕ → Type 0
 IsOwned table defs d = (def : Definition) → slice_get defs d ≡ Some def → owner_at table def.var.index ≡ Some d
 
-abbrev pub IsNumberOrDefined : List (Option Defined) → List VarDecl → ℕ → Type 0
+abbrev pub IsNumberOrDefined : List (Option ℕ) → List VarDecl → ℕ → Type 0
 IsNumberOrDefined table vars i = slice_get table i ≡ Some None → kinds_in vars i ≡ Some number_kind
 
 abbrev pub IsRanked : List (Vec ℕ Global) → List ℕ → ℕ → ℕ → Type 0

@@ -1,9 +1,8 @@
--- The definition of a variable: which one it is, and at which turn it was posted. A variable depends on those
--- that stand in its definition's term. A rule of this project.
+-- The definition of a variable: which one it is. A variable depends on those that stand in its definition's
+-- term. A rule of this project.
 use Rattle.std.specs.Prelude.{ℕ, ◌<◌, Bool, false, List, [], ◌∷◌, ◌++◌, fold, length, nat_eq, Option, Some, None, slice_get, unwrap_or, if◌then◌else◌}
 use Rattle.std.specs.Option.{option_map}
-use Rattle.std.specs.List.{Contains, enumerate_from}
-use Rattle.term_model.specs.declared.definitions.Defined.{Defined}
+use Rattle.std.specs.List.{Contains}
 use Rattle.term_model.specs.declared.model.Definition.{Definition}
 use Rattle.term_model.specs.declared.model.Model.{Model}
 use Rattle.term_model.specs.declared.model.Posted.{Posted}
@@ -30,30 +29,30 @@ vars_of = fold-Term (List ℕ) vars_step
 abbrev pub is_of : List Definition → ℕ → ℕ → Bool
 is_of defs i d = unwrap_or (option_map (λ def. nat_eq def.var.index i) (slice_get defs d)) false
 
--- the definition so far, and what was posted at a turn
-abbrev pub note : List Definition → ℕ → Option Defined → ℕ × Posted → Option Defined
-note defs i so_far (turn, Define d) = if is_of defs i d then Some (record { turn = turn; def = d }) else so_far
-note defs i so_far (turn, Constrain system member) = so_far
-note defs i so_far (turn, Part objective member) = so_far
+-- the number of the definition so far, and what was posted
+abbrev pub note : List Definition → ℕ → Option ℕ → Posted → Option ℕ
+note defs i so_far (Define d) = if is_of defs i d then Some d else so_far
+note defs i so_far (Constrain system member) = so_far
+note defs i so_far (Part objective member) = so_far
 
--- the definition of a variable
-abbrev pub definition_in : List Definition → List (ℕ × Posted) → ℕ → Option Defined
+-- the number of the definition of a variable
+abbrev pub definition_in : List Definition → List Posted → ℕ → Option ℕ
 definition_in defs posted i = fold (note defs i) None posted
 
-abbrev pub definition_of : Model → ℕ → Option Defined
-definition_of M i = definition_in M.defs.items (enumerate_from 0 M.posted.items) i
+abbrev pub definition_of : Model → ℕ → Option ℕ
+definition_of M i = definition_in M.defs.items M.posted.items i
 
--- the term of a definition, and that of a variable
-abbrev pub term_of : List Definition → Defined → Option Term
-term_of defs entry = option_map (λ def. def.term) (slice_get defs entry.def)
+-- the term of the definition with this number
+abbrev pub term_of : List Definition → ℕ → Option Term
+term_of defs d = option_map (λ def. def.term) (slice_get defs d)
 
 -- the variables that a variable's definition names, none for a variable without one
 abbrev pub vars_named : Option Term → List ℕ
 vars_named (Some term) = vars_of term
 vars_named None = []
 
-abbrev pub named_by : List Definition → Option Defined → List ℕ
-named_by defs (Some entry) = vars_named (term_of defs entry)
+abbrev pub named_by : List Definition → Option ℕ → List ℕ
+named_by defs (Some d) = vars_named (term_of defs d)
 named_by defs None = []
 
 abbrev pub DependsOn : Model → ℕ → ℕ → Type 0

@@ -1,6 +1,5 @@
 //! Which definition each variable has, and which variables that names.
 ghost use Rattle.std.specs.Prelude.{◌≡◌, ◌<◌, ◌++◌, ℕ, IfOk, OnOk, Option, Some, length, map, slice_get, take};
-ghost use Rattle.std.specs.List.{enumerate_from};
 ghost use Rattle.term_model.specs.Definitions.{vars_of, definition_in, definition_of, named_by, note};
 ghost use Rattle.term_model.specs.Depth.{depth_of};
 
@@ -9,15 +8,8 @@ use crate::term::Term;
 use cbl_base::NoMemory;
 use std::alloc::Global;
 
-/// A definition: at which turn it was posted, and its number.
-#[derive(Clone, Copy, PartialEq, Eq, Debug)]
-pub(crate) struct Defined {
-    pub(crate) turn: usize,
-    pub(crate) def: u32,
-}
-
 /// Puts the variables in a term, from the left, behind those in the list.
-pub(crate) fn push_variables(term: &Term, into: &mut Vec<u32>) -> Result<(), NoMemory>
+pub fn push_variables(term: &Term, into: &mut Vec<u32>) -> Result<(), NoMemory>
     ensures { OnOk result (into.new.items ≡ into.old.items ++ vars_of term.now) }
 {
     match term {
@@ -37,48 +29,48 @@ pub(crate) fn push_variables(term: &Term, into: &mut Vec<u32>) -> Result<(), NoM
     }
 }
 
-/// Notes what was posted at a turn, where it is a definition.
-fn note(defs: &[Definition], table: &mut Vec<Option<Defined>>, turn: usize, posted: Posted)
+/// Notes what was posted, where it is a definition.
+fn note(defs: &[Definition], table: &mut Vec<Option<u32>>, posted: Posted)
     ensures count { length table.new.items ≡ length table.old.items }
-    ensures each { (i : ℕ) (so_far : Option Defined) → slice_get table.old.items i ≡ Some so_far → slice_get table.new.items i ≡ Some (note defs.now i so_far (turn, posted)) }
+    ensures each { (i : ℕ) (so_far : Option ℕ) → slice_get table.old.items i ≡ Some so_far → slice_get table.new.items i ≡ Some (note defs.now i so_far posted) }
 {
-    let Posted::Define(def) = posted else {
+    let Posted::Define(number) = posted else {
         return;
     };
-    let Some(definition) = defs.get(def as usize) else {
+    let Some(definition) = defs.get(number as usize) else {
         return;
     };
     let var = definition.var.index as usize;
     if var < table.len() {
-        table[var] = Some(Defined { turn, def });
+        table[var] = Some(number);
     }
 }
 
-/// The definition of each variable.
-pub(crate) fn definitions_of(alloc: Global, model: &Model) -> Result<Vec<Option<Defined>>, NoMemory>
+/// The number of the definition of each variable.
+pub fn definitions_of(alloc: Global, model: &Model) -> Result<Vec<Option<u32>>, NoMemory>
     ensures count { IfOk result (λ v. length v.items ≡ length model.now.vars.items) }
     ensures each { IfOk result (λ v. (i : ℕ) → i < length model.now.vars.items → slice_get v.items i ≡ Some (definition_of model.now i)) }
 {
     let mut table = vec![in alloc; None; model.vars.len()]?;
     for turn in 0..model.posted.len() {
-        note(&model.defs, &mut table, turn, model.posted[turn]);
+        note(&model.defs, &mut table, model.posted[turn]);
     }
     Ok(table)
 }
 
-/// The variables that a definition names.
+/// The variables that the definition with a number names.
 fn variables_named(
     alloc: Global,
     defs: &[Definition],
-    entry: Option<Defined>,
+    number: Option<u32>,
 ) -> Result<Vec<u32>, NoMemory>
-    ensures { IfOk result (λ v. v.items ≡ named_by defs.now entry) }
+    ensures { IfOk result (λ v. v.items ≡ named_by defs.now number) }
 {
     let mut names = Vec::new(alloc);
-    let Some(entry) = entry else {
+    let Some(number) = number else {
         return Ok(names);
     };
-    let Some(definition) = defs.get(entry.def as usize) else {
+    let Some(definition) = defs.get(number as usize) else {
         return Ok(names);
     };
     push_variables(&definition.term, &mut names)?;
@@ -86,10 +78,10 @@ fn variables_named(
 }
 
 /// For each variable those that its definition names.
-pub(crate) fn dependencies_of(
+pub fn dependencies_of(
     alloc: Global,
     defs: &[Definition],
-    table: &[Option<Defined>],
+    table: &[Option<u32>],
 ) -> Result<Vec<Vec<u32>>, NoMemory>
     ensures { IfOk result (λ v. map (λ names. names.items) v.items ≡ map (named_by defs.now) table.now) }
 {

@@ -1,33 +1,39 @@
-//! What holds of models, whatever their terms are: the values of a closed model are determined by its free
-//! variables alone, and equal terms count once among its distinct subterms.
-ghost use Rattle.std.specs.Prelude.{◌≡◌, ◌<◌, ◌++◌, [], ◌∷◌, ℕ, ℤ, List, Some, length, slice_get};
-ghost use Rattle.cbl_base.specs.NumberRule.{NumberRule};
-ghost use Rattle.term_model.specs.Closed.{AgreeOnFree};
+//! What holds of terms and models, whatever they are: equality of terms is an equivalence, what the numbered list
+//! of the distinct subterms has, and when a model is acyclic.
+ghost use Rattle.std.specs.Prelude.{◌≡◌, ◌↔◌, ◌++◌, [], ◌∷◌, ℕ, Bool, true, List, Some, slice_get};
+ghost use Rattle.std.specs.Cmp.{IsEquivalence};
+ghost use Rattle.std.specs.List.{find, list_any};
+ghost use Rattle.cbl_operations.specs.declared.op.Op.{Op};
+ghost use Rattle.term_model.specs.Cycles.{DependsOnItself};
 ghost use Rattle.term_model.specs.Definitions.{IsAcyclic};
-ghost use Rattle.term_model.specs.Delta.{value_of};
-ghost use Rattle.term_model.specs.DistinctSubterms.{HasSubterms, term_posted, written};
-ghost use Rattle.term_model.specs.VarOutcomes.{outcome_of_var};
+ghost use Rattle.term_model.specs.Posting.{term_posted};
+ghost use Rattle.term_model.specs.SameOperations.{same_operation};
+ghost use Rattle.term_model.specs.SameTerms.{same_term};
+ghost use Rattle.term_model.specs.Subterms.{distinct_subterms, once, subterms_posted};
 ghost use Rattle.term_model.specs.Wellformed.{IsWellFormed};
 ghost use Rattle.term_model.specs.declared.model.Model.{Model};
 ghost use Rattle.term_model.specs.declared.model.Posted.{Posted};
 ghost use Rattle.term_model.specs.declared.term.Term.{Term};
-ghost use Rattle.term_model.specs.declared.wholes.Whole.{Whole};
 
-/// Assignments that agree on the free variables of a model give the same outcomes: the same value or the
-/// same failure of each variable, each system and each objective.
-#[tactic(auto, using(crate::proofs::ClosedLaws::same_vars, crate::proofs::ClosedLaws::same_values))]
-pub fn closed_model_law()
-    ensures vars { (users : ℕ → NumberRule) (M : Model) (a b : List ℤ) → IsWellFormed M → IsAcyclic M → AgreeOnFree M a b →
-        (i : ℕ) → i < length M.vars.items → outcome_of_var users M a i ≡ outcome_of_var users M b i }
-    ensures wholes { (users : ℕ → NumberRule) (M : Model) (a b : List ℤ) → IsWellFormed M → IsAcyclic M → AgreeOnFree M a b →
-        (whole : Whole) → value_of users M a whole ≡ value_of users M b whole }
+/// Equality of terms is an equivalence. Operations are the same exactly where they are identical.
+pub fn equal_terms_law()
+    ensures terms { IsEquivalence same_term }
+    ensures operations { (a b : Op) → (same_operation a b ≡ true) ↔ (a ≡ b) }
 {}
 
-/// How many distinct subterms were posted is one number; and a term that was posted before, at whatever
-/// place, adds none to them.
-#[tactic(auto, using(crate::proofs::SubtermLaws::posted_again))]
+/// The distinct subterms of a model are equal to those that were posted, and no two of them to each other. What
+/// is the first of them with a property that equal terms share is the first one posted, so that each stands where
+/// it was posted first. A term that was posted before, at whatever place, adds none.
 pub fn distinct_subterms_law()
-    ensures one_number { (M : Model) (posted : List Posted) (m n : ℕ) → HasSubterms M posted m → HasSubterms M posted n → m ≡ n }
-    ensures equal_terms { (M : Model) (posted : List Posted) (k n : ℕ) (p q : Posted) (t u : Term) → slice_get posted k ≡ Some q → term_posted M q ≡ Some t → term_posted M p ≡ Some u →
-        (written t).whole ≡ (written u).whole → HasSubterms M posted n → HasSubterms M (posted ++ p ∷ []) n }
+    ensures all { (M : Model) (t : Term) → list_any (same_term t) (distinct_subterms M) ≡ list_any (same_term t) (subterms_posted M M.posted.items) }
+    ensures apart { (M : Model) (i j : ℕ) (t u : Term) → slice_get (distinct_subterms M) i ≡ Some t → slice_get (distinct_subterms M) j ≡ Some u → same_term t u ≡ true → i ≡ j }
+    ensures first { (M : Model) (p : Term → Bool) → ((t u : Term) → same_term t u ≡ true → p t ≡ p u) → find p (distinct_subterms M) ≡ find p (subterms_posted M M.posted.items) }
+    ensures again { (M : Model) (posted : List Posted) (k : ℕ) (p q : Posted) (t u : Term) → slice_get posted k ≡ Some q → term_posted M q ≡ Some t → term_posted M p ≡ Some u →
+        same_term t u ≡ true → once (subterms_posted M (posted ++ p ∷ [])) ≡ once (subterms_posted M posted) }
+{}
+
+/// A well formed model is acyclic exactly where no variable depends on itself, also through others.
+pub fn acyclic_law()
+    ensures ranked { (M : Model) (i : ℕ) → IsAcyclic M → DependsOnItself M i → ⊥ }
+    ensures none { (M : Model) → IsWellFormed M → ((i : ℕ) → DependsOnItself M i → ⊥) → IsAcyclic M }
 {}

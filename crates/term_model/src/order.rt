@@ -53,7 +53,7 @@ impl Search {
 }
 
 /// The variables, each behind those that it names.
-pub(crate) fn order_of(alloc: Global, named: &[Vec<u32>]) -> Result<Vec<usize>, NoMemory> {
+pub fn order_of(alloc: Global, named: &[Vec<u32>]) -> Result<Vec<usize>, NoMemory> {
     let mut search = Search {
         seen: vec![in alloc; false; named.len()]?,
         stack: Vec::new(alloc),

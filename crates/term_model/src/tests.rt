@@ -1,31 +1,16 @@
-//! Models that are built and asked, with the values that the language's description gives.
+//! Models that may be asked, and models that may not.
 use super::*;
-use crate::users::NoUsers;
-use cbl_base::{NoMemory, Place, RunFault, VarId};
-use cbl_operations::Op;
+use cbl_base::{NoMemory, Place, VarId};
 use std::alloc::Global;
 use std::test::*;
 
-fn at(col: u32) -> Place {
-    Place { line: 1, col }
-}
+const NOWHERE: Place = Place { line: 1, col: 1 };
 
 fn var(index: u32) -> Term {
     Term::Var(VarId { solver: 0, index })
 }
 
-fn node(alloc: Global, op: Op, left: Term, right: Term, col: u32) -> Result<Term, NoMemory> {
-    let mut args = Vec::new(alloc);
-    args.push(left)?;
-    args.push(right)?;
-    Ok(Term::Node {
-        op,
-        args,
-        place: at(col),
-    })
-}
-
-// A model of so many variables, with one system and one objective.
+// A model of so many variables, with one system.
 fn model_of(alloc: Global, count: u32) -> Result<Model, NoMemory> {
     let mut vars = Vec::new(alloc);
     for _var in 0..count {
@@ -37,19 +22,14 @@ fn model_of(alloc: Global, count: u32) -> Result<Model, NoMemory> {
     }
     let mut systems = Vec::new(alloc);
     systems.push(Total {
-        place: at(90),
-        members: Vec::new(alloc),
-    })?;
-    let mut objectives = Vec::new(alloc);
-    objectives.push(Total {
-        place: at(91),
+        place: NOWHERE,
         members: Vec::new(alloc),
     })?;
     Ok(Model {
         vars,
         defs: Vec::new(alloc),
         systems,
-        objectives,
+        objectives: Vec::new(alloc),
         posted: Vec::new(alloc),
     })
 }
@@ -62,390 +42,95 @@ fn define(model: &mut Model, index: u32, term: Term) -> Result<(), NoMemory> {
     Ok(())
 }
 
-fn post(model: &mut Model, posted: Posted) -> Result<(), NoMemory> {
-    Ok(model.posted.push(posted)?)
-}
-
-fn constrain(model: &mut Model, member: u32, term: Term, weight: i64) -> Result<(), NoMemory> {
+fn constrain(model: &mut Model, term: Term) -> Result<(), NoMemory> {
     if let Some(total) = model.systems.get_mut(0) {
-        total.members.push(Member { term, weight })?;
-    }
-    post(model, Posted::Constrain { system: 0, member })
-}
-
-fn add_part(model: &mut Model, member: u32, term: Term) -> Result<(), NoMemory> {
-    if let Some(total) = model.objectives.get_mut(0) {
         total.members.push(Member { term, weight: 1 })?;
     }
-    post(
-        model,
-        Posted::Part {
-            objective: 0,
-            member,
-        },
-    )
+    Ok(())
 }
 
-// The queens of size 4.
-fn queens(alloc: Global) -> Result<Model, NoMemory> {
-    let mut model = model_of(alloc, 4)?;
-    for (member, slope) in [(0, 0), (1, 1), (2, -1)] {
-        let mut args = Vec::new(alloc);
-        for (index, shift) in [
-            (0, 0),
-            (1, slope),
-            (2, slope + slope),
-            (3, slope + slope + slope),
-        ] {
-            args.push(node(alloc, Op::Add, var(index), Term::Const(shift), 5)?)?;
-        }
-        let term = Term::Node {
-            op: Op::AllDifferent,
-            args,
-            place: at(7),
-        };
-        constrain(&mut model, member, term, 1)?;
+fn post(model: &mut Model, posted: &[Posted]) -> Result<(), NoMemory> {
+    for one in posted {
+        model.posted.push(*one)?;
     }
-    Ok(model)
+    Ok(())
 }
 
-// What the system comes to, where the model may be asked.
-fn system_at(alloc: Global, model: &Model, assignment: &[i64]) -> Option<Result<i64, ModelStop>> {
-    let Ok(true) = is_usable(alloc, model) else {
-        return None;
-    };
-    if assignment.len() != model.vars.len() {
-        return None;
-    }
-    match fresh(alloc, model, assignment) {
-        Ok(values) => Some(Ok(*values.systems.get(0)?)),
-        Err(stop) => Some(Err(stop)),
+fn user(alloc: Global, number: u32) -> Term {
+    Term::Node {
+        op: Op::User { number },
+        args: Vec::new(alloc),
+        place: NOWHERE,
     }
 }
 
-// What the objective comes to, where the model may be asked.
-fn objective_at(
-    alloc: Global,
-    model: &Model,
-    assignment: &[i64],
-) -> Option<Result<i64, ModelStop>> {
-    let Ok(true) = is_usable(alloc, model) else {
-        return None;
-    };
-    if assignment.len() != model.vars.len() {
-        return None;
-    }
-    match fresh(alloc, model, assignment) {
-        Ok(values) => Some(Ok(*values.objectives.get(0)?)),
-        Err(stop) => Some(Err(stop)),
-    }
-}
+const FIRST: Posted = Posted::Constrain {
+    system: 0,
+    member: 0,
+};
 
-// The violations of a variable in a system, where the model may be asked.
-fn violations_at(
-    alloc: Global,
-    model: &Model,
-    assignment: &[i64],
-    system: u32,
-    var: u32,
-) -> Option<Result<i64, AskStop>> {
-    let Ok(true) = is_usable(alloc, model) else {
-        return None;
-    };
-    let count = model.vars.len();
-    if assignment.len() != count || var as usize >= count {
-        return None;
-    }
-    if system as usize >= model.systems.len() {
-        return None;
-    }
-    Some(variable_violations(alloc, model, assignment, &NoUsers, system, var))
-}
+const SECOND: Posted = Posted::Constrain {
+    system: 0,
+    member: 1,
+};
 
-// The delta of the system or the objective, where the model may be asked.
-fn delta_at(
-    alloc: Global,
-    model: &Model,
-    assignment: &[i64],
-    whole: Whole,
-    change: Move,
-) -> Option<Result<i64, AskStop>> {
-    let Ok(true) = is_usable(alloc, model) else {
-        return None;
-    };
-    let count = model.vars.len();
-    if assignment.len() != count {
-        return None;
-    }
-    let (left, right) = match change {
-        Move::Assign { var, value: _ } => (var, var),
-        Move::Swap { left, right } => (left, right),
-    };
-    if left as usize >= count || right as usize >= count {
-        return None;
-    }
-    let known = match whole {
-        Whole::System(index) => (index as usize) < model.systems.len(),
-        Whole::Objective(index) => (index as usize) < model.objectives.len(),
-    };
-    if !known {
-        return None;
-    }
-    Some(delta(alloc, model, assignment, &NoUsers, whole, change))
-}
-
-const SYSTEM: Whole = Whole::System(0);
-
-const OBJECTIVE: Whole = Whole::Objective(0);
-
+// Definitions in another order than they were posted in
 #[test]
-fn queens_of_four(rt: HostRuntime) -> Result<(), Fail> {
+fn definitions_in_any_order(rt: HostRuntime) -> Result<(), Fail> {
     let alloc = rt.alloc();
-    let model = queens(alloc)?;
-    assert_eq!(rt; system_at(alloc, &model, &[1, 1, 1, 1]), Some(Ok(3)));
-    assert_eq!(rt; system_at(alloc, &model, &[1, 2, 3, 4]), Some(Ok(3)));
-    for (assignment, change, wanted) in [
-        ([1, 1, 1, 1], Move::Assign { var: 1, value: 3 }, 0),
-        ([1, 2, 3, 4], Move::Swap { left: 0, right: 3 }, -1),
-        ([1, 2, 3, 4], Move::Swap { left: 0, right: 0 }, 0),
+    for (posted, wanted) in [
+        ([Posted::Define(1), Posted::Define(0)], true),
+        ([Posted::Define(0), Posted::Define(1)], true),
+        ([Posted::Define(0), Posted::Define(0)], false),
+        ([Posted::Define(0), Posted::Define(2)], false),
     ] {
-        assert_eq!(rt;
-            delta_at(alloc, &model, &assignment, SYSTEM, change),
-            Some(Ok(wanted))
-        );
+        let mut model = model_of(alloc, 3)?;
+        define(&mut model, 0, var(1))?;
+        define(&mut model, 1, var(2))?;
+        post(&mut model, &posted)?;
+        assert_eq!(rt; is_usable(alloc, &model).ok(), Some(wanted));
     }
-    // in one row each queen is in one constraint that doesn't hold, and likewise in one diagonal
-    assert_eq!(rt;
-        violations_at(alloc, &model, &[1, 1, 1, 1], 0, 2),
-        Some(Ok(1))
-    );
-    assert_eq!(rt;
-        violations_at(alloc, &model, &[1, 2, 3, 4], 0, 2),
-        Some(Ok(1))
-    );
     Ok(())
 }
 
-// `x == 5 || y <= 1`
+// Two user's constraints with one number, and a number that is left out
 #[test]
-fn the_least_of_a_disjunction(rt: HostRuntime) -> Result<(), Fail> {
+fn each_user_once(rt: HostRuntime) -> Result<(), Fail> {
     let alloc = rt.alloc();
-    let mut model = model_of(alloc, 2)?;
-    let left = node(alloc, Op::ViolEq, var(0), Term::Const(5), 3)?;
-    let right = node(alloc, Op::ViolLe, var(1), Term::Const(1), 9)?;
-    let either = node(alloc, Op::AnyOf, left, right, 6)?;
-    constrain(&mut model, 0, either, 1)?;
-    assert_eq!(rt; system_at(alloc, &model, &[2, 3]), Some(Ok(2)));
-    assert_eq!(rt; violations_at(alloc, &model, &[2, 3], 0, 0), Some(Ok(0)));
-    assert_eq!(rt; violations_at(alloc, &model, &[2, 3], 0, 1), Some(Ok(2)));
-    Ok(())
-}
-
-// `x == 4 && y <= 0`, of weight 3
-#[test]
-fn a_weight_multiplies(rt: HostRuntime) -> Result<(), Fail> {
-    let alloc = rt.alloc();
-    let mut model = model_of(alloc, 2)?;
-    let left = node(alloc, Op::ViolEq, var(0), Term::Const(4), 3)?;
-    let right = node(alloc, Op::ViolLe, var(1), Term::Const(0), 9)?;
-    let both = node(alloc, Op::AllOf, left, right, 6)?;
-    constrain(&mut model, 0, both, 3)?;
-    assert_eq!(rt; system_at(alloc, &model, &[1, 2]), Some(Ok(15)));
-    assert_eq!(rt; violations_at(alloc, &model, &[1, 2], 0, 1), Some(Ok(6)));
-    let change = Move::Assign { var: 0, value: 4 };
-    assert_eq!(rt;
-        delta_at(alloc, &model, &[1, 2], SYSTEM, change),
-        Some(Ok(-9))
-    );
-    Ok(())
-}
-
-// The objective `x * x`
-#[test]
-fn the_delta_of_a_square(rt: HostRuntime) -> Result<(), Fail> {
-    let alloc = rt.alloc();
-    let mut model = model_of(alloc, 1)?;
-    let square = node(alloc, Op::Mul, var(0), var(0), 3)?;
-    add_part(&mut model, 0, square)?;
-    assert_eq!(rt; objective_at(alloc, &model, &[3]), Some(Ok(9)));
-    let change = Move::Assign { var: 0, value: 4 };
-    assert_eq!(rt;
-        delta_at(alloc, &model, &[3], OBJECTIVE, change),
-        Some(Ok(7))
-    );
-    Ok(())
-}
-
-// `a[x]` of two cells, and the move to a third
-#[test]
-fn an_element_out_of_range_after_a_move(rt: HostRuntime) -> Result<(), Fail> {
-    let alloc = rt.alloc();
-    let mut model = model_of(alloc, 1)?;
-    let mut args = Vec::new(alloc);
-    for term in [var(0), Term::Const(7), Term::Const(8)] {
-        args.push(term)?;
+    for (first, second, wanted) in [(0, 1, true), (1, 0, true), (0, 0, false), (0, 2, false)] {
+        let mut model = model_of(alloc, 1)?;
+        constrain(&mut model, user(alloc, first))?;
+        constrain(&mut model, user(alloc, second))?;
+        post(&mut model, &[FIRST, SECOND])?;
+        assert_eq!(rt; is_usable(alloc, &model).ok(), Some(wanted));
     }
-    let cell = Term::Node {
-        op: Op::Element { low: 1, len: 2 },
-        args,
-        place: at(4),
-    };
-    add_part(&mut model, 0, cell)?;
-    assert_eq!(rt; objective_at(alloc, &model, &[2]), Some(Ok(8)));
-    let change = Move::Assign { var: 0, value: 3 };
-    let wanted = AskStop::Fault(at(4), RunFault::OutOfRange);
-    assert_eq!(rt;
-        delta_at(alloc, &model, &[2], OBJECTIVE, change),
-        Some(Err(wanted))
-    );
-    // the system doesn't stand on the cell
-    assert_eq!(rt; delta_at(alloc, &model, &[2], SYSTEM, change), Some(Ok(0)));
     Ok(())
 }
 
-// `z == x + x - x` at the greatest number: the inner sum fails first
-#[test]
-fn a_partial_sum_that_does_not_fit(rt: HostRuntime) -> Result<(), Fail> {
-    let alloc = rt.alloc();
-    let mut model = model_of(alloc, 2)?;
-    let sum = node(alloc, Op::Add, var(0), var(0), 19)?;
-    let term = node(alloc, Op::Sub, sum, var(0), 21)?;
-    define(&mut model, 1, term)?;
-    post(&mut model, Posted::Define(0))?;
-    let stop = ModelStop::Fault(at(19), RunFault::Overflow);
-    assert_eq!(rt; system_at(alloc, &model, &[i64::MAX, 0]), Some(Err(stop)));
-    let change = Move::Assign { var: 1, value: 3 };
-    let wanted = AskStop::Run(RunFault::DefinedVariable);
-    assert_eq!(rt;
-        delta_at(alloc, &model, &[1, 0], SYSTEM, change),
-        Some(Err(wanted))
-    );
-    Ok(())
-}
-
-// `sum(x, x, -x)` at the greatest number
-#[test]
-fn a_sum_is_exact(rt: HostRuntime) -> Result<(), Fail> {
-    let alloc = rt.alloc();
-    let mut model = model_of(alloc, 3)?;
-    let mut args = Vec::new(alloc);
-    for index in [0, 1, 2] {
-        args.push(var(index))?;
-    }
-    let sum = Term::Node {
-        op: Op::Sum,
-        args,
-        place: at(4),
-    };
-    add_part(&mut model, 0, sum)?;
-    let k = i64::MAX;
-    assert_eq!(rt; objective_at(alloc, &model, &[k, k, -k]), Some(Ok(k)));
-    Ok(())
-}
-
-// Each variable but the last is one more than the next, which is defined behind it.
-#[test]
-fn definitions_used_before_their_declaration(rt: HostRuntime) -> Result<(), Fail> {
-    let alloc = rt.alloc();
-    let count = 262_144;
-    let mut model = model_of(alloc, count)?;
-    let mut assignment = Vec::new(alloc);
-    for index in 0..count {
-        assignment.push(0)?;
-        if index + 1 < count {
-            let term = node(alloc, Op::Add, var(index + 1), Term::Const(1), 5)?;
-            define(&mut model, index, term)?;
-            post(&mut model, Posted::Define(index))?;
-        }
-    }
-    add_part(&mut model, 0, var(0))?;
-    assert_eq!(rt; objective_at(alloc, &model, &assignment), Some(Ok(262_143)));
-    Ok(())
-}
-
-// `y <- c[x]` over 10, 20, 30 and `y <= 20`: the variable that the index names is in it, too
-#[test]
-fn violations_through_a_definition(rt: HostRuntime) -> Result<(), Fail> {
-    let alloc = rt.alloc();
-    let mut model = model_of(alloc, 3)?;
-    let mut args = Vec::new(alloc);
-    for term in [var(0), Term::Const(10), Term::Const(20), Term::Const(30)] {
-        args.push(term)?;
-    }
-    let cell = Term::Node {
-        op: Op::Element { low: 1, len: 3 },
-        args,
-        place: at(39),
-    };
-    define(&mut model, 1, cell)?;
-    post(&mut model, Posted::Define(0))?;
-    let most = node(alloc, Op::ViolLe, var(1), Term::Const(20), 7)?;
-    constrain(&mut model, 0, most, 1)?;
-    assert_eq!(rt;
-        violations_at(alloc, &model, &[3, 0, 0], 0, 0),
-        Some(Ok(10))
-    );
-    assert_eq!(rt;
-        violations_at(alloc, &model, &[3, 0, 0], 0, 1),
-        Some(Ok(10))
-    );
-    assert_eq!(rt; violations_at(alloc, &model, &[3, 0, 0], 0, 2), Some(Ok(0)));
-    let change = Move::Assign { var: 0, value: 3 };
-    assert_eq!(rt;
-        delta_at(alloc, &model, &[1, 0, 0], SYSTEM, change),
-        Some(Ok(10))
-    );
-    let wanted = AskStop::Fault(at(39), RunFault::OutOfRange);
-    assert_eq!(rt;
-        violations_at(alloc, &model, &[4, 0, 0], 0, 0),
-        Some(Err(wanted))
-    );
-    Ok(())
-}
-
-// `x + x == 0` in one system, and `x <= 1` in another
-#[test]
-fn a_fault_of_another_system(rt: HostRuntime) -> Result<(), Fail> {
-    let alloc = rt.alloc();
-    let mut model = model_of(alloc, 1)?;
-    let sum = node(alloc, Op::Add, var(0), var(0), 3)?;
-    let zero = node(alloc, Op::ViolEq, sum, Term::Const(0), 5)?;
-    constrain(&mut model, 0, zero, 1)?;
-    let mut members = Vec::new(alloc);
-    let term = node(alloc, Op::ViolLe, var(0), Term::Const(1), 9)?;
-    members.push(Member { term, weight: 1 })?;
-    model.systems.push(Total {
-        place: at(92),
-        members,
-    })?;
-    let (system, member) = (1, 0);
-    post(&mut model, Posted::Constrain { system, member })?;
-    let k = i64::MAX;
-    let stop = AskStop::Fault(at(3), RunFault::Overflow);
-    assert_eq!(rt; violations_at(alloc, &model, &[k], 0, 0), Some(Err(stop)));
-    assert_eq!(rt; violations_at(alloc, &model, &[k], 1, 0), Some(Ok(k - 1)));
-    let change = Move::Assign { var: 0, value: 1 };
-    assert_eq!(rt;
-        delta_at(alloc, &model, &[k], Whole::System(1), change),
-        Some(Ok(1 - k))
-    );
-    Ok(())
-}
-
-// A variable that depends on itself, a member that wasn't posted, and a variable that isn't there
+// A variable that depends on itself, a member that wasn't posted, one of a system that isn't there, and a
+// variable that isn't there
 #[test]
 fn models_that_may_not_be_asked(rt: HostRuntime) -> Result<(), Fail> {
     let alloc = rt.alloc();
     let mut cyclic = model_of(alloc, 2)?;
     for index in [0, 1] {
         define(&mut cyclic, index, var(1 - index))?;
-        post(&mut cyclic, Posted::Define(index))?;
+        post(&mut cyclic, &[Posted::Define(index)])?;
     }
     let mut unposted = model_of(alloc, 2)?;
     define(&mut unposted, 0, var(1))?;
+    let mut elsewhere = model_of(alloc, 2)?;
+    post(
+        &mut elsewhere,
+        &[Posted::Constrain {
+            system: 1,
+            member: 0,
+        }],
+    )?;
     let mut missing = model_of(alloc, 2)?;
-    constrain(&mut missing, 0, var(2), 1)?;
-    for model in [cyclic, unposted, missing] {
+    constrain(&mut missing, var(2))?;
+    post(&mut missing, &[FIRST])?;
+    for model in [cyclic, unposted, elsewhere, missing] {
         assert_eq!(rt; is_usable(alloc, &model).ok(), Some(false));
     }
     Ok(())

@@ -4,28 +4,25 @@ ghost use Rattle.std.specs.Prelude.{◌≡◌, ◌<◌, ◌++◌, [], ◌∷◌,
 ghost use Rattle.std.specs.Bool.{OnTrue};
 ghost use Rattle.std.specs.List.{All, list_all, range_with_len};
 ghost use Rattle.std.specs.Option.{ForSome};
-ghost use Rattle.term_model.specs.Checks.{AreCounts, IsAllCounted, IsCounted, IsNumberOrDefined, IsOwned, IsRanked, IsTotal, is_below, number_by, number_in, owner_at, rank_at};
+ghost use Rattle.term_model.specs.Checks.{AreCounts, IsAllCounted, IsCounted, IsNumberOrDefined, IsOwned, IsRanked, IsTotal, is_below, owner_at, rank_at};
 ghost use Rattle.term_model.specs.Definitions.{IsAcyclic, definition_of, named_by};
-ghost use Rattle.term_model.specs.Fresh.{totals_by};
 ghost use Rattle.term_model.specs.Kinds.{kinds_in};
-ghost use Rattle.term_model.specs.Settling.{AreTables};
-ghost use Rattle.term_model.specs.Wellformed.{IsDefinition, IsMember, IsWellFormed, HasDefinedSets, define_number};
+ghost use Rattle.term_model.specs.Posting.{number_by, totals_by};
+ghost use Rattle.term_model.specs.Wellformed.{IsDefinition, IsMember, IsThere, IsWellFormed, HasDefinedSets};
 ghost use Rattle.term_model.specs.declared.model.Definition.{Definition};
 ghost use Rattle.term_model.specs.declared.model.Posted.{Posted};
 ghost use Rattle.term_model.specs.declared.model.Total.{Total};
-ghost use Rattle.term_model.specs.declared.wholes.Side.TheVariants.{Systems, Objectives};
+ghost use Rattle.term_model.specs.declared.posting.Side.TheVariants.{Systems, Objectives};
 
-use crate::all_parts::{Posting, posting_of};
-use crate::definitions::{Defined, definitions_of, dependencies_of};
+use crate::definitions::{definitions_of, dependencies_of};
 use crate::kinds::{kind_at, kind_within};
 use crate::model::{Definition, Member, Model, Posted, Total, VarDecl, VarKind};
+use crate::naming::{are_defined_once, are_users_once};
 use crate::order::order_of;
-use crate::wholes::{Side, totals_by};
+use crate::posting::{Posting, Side, posting_of, totals_by};
 use cbl_base::NoMemory;
+use cbl_base::limits::MAX_TERM_DEPTH;
 use std::alloc::Global;
-
-/// How deep a term may be.
-const MAX_DEPTH: usize = 1000;
 
 /// Whether two kinds are the same.
 fn are_same(left: VarKind, right: VarKind) -> bool
@@ -46,7 +43,12 @@ fn is_definition(alloc: Global, model: &Model, definition: &Definition) -> Resul
     let Some(wanted) = kind_at(&model.vars, definition.var.index) else {
         return Ok(false);
     };
-    match kind_within(alloc, &model.vars, MAX_DEPTH, &definition.term)? {
+    match kind_within(
+        alloc,
+        &model.vars,
+        MAX_TERM_DEPTH as usize,
+        &definition.term,
+    )? {
         Some(kind) => Ok(are_same(kind, wanted)),
         None => Ok(false),
     }
@@ -69,7 +71,7 @@ fn are_definitions(alloc: Global, model: &Model) -> Result<bool, NoMemory>
 fn is_member(alloc: Global, model: &Model, member: &Member) -> Result<bool, NoMemory>
     ensures { IfOk result (λ is. OnTrue is (IsMember model.now member.now)) }
 {
-    match kind_within(alloc, &model.vars, MAX_DEPTH, &member.term)? {
+    match kind_within(alloc, &model.vars, MAX_TERM_DEPTH as usize, &member.term)? {
         Some(VarKind::Number) => Ok(true),
         _ => Ok(false),
     }
@@ -99,37 +101,6 @@ fn are_totals(alloc: Global, model: &Model, totals: &[Total]) -> Result<bool, No
     Ok(true)
 }
 
-/// The next number of a definition, unless this was posted with another one.
-#[tactic(auto, using(crate::proofs::UsableLaws::define_more, crate::proofs::UsableLaws::define_none))]
-fn next_define(next: usize, posted: Posted) -> Option<usize>
-    ensures { ForSome result (λ after. (so_far : List Posted) → filter_map define_number so_far ≡ range_with_len 0 next → filter_map define_number (so_far ++ posted ∷ []) ≡ range_with_len 0 after) }
-{
-    match posted {
-        Posted::Define(number) => {
-            if number as usize == next {
-                Some(number as usize + 1)
-            } else {
-                None
-            }
-        }
-        _ => Some(next),
-    }
-}
-
-/// Whether the definitions were posted, each once and in order.
-fn are_defined_in_order(model: &Model) -> bool
-    ensures { OnTrue result (filter_map define_number model.now.posted.items ≡ range_with_len 0 (length model.now.defs.items)) }
-{
-    let mut next = 0;
-    for turn in 0..model.posted.len() {
-        match next_define(next, model.posted[turn]) {
-            Some(after) => next = after,
-            None => return false,
-        }
-    }
-    next == model.defs.len()
-}
-
 /// Counts a member, unless it isn't the next one of its system or objective.
 fn count(counts: &mut Vec<usize>, posting: Posting) -> bool
     ensures length { length counts.new.items ≡ length counts.old.items }
@@ -147,10 +118,11 @@ fn count(counts: &mut Vec<usize>, posting: Posting) -> bool
 }
 
 /// Counts what was posted, where it is a member on this side.
-#[tactic(auto, using(crate::proofs::UsableLaws::counts_more, crate::proofs::UsableLaws::counts_same))]
+#[tactic(auto, using(crate::proofs::UsableLaws::counts_more, crate::proofs::UsableLaws::counts_same, crate::proofs::UsableLaws::counted_there, crate::proofs::UsableLaws::none_there))]
 fn count_posted(counts: &mut Vec<usize>, side: Side, posted: Posted) -> bool
     ensures length { length counts.new.items ≡ length counts.old.items }
     ensures counted { OnTrue result ((so_far : List Posted) → AreCounts side so_far counts.old.items → AreCounts side (so_far ++ posted ∷ []) counts.new.items) }
+    ensures there { OnTrue result (IsThere side (length counts.old.items) posted) }
 {
     match posting_of(side, posted) {
         Some(posting) => count(counts, posting),
@@ -181,10 +153,11 @@ fn are_all_counted(counts: &[usize], totals: &[Total]) -> bool
     true
 }
 
-/// Whether the members on a side were posted, those of each system or objective once and in order.
+/// Whether the members on a side were posted, those of each system or objective once and in order, and no others.
 #[tactic(auto, using(crate::proofs::UsableLaws::counts_none, crate::proofs::UsableLaws::counted_all))]
 fn are_posted_in_order(alloc: Global, model: &Model, side: Side) -> Result<bool, NoMemory>
-    ensures { IfOk result (λ is. OnTrue is ((k : ℕ) (total : Total) → slice_get (totals_by model.now side) k ≡ Some total → filter_map (number_by side k) model.now.posted.items ≡ range_with_len 0 (length total.members.items))) }
+    ensures posted { IfOk result (λ is. OnTrue is ((k : ℕ) (total : Total) → slice_get (totals_by model.now side) k ≡ Some total → filter_map (number_by side k) model.now.posted.items ≡ range_with_len 0 (length total.members.items))) }
+    ensures there { IfOk result (λ is. OnTrue is (All (IsThere side (length (totals_by model.now side))) model.now.posted.items)) }
 {
     let totals = totals_by(model, side);
     let mut counts = vec![in alloc; 0; totals.len()]?;
@@ -197,17 +170,17 @@ fn are_posted_in_order(alloc: Global, model: &Model, side: Side) -> Result<bool,
 }
 
 /// The number of the definition at a variable's place in the table.
-fn owner_at(table: &[Option<Defined>], index: u32) -> Option<usize>
+fn owner_at(table: &[Option<u32>], index: u32) -> Option<usize>
     ensures { result ≡ owner_at table.now index }
 {
     match table.get(index as usize) {
-        Some(Some(entry)) => Some(entry.def as usize),
+        Some(Some(number)) => Some(*number as usize),
         _ => None,
     }
 }
 
 /// Whether the table has a definition at its own variable's place.
-fn is_owned(table: &[Option<Defined>], defs: &[Definition], place: usize) -> bool
+fn is_owned(table: &[Option<u32>], defs: &[Definition], place: usize) -> bool
     ensures { OnTrue result (IsOwned table.now defs.now place) }
 {
     match defs.get(place) {
@@ -221,7 +194,7 @@ fn is_owned(table: &[Option<Defined>], defs: &[Definition], place: usize) -> boo
 
 /// Whether the table has each definition at its own variable's place.
 #[tactic(auto, using(crate::proofs::UsableLaws::below_more, crate::proofs::UsableLaws::all_owned))]
-fn are_owned(table: &[Option<Defined>], defs: &[Definition]) -> bool
+fn are_owned(table: &[Option<u32>], defs: &[Definition]) -> bool
     ensures { OnTrue result ((d : ℕ) → IsOwned table.now defs.now d) }
 {
     for place in 0..defs.len() {
@@ -250,7 +223,7 @@ fn is_well_formed(alloc: Global, model: &Model) -> Result<bool, NoMemory>
     if !are_totals(alloc, model, &model.objectives)? {
         return Ok(false);
     }
-    if !are_defined_in_order(model) {
+    if !are_defined_once(alloc, model)? {
         return Ok(false);
     }
     if !are_posted_in_order(alloc, model, Side::Systems)? {
@@ -259,11 +232,14 @@ fn is_well_formed(alloc: Global, model: &Model) -> Result<bool, NoMemory>
     if !are_posted_in_order(alloc, model, Side::Objectives)? {
         return Ok(false);
     }
+    if !are_users_once(alloc, model)? {
+        return Ok(false);
+    }
     Ok(true)
 }
 
 /// Whether a variable is a number if the table has no definition of it.
-fn is_number_or_defined(table: &[Option<Defined>], vars: &[VarDecl], place: usize) -> bool
+fn is_number_or_defined(table: &[Option<u32>], vars: &[VarDecl], place: usize) -> bool
     ensures { OnTrue result (IsNumberOrDefined table.now vars.now place) }
 {
     match (table.get(place), vars.get(place)) {
@@ -278,7 +254,7 @@ fn is_number_or_defined(table: &[Option<Defined>], vars: &[VarDecl], place: usiz
 
 /// Whether each variable is a number if the table has no definition of it.
 #[tactic(auto, using(crate::proofs::UsableLaws::below_more, crate::proofs::UsableLaws::all_defined))]
-fn are_numbers_or_defined(table: &[Option<Defined>], vars: &[VarDecl]) -> bool
+fn are_numbers_or_defined(table: &[Option<u32>], vars: &[VarDecl]) -> bool
     ensures { OnTrue result ((i : ℕ) → IsNumberOrDefined table.now vars.now i) }
 {
     for place in 0..table.len() {

@@ -1,0 +1,17 @@
+pub mod KeyedValues
+pub mod SetCopies
+pub mod Kinded
+pub mod Layers
+pub mod Congruence
+pub mod VarLaws
+pub mod Settled
+pub mod PartLaws
+pub mod AllPartsLaws
+pub mod TotalSteps
+pub mod FailureLaws
+pub mod ReachLaws
+pub mod FreshLaws
+pub mod DeltaLaws
+pub mod ClosedLaws
+pub mod MarkLaws
+pub mod ShareLaws

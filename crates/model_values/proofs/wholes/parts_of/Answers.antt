@@ -1,0 +1,18 @@
+use Rattle.std.proofs.Common.{rules, ◌≡◌, ◌<◌, length, arith, get_or}
+use Rattle.model_values.specs.Outcomes.{env_of}
+use Rattle.term_model.specs.Users.{user_rules}
+use Rattle.model_values.specs.Wholes.{seen}
+use Rattle.term_model.specs.declared.model.Posted.{Posted}
+use Rattle.model_values.proofs.PartLaws.{parts_more}
+use Rattle.model_values.proofs.wholes.parts_of.Goals as goal
+
+pub loop-turn-preserved : goal.loop-turn-preserved
+loop-turn-preserved g c =
+    let setting = c.args.setting.now in
+    let p : Posted = c.index.result.now in
+    let is : p ≡ get_or setting.model.now.posted.items c.loop-turn.turn p = search rules in
+    let lt : c.loop-turn.turn < length setting.model.now.posted.items = omega (arith, c.loop-turn-test.true, c.len-turn-end.ensures) in (
+      parts_more (user_rules (g.U.UserValues.viol_of setting.users.now) (g.U.UserValues.viol_at setting.users.now)) (env_of setting.cells.now) setting.model.now c.args.whole c.loop-turn.turn p
+          (seen c.loop-turn.parts) (seen c.in_ok-parts.parts) lt is c.loop-turn.invariant.0 c.in_ok-parts.ensures.parts,
+      c.in_ok-parts.ensures.weighed,
+    )

@@ -1,0 +1,15 @@
+pub mod AllParts
+pub mod Asked
+pub mod Closed
+pub mod Delta
+pub mod Dependence
+pub mod Failing
+pub mod Failures
+pub mod Fresh
+pub mod Outcomes
+pub mod Reach
+pub mod Settling
+pub mod Support
+pub mod VarOutcomes
+pub mod VariableViolations
+pub mod Wholes

@@ -1,9 +1,0 @@
--- What of an assignment a model's values hang on: the numbers of its free variables, those without a
--- definition. A rule of this project.
-use Rattle.std.specs.Prelude.{◌≡◌, ℕ, ℤ, pos, ◌<◌, List, length, None, slice_index_or}
-use Rattle.term_model.specs.Definitions.{definition_of}
-use Rattle.term_model.specs.declared.model.Model.{Model}
-
--- two assignments give each free variable the same number
-abbrev pub AgreeOnFree : Model → List ℤ → List ℤ → Type 0
-AgreeOnFree M a b = (i : ℕ) → i < length M.vars.items → definition_of M i ≡ None → slice_index_or a i (pos 0) ≡ slice_index_or b i (pos 0)

@@ -1,0 +1,150 @@
+//! Whether two operations are the same.
+ghost use Rattle.std.specs.Prelude.{◌≡◌, ◌&&◌};
+ghost use Rattle.term_model.specs.SameOperations.{first_of, name_of, numbers_of, same_operation, second_of};
+
+use cbl_operations::Op;
+
+/// What an operation keeps beside its inputs.
+#[derive(Clone, Copy)]
+struct Fields<'a> {
+    numbers: [i64; 4],
+    first: &'a [i64],
+    second: &'a [i64],
+}
+
+/// The name of an operation, as a number.
+fn name_of(op: &Op) -> u8
+    ensures { result ≡ name_of op.now }
+{
+    match op {
+        Op::Add => 0,
+        Op::Sub => 1,
+        Op::Mul => 2,
+        Op::Div => 3,
+        Op::Rem => 4,
+        Op::Neg => 5,
+        Op::Abs => 6,
+        Op::Least => 7,
+        Op::Greatest => 8,
+        Op::Sum => 9,
+        Op::ArgMin { keys: _ } => 10,
+        Op::ArgMax { keys: _ } => 11,
+        Op::Count => 12,
+        Op::Element { low: _, len: _ } => 13,
+        Op::Element2 {
+            low1: _,
+            len1: _,
+            low2: _,
+            len2: _,
+        } => 14,
+        Op::Eq => 15,
+        Op::Ne => 16,
+        Op::Le => 17,
+        Op::Lt => 18,
+        Op::And => 19,
+        Op::Or => 20,
+        Op::Not => 21,
+        Op::SetOf { keys: _ } => 22,
+        Op::Union => 23,
+        Op::Inter => 24,
+        Op::Minus => 25,
+        Op::Card => 26,
+        Op::Member => 27,
+        Op::ViolEq => 28,
+        Op::ViolNe => 29,
+        Op::ViolLe => 30,
+        Op::ViolLt => 31,
+        Op::AllDifferent => 32,
+        Op::AtMost { low: _, bounds: _ } => 33,
+        Op::AtLeast { low: _, bounds: _ } => 34,
+        Op::Exactly { low: _, bounds: _ } => 35,
+        Op::Knapsack {
+            weights: _,
+            capacity: _,
+        } => 36,
+        Op::MultiKnapsack {
+            sizes: _,
+            low: _,
+            capacities: _,
+        } => 37,
+        Op::Sequence {
+            values: _,
+            most: _,
+            window: _,
+        } => 38,
+        Op::AllOf => 39,
+        Op::AnyOf => 40,
+        Op::NotHeld => 41,
+        Op::User { number: _ } => 42,
+    }
+}
+
+/// What is kept beside the inputs.
+fn kept<'a>(numbers: [i64; 4], first: &'a [i64], second: &'a [i64]) -> Fields<'a>
+    ensures numbers { result.numbers ≡ numbers }
+    ensures first { result.first.now ≡ first.now }
+    ensures second { result.second.now ≡ second.now }
+{
+    Fields {
+        numbers,
+        first,
+        second,
+    }
+}
+
+/// The numbers and lists that an operation keeps.
+fn fields_of(op: &Op) -> Fields<'_>
+    ensures numbers { result.numbers ≡ numbers_of op.now }
+    ensures first { result.first.now ≡ first_of op.now }
+    ensures second { result.second.now ≡ second_of op.now }
+{
+    match op {
+        Op::ArgMin { keys } => kept([0; 4], keys.as_slice(), &[]),
+        Op::ArgMax { keys } => kept([0; 4], keys.as_slice(), &[]),
+        Op::Element { low, len } => kept([*low, i64::from(*len), 0, 0], &[], &[]),
+        Op::Element2 {
+            low1,
+            len1,
+            low2,
+            len2,
+        } => kept([*low1, i64::from(*len1), *low2, i64::from(*len2)], &[], &[]),
+        Op::SetOf { keys } => kept([0; 4], keys.as_slice(), &[]),
+        Op::AtMost { low, bounds } => kept([*low, 0, 0, 0], bounds.as_slice(), &[]),
+        Op::AtLeast { low, bounds } => kept([*low, 0, 0, 0], bounds.as_slice(), &[]),
+        Op::Exactly { low, bounds } => kept([*low, 0, 0, 0], bounds.as_slice(), &[]),
+        Op::Knapsack { weights, capacity } => kept([*capacity, 0, 0, 0], weights.as_slice(), &[]),
+        Op::MultiKnapsack {
+            sizes,
+            low,
+            capacities,
+        } => kept([*low, 0, 0, 0], sizes.as_slice(), capacities.as_slice()),
+        Op::Sequence {
+            values,
+            most,
+            window,
+        } => kept([*most, *window, 0, 0], values.as_slice(), &[]),
+        Op::User { number } => kept([i64::from(*number), 0, 0, 0], &[], &[]),
+        _ => kept([0; 4], &[], &[]),
+    }
+}
+
+/// Whether all four hold.
+fn all_hold(first: bool, second: bool, third: bool, fourth: bool) -> bool
+    ensures { result ≡ (first && second && third && fourth) }
+{
+    first && second && third && fourth
+}
+
+/// Whether two operations are the same: in name, and in what they keep beside their inputs.
+#[tactic(auto, unfolding(crate::specs::SameOperations::same_operation))]
+pub fn same_operation(a: &Op, b: &Op) -> bool
+    ensures { result ≡ same_operation a.now b.now }
+{
+    let left = fields_of(a);
+    let right = fields_of(b);
+    let names = name_of(a) == name_of(b);
+    let numbers = left.numbers == right.numbers;
+    let firsts = left.first == right.first;
+    let seconds = left.second == right.second;
+    all_hold(names, numbers, firsts, seconds)
+}
