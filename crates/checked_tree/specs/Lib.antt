@@ -1,0 +1,4 @@
+pub mod Makes
+pub mod Shape
+pub mod Actions
+pub mod Tasks

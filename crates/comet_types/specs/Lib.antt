@@ -1,0 +1,4 @@
+pub mod Statements
+pub mod Functions
+pub mod Program
+pub mod View

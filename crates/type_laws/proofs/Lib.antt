@@ -1,0 +1,4 @@
+pub mod Allowed
+pub mod Contexts
+pub mod Forms
+pub mod Trees

@@ -1,0 +1,4 @@
+pub mod Kinds
+pub mod Rules
+pub mod Rows
+pub mod Classes

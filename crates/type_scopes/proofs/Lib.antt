@@ -1,0 +1,4 @@
+pub mod Spellings
+pub mod Indexes
+pub mod Loops
+pub mod Declarations
