@@ -1,6 +1,7 @@
 //! Benchmarks, by the first word: `nodes SIZE..` times one probe and one apply of one change for each kind of
 //! node, `plan ITEMS EACH KIND` plans made-up dependencies, `parse BYTES` lexes and parses a text of real
-//! statements, and `parse NAME` parses a deep or a long text. Without words it does nothing.
+//! statements, `parse NAME` parses a deep or a long text, and `types NAMES` checks a text of many names. Without
+//! words it does nothing.
 #![tactic(auto)]
 
 mod draws;
@@ -8,11 +9,13 @@ mod nodes;
 mod planning;
 mod stop;
 mod texts;
+mod types;
 
 use crate::nodes::time_nodes;
 use crate::planning::time_plan;
 use crate::stop::Stop;
 use crate::texts::time_parse;
+use crate::types::time_types;
 use std::env;
 use std::process::ExitCode;
 
@@ -25,6 +28,7 @@ fn run(rt: &HostRuntime, words: &[String]) -> Result<(), Stop> {
         "nodes" => time_nodes(rt, &words[1..]),
         "plan" => time_plan(rt, &words[1..]),
         "parse" => time_parse(rt, &words[1..]),
+        "types" => time_types(rt, &words[1..]),
         _ => Err(Stop::Words),
     }
 }

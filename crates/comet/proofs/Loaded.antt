@@ -13,9 +13,9 @@ use Rattle.comet_syntax.specs.declared.program.Declaration.{Declaration}
 use Rattle.comet_syntax.specs.declared.program.Act.{Act}
 use Rattle.comet_syntax.specs.declared.limits.TheConstants.{MOST_BYTES}
 use Rattle.stmt_run.specs.Meaning.{meaning_of}
-use Rattle.comet_front.specs.Reading.{HasProgram, IsIllFormed, no_tokens, no_tree, not_built}
-use Rattle.comet_front.proofs.OneReading.{one_program, not_both}
-use Rattle.comet.specs.Output.{Gives, runs, ill_formed, GivesHeld}
+use Rattle.comet_front.specs.Reading.{HasProgram, IsIllFormed, IsIllTyped, no_tokens, no_tree, not_built}
+use Rattle.comet_front.proofs.OneReading.{one_program, not_both, not_typed_program}
+use Rattle.comet.specs.Output.{Gives, runs, ill_formed, ill_typed, GivesHeld}
 use Rattle.comet.specs.Loading.{IsTextStop, IsLoaded, IsWhatItGives, IsLoadStop}
 use Rattle.comet.specs.Status.{cause_of}
 use Rattle.comet.specs.declared.report.Cause.{Cause}
@@ -62,6 +62,7 @@ long_refused (not_built r) p q = absurd (omega (arith, p, r.has.listed.short))
 gives_alike : {a b : List ℕ} {cause : Cause} {printed : List ℕ} → SameOrLong a b → Gives a cause printed → Gives b cause printed
 gives_alike {cause = cause} {printed = printed} (inl e) gives = subst (λ text. Gives text cause printed) e gives
 gives_alike (inr (x, y)) (runs r) = absurd (omega (arith, x, r.has.has.listed.short))
+gives_alike (inr (x, y)) (ill_typed r) = absurd (omega (arith, x, r.refused.has.listed.short))
 gives_alike (inr (x, y)) (ill_formed r) = ill_formed (record { place = r.place; form = r.form; refused = long_refused r.refused x y; ends = r.ends; prints = r.prints })
 
 -- the text that is held gives the meaning of the one program that the bytes are
@@ -71,6 +72,7 @@ only_meaning {text = text} {declarations = declarations} {acts = acts} has (runs
     let one : (r.declarations ≡ declarations) × (r.acts ≡ acts) = one_program text r.declarations declarations r.acts acts r.has has in
     r.prints ∙ ap (λ ds. (meaning_of ds r.acts).printed) one.0 ∙ ap (λ xs. (meaning_of declarations xs).printed) one.1
 only_meaning {text = text} {declarations = declarations} {acts = acts} has (ill_formed r) = absurd (not_both text declarations acts r.place r.form has r.refused)
+only_meaning {text = text} {declarations = declarations} {acts = acts} has (ill_typed r) = absurd (not_typed_program text declarations acts r.place r.code has r.refused)
 
 pub loaded : (told : Option Held) (name bytes : List ℕ) (declarations : List Declaration) (acts : List Act) (held : Held) →
     IsRead told name MOST_BYTES bytes → HasProgram bytes declarations acts → told ≡ Some held → IsLoaded name held declarations acts
@@ -87,15 +89,14 @@ loaded told name bytes declarations acts held read has is_told =
     }
 
 -- a text that is refused gives its refusal
-pub refused : (told : Option Held) (name bytes : List ℕ) (place : Place) (form : FormCause) → IsRead told name MOST_BYTES bytes →
-    Gives bytes (causes.IllFormed place form) [] → IsWhatItGives told name (causes.IllFormed place form)
-refused None name bytes place form read gives = tt
-refused (Some held) name bytes place form read gives =
-    subst (λ o. GivesHeld o (causes.IllFormed place form) []) (sym read.1) (gives_alike (read_alike bytes read.0 read.2) gives)
+pub refused : (told : Option Held) (name bytes : List ℕ) (cause : Cause) → IsRead told name MOST_BYTES bytes → Gives bytes cause [] → IsWhatItGives told name cause
+refused None name bytes cause read gives = tt
+refused (Some held) name bytes cause read gives = subst (λ o. GivesHeld o cause []) (sym read.1) (gives_alike (read_alike bytes read.0 read.2) gives)
 
 -- why a text has no program is why it can't be loaded
 pub stopped : (told : Option Held) (name bytes : List ℕ) (cause : Cause) (old new : ℕ) → IsRead told name MOST_BYTES bytes → IsTextStop bytes cause → IsLoadStop cause name told old new
-stopped told name bytes (causes.IllFormed place form) old new read stop = refused told name bytes place form read stop
+stopped told name bytes (causes.IllFormed place form) old new read stop = refused told name bytes (causes.IllFormed place form) read stop
+stopped told name bytes (causes.IllTyped place code) old new read stop = refused told name bytes (causes.IllTyped place code) read stop
 stopped told name bytes causes.NoMemory old new read stop = tt
 stopped told name bytes causes.Done old new read stop = absurd stop
 stopped told name bytes causes.Words old new read stop = absurd stop

@@ -1,6 +1,6 @@
 -- The line on the standard error that tells why a run ended. `Done` has none. From the language, section
 -- on texts.
-use Rattle.std.specs.Prelude.{ℕ, List, [], ◌∷◌, ◌++◌, codes, decimal}
+use Rattle.std.specs.Prelude.{ℕ, List, [], ◌∷◌, ◌++◌, ◌==◌, codes, decimal, if◌then◌else◌}
 use Rattle.cbl_base.specs.declared.place.Place.{Place}
 use Rattle.cbl_base.specs.declared.faults.RunFault.{RunFault}
 use Rattle.cbl_base.specs.Faults.{code_of, text_of}
@@ -21,6 +21,23 @@ form_text UnexpectedEnd = codes "unexpected end of text"
 form_text TooDeep = codes "nested too deeply"
 form_text NotBuilt = codes "not built yet"
 
+-- the text of a typing rule, by its code from 1 to 12
+unfoldable pub type_text : ℕ → List ℕ
+type_text code =
+    if code == 1 then codes "unknown name" else
+    (if code == 2 then codes "name declared twice" else
+    (if code == 3 then codes "wrong type" else
+    (if code == 4 then codes "wrong number of arguments" else
+    (if code == 5 then codes "not pure" else
+    (if code == 6 then codes "not allowed in a term" else
+    (if code == 7 then codes "a parall body writes an outer name" else
+    (if code == 8 then codes "not allowed in a parall body" else
+    (if code == 9 then codes "misplaced return" else
+    (if code == 10 then codes "cannot be assigned" else
+    (if code == 11 then codes "unknown method" else
+    (if code == 12 then codes "only LS is supported" else
+    [])))))))))))
+
 abbrev pub role_text : FileRole → List ℕ
 role_text Program = codes "cannot read program"
 
@@ -39,15 +56,24 @@ plain_line text = joined (codes "comet: " ∷ text ∷ codes "\n" ∷ [])
 abbrev pub placed_line : Place → List ℕ → List ℕ
 placed_line place text = joined (codes "comet: " ∷ decimal place.line ∷ codes ":" ∷ decimal place.col ∷ codes ": " ∷ text ∷ codes "\n" ∷ [])
 
+-- `L:C`, what stands before a code, the code, a space and the text
+abbrev pub coded_line : Place → List ℕ → ℕ → List ℕ → List ℕ
+coded_line place letter code text =
+    joined (codes "comet: " ∷ decimal place.line ∷ codes ":" ∷ decimal place.col ∷ letter ∷ decimal code ∷ codes " " ∷ text ∷ codes "\n" ∷ [])
+
 -- `L:C: F`, the code, a space and the text
 abbrev pub fault_line : Place → RunFault → List ℕ
-fault_line place fault =
-    joined (codes "comet: " ∷ decimal place.line ∷ codes ":" ∷ decimal place.col ∷ codes ": F" ∷ decimal (code_of fault) ∷ codes " " ∷ text_of fault ∷ codes "\n" ∷ [])
+fault_line place fault = coded_line place (codes ": F") (code_of fault) (text_of fault)
+
+-- `L:C: T`, the code, a space and the text
+abbrev pub type_line : Place → ℕ → List ℕ
+type_line place code = coded_line place (codes ": T") code (type_text code)
 
 abbrev pub line_of : Cause → List ℕ
 line_of causes.Done = []
 line_of causes.Words = plain_line usage_text
 line_of (causes.IllFormed place cause) = placed_line place (form_text cause)
+line_of (causes.IllTyped place code) = type_line place code
 line_of (causes.Run place fault) = fault_line place fault
 line_of causes.NoMemory = plain_line (codes "no memory")
 line_of (causes.Read role) = plain_line (role_text role)

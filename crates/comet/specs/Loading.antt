@@ -16,6 +16,7 @@ use Rattle.std.specs.FinMap as map
 -- why a text has no program: it is refused, or there is no memory
 abbrev pub IsTextStop : List ℕ → Cause → Type 0
 IsTextStop text (causes.IllFormed place form) = Gives text (causes.IllFormed place form) []
+IsTextStop text (causes.IllTyped place code) = Gives text (causes.IllTyped place code) []
 IsTextStop text causes.NoMemory = Unit {0}
 IsTextStop text causes.Done = ⊥
 IsTextStop text causes.Words = ⊥
@@ -36,6 +37,7 @@ IsWhatItGives (Some held) name cause = GivesHeld (map.get held name) cause []
 -- why a program can't be loaded: its text is refused, its file can't be read, or there is no memory
 abbrev pub IsLoadStop : Cause → List ℕ → Option Held → ℕ → ℕ → Type 0
 IsLoadStop (causes.IllFormed place form) name held old new = IsWhatItGives held name (causes.IllFormed place form)
+IsLoadStop (causes.IllTyped place code) name held old new = IsWhatItGives held name (causes.IllTyped place code)
 IsLoadStop causes.NoMemory name held old new = Unit {0}
 IsLoadStop (causes.Read role) name held old new = HasRisen old new
 IsLoadStop causes.Done name held old new = ⊥

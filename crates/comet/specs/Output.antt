@@ -7,7 +7,7 @@ use Rattle.cbl_base.specs.declared.place.Place.{Place}
 use Rattle.comet_syntax.specs.declared.stop.FormCause.{FormCause}
 use Rattle.comet_syntax.specs.declared.program.Declaration.{Declaration}
 use Rattle.comet_syntax.specs.declared.program.Act.{Act}
-use Rattle.comet_front.specs.Reading.{HasProgram, IsIllFormed}
+use Rattle.comet_front.specs.Reading.{HasProgram, IsIllFormed, IsIllTyped}
 use Rattle.stmt_run.specs.Meaning.{meaning_of}
 use Rattle.comet.specs.Status.{cause_of}
 use Rattle.comet.specs.Words.{program_named}
@@ -31,9 +31,18 @@ pub record Refuses (text : List ℕ) (cause : Cause) (printed : List ℕ) : Type
   pub ends : cause ≡ causes.IllFormed place form
   pub prints : printed ≡ []
 
+-- what a text gives whose tree is refused by the rules of types and effects
+pub record RefusesType (text : List ℕ) (cause : Cause) (printed : List ℕ) : Type 0 where
+  pub place : Place
+  pub code : ℕ
+  pub refused : IsIllTyped text place code
+  pub ends : cause ≡ causes.IllTyped place code
+  pub prints : printed ≡ []
+
 pub data Gives (text : List ℕ) (cause : Cause) (printed : List ℕ) : Type 0 where
   runs : Runs text cause printed → Gives text cause printed
   ill_formed : Refuses text cause printed → Gives text cause printed
+  ill_typed : RefusesType text cause printed → Gives text cause printed
 
 -- what a name gives, by what it holds
 abbrev pub GivesHeld : Option (List ℕ) → Cause → List ℕ → Type 0

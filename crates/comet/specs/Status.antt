@@ -9,6 +9,7 @@ abbrev pub status_of : Cause → ℕ
 status_of causes.Done = 0
 status_of causes.Words = 1
 status_of (causes.IllFormed place cause) = 2
+status_of (causes.IllTyped place code) = 3
 status_of (causes.Run place fault) = 5
 status_of causes.NoMemory = 7
 status_of (causes.Read role) = 8

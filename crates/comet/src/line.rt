@@ -2,7 +2,7 @@
 ghost use Rattle.std.specs.Prelude.{◌≡◌, ◌≤◌, OnOk, OnErr, map};
 ghost use Rattle.cbl_io.specs.Appended.{Appends, AppendsFront};
 ghost use Rattle.cbl_io.specs.Faults.{HasRisen};
-ghost use Rattle.comet.specs.Line.{form_text, role_text, joined, plain_line, placed_line, fault_line, line_of};
+ghost use Rattle.comet.specs.Line.{form_text, role_text, type_text, joined, plain_line, placed_line, coded_line, fault_line, type_line, line_of};
 
 use crate::report::{Cause, FileRole};
 use cbl_base::{Place, RunFault};
@@ -27,6 +27,28 @@ fn text_of_form(cause: FormCause) -> &'static str
         FormCause::UnexpectedEnd => "unexpected end of text",
         FormCause::TooDeep => "nested too deeply",
         FormCause::NotBuilt => "not built yet",
+    }
+}
+
+/// The text of the typing rule with this code; none has a code that isn't from 1 to 12.
+#[tactic(auto, unfolding(crate::specs::Line::type_text))]
+fn text_of_type(code: u8) -> &'static str
+    ensures { result.now ≡ type_text code }
+{
+    match code {
+        1 => "unknown name",
+        2 => "name declared twice",
+        3 => "wrong type",
+        4 => "wrong number of arguments",
+        5 => "not pure",
+        6 => "not allowed in a term",
+        7 => "a parall body writes an outer name",
+        8 => "not allowed in a parall body",
+        9 => "misplaced return",
+        10 => "cannot be assigned",
+        11 => "unknown method",
+        12 => "only LS is supported",
+        _ => "",
     }
 }
 
@@ -87,10 +109,10 @@ fn write_placed<E: Sink>(err: &mut E, place: Place, text: &str) -> Result<(), Fa
     Ok(())
 }
 
-/// Writes a line with a place, and the code and the text of a run fault.
-fn write_fault<E: Sink>(err: &mut E, place: Place, fault: RunFault) -> Result<(), Failed>
-    ensures ok { OnOk result (Appends (E.bytes err.old) (E.bytes err.new) (fault_line place fault)) }
-    ensures err { OnErr result (AppendsFront (E.bytes err.old) (E.bytes err.new) (fault_line place fault)) }
+/// Writes a line with a place, a code behind its letter, and a text.
+fn write_coded<E: Sink>(err: &mut E, place: Place, letter: &[u8], code: u8, text: &str) -> Result<(), Failed>
+    ensures ok { OnOk result (Appends (E.bytes err.old) (E.bytes err.new) (coded_line place letter.now code text.now)) }
+    ensures err { OnErr result (AppendsFront (E.bytes err.old) (E.bytes err.new) (coded_line place letter.now code text.now)) }
     ensures failed { OnErr result (HasRisen (E.faults err.old) (E.faults err.new)) }
 {
     let mut line_buffer = Buffer::new();
@@ -98,7 +120,7 @@ fn write_fault<E: Sink>(err: &mut E, place: Place, fault: RunFault) -> Result<()
     let mut code_buffer = Buffer::new();
     let line = line_buffer.format(place.line);
     let col = col_buffer.format(place.col);
-    let code = code_buffer.format(fault.code());
+    let code = code_buffer.format(code);
     write_pieces(
         err,
         &[
@@ -106,13 +128,33 @@ fn write_fault<E: Sink>(err: &mut E, place: Place, fault: RunFault) -> Result<()
             line.as_bytes(),
             b":",
             col.as_bytes(),
-            b": F",
+            letter,
             code.as_bytes(),
             b" ",
-            fault.text().as_bytes(),
+            text.as_bytes(),
             b"\n",
         ],
     )?;
+    Ok(())
+}
+
+/// Writes a line with a place, and the code and the text of a run fault.
+fn write_fault<E: Sink>(err: &mut E, place: Place, fault: RunFault) -> Result<(), Failed>
+    ensures ok { OnOk result (Appends (E.bytes err.old) (E.bytes err.new) (fault_line place fault)) }
+    ensures err { OnErr result (AppendsFront (E.bytes err.old) (E.bytes err.new) (fault_line place fault)) }
+    ensures failed { OnErr result (HasRisen (E.faults err.old) (E.faults err.new)) }
+{
+    write_coded(err, place, b": F", fault.code(), fault.text())?;
+    Ok(())
+}
+
+/// Writes a line with a place, and the code and the text of a typing rule.
+fn write_type<E: Sink>(err: &mut E, place: Place, code: u8) -> Result<(), Failed>
+    ensures ok { OnOk result (Appends (E.bytes err.old) (E.bytes err.new) (type_line place code)) }
+    ensures err { OnErr result (AppendsFront (E.bytes err.old) (E.bytes err.new) (type_line place code)) }
+    ensures failed { OnErr result (HasRisen (E.faults err.old) (E.faults err.new)) }
+{
+    write_coded(err, place, b": T", code, text_of_type(code))?;
     Ok(())
 }
 
@@ -126,6 +168,7 @@ fn write_line<E: Sink>(cause: &Cause, err: &mut E) -> Result<(), Failed>
         Cause::Done => Ok(()),
         Cause::Words => write_plain(err, USAGE),
         Cause::IllFormed(place, form) => write_placed(err, place, text_of_form(form)),
+        Cause::IllTyped(place, code) => write_type(err, place, code),
         Cause::Run(place, fault) => write_fault(err, place, fault),
         Cause::NoMemory => write_plain(err, "no memory"),
         Cause::Read(role) => write_plain(err, text_of_role(role)),

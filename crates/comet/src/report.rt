@@ -21,6 +21,8 @@ pub enum Cause {
     Words,
     /// The program's text is refused at this place.
     IllFormed(Place, FormCause),
+    /// A part of the program's tree at this place is refused by the rule of this code, 1 to 12.
+    IllTyped(Place, u8),
     /// A fault of the run at this place.
     Run(Place, RunFault),
     NoMemory,
@@ -38,8 +40,8 @@ pub struct Report {
 }
 
 impl Cause {
-    /// The status of a run that ends so: 0 done, 1 words, 2 ill formed, 5 a run fault, 7 no memory,
-    /// 8 a file can't be read, 9 the output can't be written.
+    /// The status of a run that ends so: 0 done, 1 words, 2 ill formed, 3 ill typed, 5 a run fault,
+    /// 7 no memory, 8 a file can't be read, 9 the output can't be written.
     pub fn status(self) -> u8
         ensures { result ≡ status_of self }
     {
@@ -47,6 +49,7 @@ impl Cause {
             Cause::Done => 0,
             Cause::Words => 1,
             Cause::IllFormed(..) => 2,
+            Cause::IllTyped(..) => 3,
             Cause::Run(..) => 5,
             Cause::NoMemory => 7,
             Cause::Read(_) => 8,

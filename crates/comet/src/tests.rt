@@ -130,7 +130,7 @@ fn overflow_ends_the_run(rt: HostRuntime) -> Result<(), Fail> {
 
 #[test]
 fn what_is_not_small_is_refused(rt: HostRuntime) -> Result<(), Fail> {
-    for text in ["cout << 1;", "Solver<LS> m(); m.close(); x := 1;"] {
+    for text in ["cout << 1;", "Solver<LS> m(); m.close(); int x = 1;"] {
         let left = run_text(rt.alloc(), text.as_bytes())?;
         assert_eq!(rt; left.report.status, 2, "{text}");
         assert_eq!(rt;
@@ -187,7 +187,7 @@ const ILL_FORMED: [(&[u8], u32, u32, FormCause, &str); 9] = [
         "comet: 1:14: unexpected end of text\n",
     ),
     (
-        b"x = 1;\n\n",
+        b"int x = 1;\n\n",
         1,
         1,
         FormCause::NotBuilt,
@@ -228,6 +228,44 @@ fn tells_why_a_text_is_refused(rt: HostRuntime) -> Result<(), Fail> {
         Cause::IllFormed(PLACE, FormCause::TooLong)
     );
     assert!(rt; left.err.bytes() == b"comet: 1:1: text too long\n".as_slice());
+    Ok(())
+}
+
+/// Texts whose types or effects are refused, and the lines that tell why.
+const ILL_TYPED: [(&str, u32, u32, u8, &str); 4] = [
+    ("x = 1;", 1, 1, 1, "comet: 1:1: T1 unknown name\n"),
+    (
+        "Solver<LS> m(); var{int} x(m); m.close();\nx := {1};",
+        2,
+        1,
+        3,
+        "comet: 2:1: T3 wrong type\n",
+    ),
+    (
+        "int t = 0; parall(i in 1..2) t = i;",
+        1,
+        30,
+        7,
+        "comet: 1:30: T7 a parall body writes an outer name\n",
+    ),
+    (
+        "Solver<CP> m();",
+        1,
+        1,
+        12,
+        "comet: 1:1: T12 only LS is supported\n",
+    ),
+];
+
+#[test]
+fn tells_which_part_is_ill_typed(rt: HostRuntime) -> Result<(), Fail> {
+    for (text, line, col, code, said) in ILL_TYPED {
+        let left = run_text(rt.alloc(), text.as_bytes())?;
+        assert_eq!(rt; left.report.status, 3, "{said}");
+        assert_eq!(rt; left.report.cause, Cause::IllTyped(Place { line, col }, code));
+        assert!(rt; left.err.bytes() == said.as_bytes(), "{said}");
+        assert!(rt; left.sink.bytes().is_empty());
+    }
     Ok(())
 }
 

@@ -127,6 +127,7 @@ fn program_of(alloc: Global, text: &[u8]) -> Result<SmallProgram, Cause>
     match read_program(alloc, text) {
         Ok(program) => Ok(program),
         Err(TextStop::Fault(place, form)) => Err(Cause::IllFormed(place, form)),
+        Err(TextStop::IllTyped(place, code)) => Err(Cause::IllTyped(place, code)),
         Err(TextStop::NoMemory) => Err(Cause::NoMemory),
     }
 }

@@ -1,3 +1,4 @@
 pub mod Few
 pub mod Found
 pub mod OneReading
+pub mod TypeStops

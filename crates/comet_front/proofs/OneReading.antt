@@ -1,4 +1,4 @@
--- A text is one small program, or refused at one place for one cause.
+-- A text is at most one small program, or its form is refused at one place for one cause, or its types are.
 use Rattle.std.specs.Prelude.{◌≡◌, ℕ, List, Option, Some, None}
 use Rattle.std.proofs.Common.{sym, ◌∙◌, ap, subst}
 use Rattle.cbl_base.specs.declared.place.Place.{Place}
@@ -14,7 +14,9 @@ use Rattle.parse_unique.specs.Bare.{SameProgram, bare_program}
 use Rattle.parse_unique.proofs.Programs.{same_program, at_any_depth}
 use Rattle.parse_unique.proofs.Refusals.{one_refusal, not_spelled}
 use Rattle.comet_small.specs.Small.{small_program}
-use Rattle.comet_front.specs.Reading.{IsSmall, HasTree, HasProgram, place_left, HasNoTree, IsNotBuilt, IsIllFormed, no_tokens, no_tree, not_built}
+use Rattle.comet_types.specs.Program.{Verdict, judged, accepted, refused}
+use Rattle.type_trees.proofs.Programs.{judged_alike}
+use Rattle.comet_front.specs.Reading.{IsTyped, IsSmall, HasTree, HasProgram, place_left, HasNoTree, IsNotBuilt, IsIllTyped, IsIllFormed, no_tokens, no_tree, not_built}
 
 -- programs that are the same are the same small program
 small_alike : (p q : Program) (ds : List Declaration) (acts : List Act) → SameProgram p q → IsSmall p ds acts → IsSmall q ds acts
@@ -74,3 +76,29 @@ not_both text ds acts place cause a (no_tokens f) = list_no_fault a.has.listed f
 not_both text ds acts place cause a (no_tree r) = tree_not_refused text a.program place cause a.has r
 not_both text ds acts place cause a (not_built r) =
     small_not_none r.program ds acts (small_alike a.program r.program ds acts (trees_alike text a.program r.program a.has r.has) a.small) r.not_small
+
+-- verdicts
+abbrev place_or : Place → Verdict → Place
+place_or other (accepted w) = other
+place_or other (refused place code) = place
+
+abbrev code_or : ℕ → Verdict → ℕ
+code_or other (accepted w) = other
+code_or other (refused place code) = code
+
+-- a tree isn't both accepted and refused
+not_typed : (p q : Program) (place : Place) (code : ℕ) → SameProgram p q → IsTyped p → judged q ≡ refused place code → ⊥
+not_typed p q place code same t r = let e : accepted t.checked ≡ refused place code = sym t.is ∙ (judged_alike p q same ∙ r) in absurd cc
+
+pub one_typing : (text : List ℕ) (place other : Place) (code another : ℕ) → IsIllTyped text place code → IsIllTyped text other another → (place ≡ other) × (code ≡ another)
+one_typing text place other code another a b =
+    let e : refused place code ≡ refused other another = sym a.not_typed ∙ (judged_alike a.program b.program (trees_alike text a.program b.program a.has b.has) ∙ b.not_typed) in
+    (ap (place_or place) e, ap (code_or code) e)
+
+pub not_typed_program : (text : List ℕ) (ds : List Declaration) (acts : List Act) (place : Place) (code : ℕ) → HasProgram text ds acts → IsIllTyped text place code → ⊥
+not_typed_program text ds acts place code a b = not_typed a.program b.program place code (trees_alike text a.program b.program a.has b.has) a.typed b.not_typed
+
+pub not_formed : (text : List ℕ) (place other : Place) (cause : FormCause) (code : ℕ) → IsIllFormed text place cause → IsIllTyped text other code → ⊥
+not_formed text place other cause code (no_tokens f) b = list_no_fault b.has.listed f
+not_formed text place other cause code (no_tree r) b = tree_not_refused text b.program place cause b.has r
+not_formed text place other cause code (not_built r) b = not_typed r.program b.program other code (trees_alike text r.program b.program r.has b.has) r.typed b.not_typed

@@ -1,4 +1,4 @@
-//! From a text to the small program that it is, or its refusal.
+//! From a text to the small program that it is, or its refusal: by its form, or by the rules of types and effects.
 //!
 //! It knows nothing of files, nor of what a program means. The layers above use that a text is one small
 //! program or is refused at one place for one cause.

@@ -3,12 +3,13 @@ ghost use Rattle.std.specs.Prelude.{◌≡◌, ◌≤◌, List, length, drop, If
 ghost use Rattle.comet_syntax.specs.declared.limits.TheConstants.{MOST_BYTES};
 ghost use Rattle.comet_syntax.specs.Tokens.TokenList.{HasTokens};
 ghost use Rattle.comet_parse.specs.Refusals.{IsRefusal};
-ghost use Rattle.comet_front.specs.Reading.{HasProgram, HasTree, IsTextStop, place_left};
+ghost use Rattle.comet_front.specs.Reading.{HasProgram, HasTree, IsSmall, IsSmallStop, IsTextStop, IsTyped, IsTypeStop, place_left};
 
 use crate::stop::TextStop;
 use cbl_base::Place;
 use comet_parse::{ParseStop, parse};
 use comet_small::small_of;
+use comet_types::{CheckStop, check};
 use comet_syntax::tree::Program;
 use comet_syntax::{FormCause, LexStop, SmallProgram, SmallStop, Token, lex, place_behind};
 use std::alloc::Global;
@@ -16,17 +17,40 @@ use std::alloc::Global;
 /// The place of a text's first byte.
 const FIRST_PLACE: Place = Place { line: 1, col: 1 };
 
-/// The small program that a text is. `Fault` exactly where it is refused, at its place and for its
-/// cause; `NoMemory` where there was none.
+/// The small program that a text is. `Fault` exactly where its form is refused, or where it is well typed and
+/// not small; `IllTyped` exactly where a part of its tree is refused by the rules of types and effects; each at
+/// its place and for its cause. `NoMemory` where there was none.
 pub fn read_program(alloc: Global, text: &[u8]) -> Result<SmallProgram, TextStop>
     ensures found { IfOk result (λ program. HasProgram text.now program.declarations.items program.acts.items) }
     ensures refused { IfErr result (IsTextStop text.now) }
 {
     let program = read_tree(alloc, text)?;
-    match small_of(alloc, &program) {
+    let small = small_in(alloc, &program);
+    check_types(alloc, program)?;
+    small
+}
+
+/// The small program that a tree is.
+fn small_in(alloc: Global, program: &Program) -> Result<SmallProgram, TextStop>
+    ensures found { IfOk result (λ small. IsSmall program.now small.declarations.items small.acts.items) }
+    ensures refused { IfErr result (IsSmallStop program.now) }
+{
+    match small_of(alloc, program) {
         Ok(small) => Ok(small),
         Err(SmallStop::NotSmall) => Err(TextStop::Fault(FIRST_PLACE, FormCause::NotBuilt)),
         Err(SmallStop::NoMemory) => Err(TextStop::NoMemory),
+    }
+}
+
+/// Checks a tree by the rules of types and effects.
+fn check_types(alloc: Global, program: Program) -> Result<(), TextStop>
+    ensures typed { IfOk result (λ _. IsTyped program) }
+    ensures refused { IfErr result (IsTypeStop program) }
+{
+    match check(alloc, program) {
+        Ok(_) => Ok(()),
+        Err(CheckStop::Fault(place, code)) => Err(TextStop::IllTyped(place, code)),
+        Err(CheckStop::NoMemory) => Err(TextStop::NoMemory),
     }
 }
 

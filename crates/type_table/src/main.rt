@@ -9,9 +9,8 @@ use comet_parse::parse;
 use comet_syntax::{MOST_BYTES, lex};
 use comet_types::{CheckStop, check};
 use std::alloc::Global;
-use std::env;
-use std::fs;
 use std::process::ExitCode;
+use table_file::{Stop, status_of, table_of};
 
 /// What is said of a program.
 #[derive(Clone, Copy, PartialEq, Eq, Debug)]
@@ -101,36 +100,30 @@ fn said_of(alloc: Global, program: &[u8]) -> Said {
     }
 }
 
-/// The word that names the table.
-fn word(rt: &HostRuntime) -> Option<String> {
-    let words = env::args(rt).ok()?;
-    let words = words.skip(1).collect::<Vec<String>>(rt.alloc()).ok()?;
-    words.into_iter().next()
-}
-
-fn main(rt: HostRuntime) -> ExitCode {
-    let Some(name) = word(&rt) else {
-        return ExitCode::from(2);
-    };
-    let Ok(table) = fs::read_to_string(&rt, name.as_str()) else {
-        return ExitCode::from(3);
-    };
-    let mut rows: usize = 0;
-    let mut differ: usize = 0;
-    for line in table.as_str().lines() {
-        let Ok(row) = row_of(rt.alloc(), line) else {
-            return ExitCode::FAILURE;
-        };
-        let Some(row) = row else {
+/// Checks each program, prints what differs, and says whether nothing does.
+fn check_table<R: Print + AllocGlobal>(rt: &R, table: &str) -> Result<bool, Stop> {
+    let alloc = rt.alloc();
+    let mut rows = 0u32;
+    let mut differ = 0u32;
+    for line in table.lines() {
+        let Some(row) = row_of(alloc, line)? else {
             continue;
         };
         rows = rows.saturating_add(1);
-        let said = said_of(rt.alloc(), row.program.as_slice());
+        let said = said_of(alloc, row.program.as_slice());
         if said != row.said {
             differ = differ.saturating_add(1);
-            let _ = println!(rt; "{line}: {said:?}");
+            println!(rt; "{line}: {said:?}")?;
         }
     }
-    let _ = println!(rt; "{rows} rows, {differ} differ");
-    ExitCode::SUCCESS
+    println!(rt; "{rows} rows, {differ} differ")?;
+    Ok(differ == 0)
+}
+
+fn main(rt: HostRuntime) -> ExitCode {
+    let good = match table_of(&rt) {
+        Ok(table) => check_table(&rt, table.as_str()),
+        Err(stop) => Err(stop),
+    };
+    status_of(good)
 }

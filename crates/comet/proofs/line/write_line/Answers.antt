@@ -1,0 +1,7 @@
+use Rattle.comet.proofs.line.write_line.Goals as goal
+
+pub returns-in-IllTyped-clause-ok : goal.returns-in-IllTyped-clause-ok
+returns-in-IllTyped-clause-ok g c = rw c.in-IllTyped.is c.write_type.ensures.ok
+
+pub returns-in-IllTyped-clause-err : goal.returns-in-IllTyped-clause-err
+returns-in-IllTyped-clause-err g c = rw c.in-IllTyped.is c.write_type.ensures.err
