@@ -110,7 +110,13 @@ fn write_placed<E: Sink>(err: &mut E, place: Place, text: &str) -> Result<(), Fa
 }
 
 /// Writes a line with a place, a code behind its letter, and a text.
-fn write_coded<E: Sink>(err: &mut E, place: Place, letter: &[u8], code: u8, text: &str) -> Result<(), Failed>
+fn write_coded<E: Sink>(
+    err: &mut E,
+    place: Place,
+    letter: &[u8],
+    code: u8,
+    text: &str,
+) -> Result<(), Failed>
     ensures ok { OnOk result (Appends (E.bytes err.old) (E.bytes err.new) (coded_line place letter.now code text.now)) }
     ensures err { OnErr result (AppendsFront (E.bytes err.old) (E.bytes err.new) (coded_line place letter.now code text.now)) }
     ensures failed { OnErr result (HasRisen (E.faults err.old) (E.faults err.new)) }

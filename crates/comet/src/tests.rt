@@ -262,7 +262,10 @@ fn tells_which_part_is_ill_typed(rt: HostRuntime) -> Result<(), Fail> {
     for (text, line, col, code, said) in ILL_TYPED {
         let left = run_text(rt.alloc(), text.as_bytes())?;
         assert_eq!(rt; left.report.status, 3, "{said}");
-        assert_eq!(rt; left.report.cause, Cause::IllTyped(Place { line, col }, code));
+        assert_eq!(rt;
+            left.report.cause,
+            Cause::IllTyped(Place { line, col }, code)
+        );
         assert!(rt; left.err.bytes() == said.as_bytes(), "{said}");
         assert!(rt; left.sink.bytes().is_empty());
     }

@@ -9,9 +9,9 @@ use crate::stop::TextStop;
 use cbl_base::Place;
 use comet_parse::{ParseStop, parse};
 use comet_small::small_of;
-use comet_types::{CheckStop, check};
 use comet_syntax::tree::Program;
 use comet_syntax::{FormCause, LexStop, SmallProgram, SmallStop, Token, lex, place_behind};
+use comet_types::{CheckStop, check};
 use std::alloc::Global;
 
 /// The place of a text's first byte.

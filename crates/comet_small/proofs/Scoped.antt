@@ -86,8 +86,8 @@ declared_first solver variables part =
     if_then (declared_as solver variables) (λ new. NamesFirst (length variables) new.declaration) (λ p. Unit {0})
     (option_and_then variable_in (declaration_in part)) (anything (option_and_then variable_in (declaration_in part)))
     (λ p q. if_tested (λ new. NamesFirst (length variables) new.declaration) (bytes_eq p.solver solver && is_new solver variables p.name)
-      (option_map (new_variable p.name) (start_of variables p.start)) None
-      (if_map_from (new_variable p.name) (λ new. NamesFirst (length variables) new.declaration) (NamesFirst (length variables)) (start_of variables p.start) (start_first variables p.start) (λ d h. h)) tt)
+    (option_map (new_variable p.name) (start_of variables p.start)) None
+    (if_map_from (new_variable p.name) (λ new. NamesFirst (length variables) new.declaration) (NamesFirst (length variables)) (start_of variables p.start) (start_first variables p.start) (λ d h. h)) tt)
   where
     anything : {A : Type 0} (o : Option A) → IfSome o (λ x. Unit {0})
     anything None = tt
@@ -108,10 +108,10 @@ behind_scoped solver variables (bares.more part parts) =
     (option_and_then (λ new. option_map (with_declaration new.declaration) (behind_solver solver (with_variable variables new) parts)) (declared solver variables part))
     (if_map with_no_declaration (ScopedBehind (length variables)) (each (part_acts variables) parts) (λ acts. tt))
     (if_then (λ new. option_map (with_declaration new.declaration) (behind_solver solver (with_variable variables new) parts)) (ScopedBehind (length variables))
-      (λ new. NamesFirst (length variables) new.declaration) (declared solver variables part) (declared_first solver variables part)
-      (λ new h. if_map_from (with_declaration new.declaration) (ScopedBehind (length variables)) (ScopedBehind (length variables + 1)) (behind_solver solver (with_variable variables new) parts)
-        (subst (λ n. IfSome (behind_solver solver (with_variable variables new) parts) (ScopedBehind n)) (one_longer new) (behind_scoped solver (with_variable variables new) parts))
-        (λ program s. scoped_in_front (length variables) new.declaration program h s)))
+    (λ new. NamesFirst (length variables) new.declaration) (declared solver variables part) (declared_first solver variables part)
+    (λ new h. if_map_from (with_declaration new.declaration) (ScopedBehind (length variables)) (ScopedBehind (length variables + 1)) (behind_solver solver (with_variable variables new) parts)
+    (subst (λ n. IfSome (behind_solver solver (with_variable variables new) parts) (ScopedBehind n)) (one_longer new) (behind_scoped solver (with_variable variables new) parts))
+    (λ program s. scoped_in_front (length variables) new.declaration program h s)))
   where
     one_longer : (new : NewVariable) → length (with_variable variables new) ≡ length variables + 1
     one_longer new = length-append variables (record { name = new.name; is_free = Rattle.comet_small.specs.Small.is_free new.declaration } ∷ [])

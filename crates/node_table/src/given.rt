@@ -1,8 +1,8 @@
 //! Numbers and lists of numbers, as a table has them: `5`, `MIN`, `[1,2,2]`, `[]`.
 
-use table_file::Stop;
 use cbl_base::{Input, IntSet, Numbers};
 use std::alloc::Global;
+use table_file::Stop;
 
 /// A number, or a list of numbers.
 #[derive(Drop)]

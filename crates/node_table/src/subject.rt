@@ -1,11 +1,11 @@
 //! What a line of a table names: an operation, a constraint, or a node of no operation.
 
 use crate::given::Given;
-use table_file::Stop;
 use cbl_base::{Input, IntSet, Numbers};
 use cbl_operations::Op;
 use node_states::plain_operation;
 use std::alloc::Global;
+use table_file::Stop;
 
 /// What a node computes.
 #[derive(Drop)]

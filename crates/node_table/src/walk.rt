@@ -6,7 +6,6 @@ ghost use Rattle.cbl_base.specs.Inputs.{kinds_of};
 use crate::answers::{probed_text, told_of_node};
 use crate::from_scratch::told_from_scratch;
 use crate::given::{givens, inputs_of};
-use table_file::Stop;
 use crate::subject::{Subject, subject_of};
 use crate::zeros::NoZeros;
 use cbl_base::{Change, Input, NodeRule};
@@ -14,6 +13,7 @@ use cbl_operations::Op;
 use node_kinds::{Kind, KindOf, copy_of};
 use node_states::{Places, are_numbers, are_so_many, changes_between, takes};
 use std::alloc::Global;
+use table_file::Stop;
 use user_constraint::UserConstraint;
 
 /// How many inputs a node of a table has at most.

@@ -1,9 +1,9 @@
 //! Bytes, as a table has them: what stands between two ` is an end of a line, a tab, a byte in hexadecimal
 //! digits, or a part again and again.
 
-use table_file::Stop;
 use cbl_base::NoMemory;
 use std::alloc::Global;
+use table_file::Stop;
 
 /// The bytes that a line of a table stands for.
 pub(crate) fn bytes_of(alloc: Global, line: &str) -> Result<Vec<u8>, Stop> {

@@ -1,0 +1,9 @@
+pub mod GoingOn
+pub mod GoingParts
+pub mod GoingExpressions
+pub mod GoingStatements
+pub mod Spending
+pub mod SpendingForms
+pub mod SpendingPrograms
+pub mod Computing
+pub mod Turns

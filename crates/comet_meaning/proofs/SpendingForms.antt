@@ -1,0 +1,374 @@
+-- Pure expressions only spend fuel where the pure parts in them do.
+use Rattle.std.proofs.Common.{◌≡◌, refl, sym, ℕ, ℤ, pos, Bool, true, false, not, ◌&&◌, List, [], ◌∷◌, ◌++◌, Option, Some, None, slice_get, slice_index_or, subst}
+use Rattle.cbl_base.specs.declared.place.Place.{Place}
+use Rattle.comet_syntax.specs.declared.tree.expressions.ChainOperator.{ChainOperator}
+use Rattle.comet_syntax.specs.declared.tree.expressions.ChainOperator.TheVariants as chains
+use Rattle.comet_syntax.specs.declared.tree.expressions.Comparison.{Comparison}
+use Rattle.comet_syntax.specs.declared.tree.expressions.UnaryOperator.{UnaryOperator}
+use Rattle.comet_syntax.specs.declared.tree.expressions.UnaryOperator.TheVariants as unaries
+use Rattle.comet_syntax.specs.declared.tree.expressions.Aggregate.{Aggregate}
+use Rattle.comet_syntax.specs.declared.tree.expressions.Aggregate.TheVariants as aggregates
+use Rattle.checked_tree.specs.declared.kind.Kind.{Kind}
+use Rattle.checked_tree.specs.declared.kind.Kind.TheVariants as kinds
+use Rattle.checked_tree.specs.declared.expressions.Builtin.{Builtin}
+use Rattle.checked_tree.specs.declared.expressions.Builtin.TheVariants as builtins
+use Rattle.checked_tree.specs.declared.expressions.Method.{Method}
+use Rattle.checked_tree.specs.declared.expressions.Method.TheVariants as methods
+use Rattle.checked_tree.specs.declared.expressions.Slot.{Slot}
+use Rattle.checked_tree.specs.declared.expressions.Slot.TheVariants.{Global, Local}
+use Rattle.checked_tree.specs.Shape as shapes
+use Rattle.checked_tree.specs.Shape.{Shape, Seen, whole}
+use Rattle.checked_tree.specs.Actions as deeds
+use Rattle.checked_tree.specs.Tasks as works
+use Rattle.checked_tree.specs.Tasks.{Work, Coded}
+use Rattle.type_rules.specs.Rows.{method_row}
+use Rattle.comet_meaning.specs.Values.{Value, bounds_of, size_of}
+use Rattle.comet_meaning.specs.Terms.{Term, joined}
+use Rattle.comet_meaning.specs.Solvers.{SolverState}
+use Rattle.comet_meaning.specs.Outcome.{Act, always}
+use Rattle.comet_meaning.specs.Cells.{put}
+use Rattle.comet_meaning.specs.Levels.{Code, Level}
+use Rattle.comet_meaning.specs.Parts.{items, variable_value, read, value, number, truth, condition, values, is_defined}
+use Rattle.comet_meaning.specs.Operators.{unary_result, unary_form, compare_form, decides, linked, link_form, links_form, chain_form, range_form, conditional_form}
+use Rattle.comet_meaning.specs.Arrays.{list_form, index_form, cell_form, taken_whole, count_form}
+use Rattle.comet_meaning.specs.Generators.{Bound, with_bound, bind, generated, each_tuple}
+use Rattle.comet_meaning.specs.Builtins.{builtin_value, builtin_form}
+use Rattle.comet_meaning.specs.Aggregates.{Element, with_element, element_form, aggregate_value, aggregate_form}
+use Rattle.comet_meaning.specs.Methods.{fitting_number, method_value, method_form}
+use Rattle.comet_meaning.specs.Purity.{is_pure, is_local, returned_by}
+use Rattle.comet_meaning.specs.Calls.{argument_form, arguments_form, body_form, called, call_form}
+use Rattle.comet_meaning.specs.Expressions.{set_form, value_of_form, value_of_expression}
+use Rattle.comet_meaning.specs.TermForms.{joined_form, moving_term, term_of_expression}
+use Rattle.comet_meaning.specs.Spending.{OnlySpends, OnlyBinds}
+use Rattle.comet_meaning.proofs.Spending.{binds, spends_then, binds_then, spends_give, spends_fault, spends_if, spends_give_or, spends_give_or_met, spends_unless, spends_charge, spends_at, binds_each_in, spends_look, binds_put, spends_in_scope, binds_in_frame, spends_cells, spends_found_at}
+
+pub and_left : (a b : Bool) → (a && b) ≡ true → a ≡ true
+and_left true b e = refl
+and_left false b e = e
+
+pub and_right : (a b : Bool) → (a && b) ≡ true → b ≡ true
+and_right true b e = e
+and_right false b e = (let no : false ≡ true = e in absurd cc)
+
+-- the pure parts that are one level further in only spend fuel, and so do bodies that return a pure expression
+pub record LevelSpends (known : List Bool) (l : Level) : Type 0 where
+  pub expr : (e : Shape) → is_pure known e ≡ true → OnlySpends (l.expr e)
+  pub term : (e : Shape) → is_pure known e ≡ true → OnlySpends (l.term e)
+  pub returns : (at : Place) (e : Seen) → is_pure known (whole e) ≡ true → OnlySpends (l.stmt (works.task at (works.action (deeds.returning (Some e)))))
+  pub body : (w : Work) (e : Seen) → returned_by w ≡ Some e → is_pure known (whole e) ≡ true → OnlySpends (l.stmt w)
+
+-- all of these are pure
+abbrev pub AllPure : List Bool → List Shape → Type 0
+AllPure known [] = Unit {0}
+AllPure known (e ∷ es) = (is_pure known e ≡ true) × AllPure known es
+
+pub items_pure : (known : List Bool) (es : Shape) → is_pure known es ≡ true → AllPure known (items es)
+items_pure known (shapes.more x xs) p = (and_left (is_pure known x) (is_pure known xs) p, items_pure known xs (and_right (is_pure known x) (is_pure known xs) p))
+items_pure known e p = tt
+
+-- reading
+
+spends_variable_value : (at : Place) (x : ℕ) (m : SolverState) → OnlySpends (variable_value at x m)
+unfolding variable_value
+spends_variable_value at x m = spends_if m.closed (spends_give_or_met _) (spends_if (is_defined m x) spends_fault spends_give)
+
+spends_read : (at : Place) (v : Value) → OnlySpends (read at v)
+unfolding read
+spends_read at (Value.Variable x) = spends_at (λ s. spends_variable_value at x.index _)
+spends_read at v = spends_give
+
+spends_value : (k : List Bool) (l : Level) → LevelSpends k l → (e : Shape) → is_pure k e ≡ true → OnlySpends (value l e)
+unfolding value
+spends_value k l h e p = spends_then (h.expr e p) (λ v. spends_read _ v)
+
+spends_number : (k : List Bool) (l : Level) → LevelSpends k l → (e : Shape) → is_pure k e ≡ true → OnlySpends (number l e)
+unfolding number
+spends_number k l h e p = spends_then (spends_value k l h e p) (λ v. spends_give)
+
+spends_truth : (k : List Bool) (l : Level) → LevelSpends k l → (e : Shape) → is_pure k e ≡ true → OnlySpends (truth l e)
+unfolding truth
+spends_truth k l h e p = spends_then (spends_value k l h e p) (λ v. spends_give)
+
+spends_condition : (k : List Bool) (l : Level) → LevelSpends k l → (e : Shape) → is_pure k e ≡ true → OnlySpends (condition l e)
+unfolding condition
+spends_condition k l h shapes.left_out p = spends_give
+spends_condition k l h e p = spends_truth k l h e p
+
+spends_values : (k : List Bool) (l : Level) → LevelSpends k l → (es : List Shape) (vs : List Value) → AllPure k es → OnlySpends (values l es vs)
+unfolding values
+spends_values k l h [] vs p = spends_give
+spends_values k l h (e ∷ es) vs p = spends_then (spends_value k l h e p.0) (λ v. spends_values k l h es (vs ++ v ∷ []) p.1)
+
+-- operators
+
+spends_unary_result : (at : Place) (o : UnaryOperator) (v : Value) → OnlySpends (unary_result at o v)
+spends_unary_result at unaries.Negative v = spends_then (spends_give_or at _) (λ z. spends_give)
+spends_unary_result at unaries.Not v = spends_give
+
+spends_unary : (k : List Bool) (l : Level) → LevelSpends k l → (at : Place) (o : UnaryOperator) (e : Shape) → is_pure k e ≡ true → OnlySpends (unary_form l at o e)
+unfolding unary_form
+spends_unary k l h at o e p = spends_then (spends_value k l h e p) (λ v. spends_unary_result at o v)
+
+spends_compare : (k : List Bool) (l : Level) → LevelSpends k l → (c : Comparison) (a b : Shape) → is_pure k a ≡ true → is_pure k b ≡ true → OnlySpends (compare_form l c a b)
+unfolding compare_form
+spends_compare k l h c a b p q = spends_then (spends_number k l h a p) (λ x. spends_then (spends_number k l h b q) (λ y. spends_give))
+
+spends_linked : (at : Place) (o : ChainOperator) (v w : Value) → OnlySpends (linked at o v w)
+spends_linked at chains.Or v w = spends_give
+spends_linked at chains.And v w = spends_give
+spends_linked at o v w = spends_then (spends_give_or at _) (λ z. spends_give)
+
+spends_link : (k : List Bool) (l : Level) → LevelSpends k l → (at : Place) (o : ChainOperator) (e : Shape) (v : Value) → is_pure k e ≡ true → OnlySpends (link_form l at o e v)
+unfolding link_form
+spends_link k l h at o e v p = spends_if (decides o v) spends_give (spends_then (spends_value k l h e p) (λ w. spends_linked at o v w))
+
+spends_links : (k : List Bool) (l : Level) → LevelSpends k l → (links : List Shape) (v : Value) → AllPure k links → OnlySpends (links_form l links v)
+unfolding links_form
+spends_links k l h [] v p = spends_give
+spends_links k l h (shapes.link o at e ∷ links) v p = spends_then (spends_link k l h at o e v p.0) (λ w. spends_links k l h links w p.1)
+spends_links k l h (x ∷ links) v p = spends_links k l h links v p.1
+
+spends_chain : (k : List Bool) (l : Level) → LevelSpends k l → (first : Shape) (links : List Shape) → is_pure k first ≡ true → AllPure k links → OnlySpends (chain_form l first links)
+unfolding chain_form
+spends_chain k l h first links p q = spends_then (spends_value k l h first p) (λ v. spends_links k l h links v q)
+
+spends_range : (k : List Bool) (l : Level) → LevelSpends k l → (a b : Shape) → is_pure k a ≡ true → is_pure k b ≡ true → OnlySpends (range_form l a b)
+unfolding range_form
+spends_range k l h a b p q = spends_then (spends_number k l h a p) (λ x. spends_then (spends_number k l h b q) (λ y. spends_give))
+
+spends_conditional : (k : List Bool) (l : Level) → LevelSpends k l → (kind : Kind) (c a b : Shape) → is_pure k c ≡ true → is_pure k a ≡ true → is_pure k b ≡ true → OnlySpends (conditional_form l kind c a b)
+unfolding conditional_form
+spends_conditional k l h kind c a b p q r =
+    spends_then (spends_truth k l h c p) (λ t. spends_then (spends_if t (spends_value k l h a q) (spends_value k l h b r)) (λ v. spends_give))
+
+-- arrays
+
+spends_list : (k : List Bool) (l : Level) → LevelSpends k l → (es : List Shape) → AllPure k es → OnlySpends (list_form l es)
+unfolding list_form
+spends_list k l h es p = spends_then (spends_values k l h es [] p) (λ vs. spends_give)
+
+spends_index : (k : List Bool) (l : Level) → LevelSpends k l → (at : Place) (a i : Shape) → is_pure k a ≡ true → is_pure k i ≡ true → OnlySpends (index_form l at a i)
+unfolding index_form
+spends_index k l h at a i p q =
+    spends_then (spends_value k l h a p) (λ v. spends_then (spends_number k l h i q) (λ z. spends_then (spends_cells v) (λ c. spends_then (spends_found_at at _) (λ n. spends_give))))
+
+spends_cell : (k : List Bool) (l : Level) → LevelSpends k l → (at : Place) (a i j : Shape) → is_pure k a ≡ true → is_pure k i ≡ true → is_pure k j ≡ true → OnlySpends (cell_form l at a i j)
+unfolding cell_form
+spends_cell k l h at a i j p q r =
+    spends_then (spends_value k l h a p) (λ v. spends_then (spends_number k l h i q) (λ y. spends_then (spends_number k l h j r) (λ z. spends_then (spends_cells v) (λ c. spends_then (spends_found_at at _) (λ n. spends_give)))))
+
+spends_taken_whole : (at : Place) (v : Value) → OnlySpends (taken_whole at v)
+unfolding taken_whole
+spends_taken_whole at v = spends_then (spends_cells v) (λ c. spends_then (spends_charge _ at) (λ _. spends_give))
+
+spends_count : (k : List Bool) (l : Level) → LevelSpends k l → (at : Place) (a e : Shape) → is_pure k a ≡ true → is_pure k e ≡ true → OnlySpends (count_form l at a e)
+unfolding count_form
+spends_count k l h at a e p q =
+    spends_then (spends_value k l h a p) (λ v. spends_then (spends_number k l h e q) (λ z. spends_then (spends_charge 1 at) (λ _. spends_then (spends_taken_whole _ v) (λ xs. spends_give))))
+
+spends_set : (k : List Bool) (l : Level) → LevelSpends k l → (es : List Shape) → AllPure k es → OnlySpends (set_form l es)
+unfolding set_form
+spends_set k l h es p = spends_then (spends_values k l h es [] p) (λ vs. spends_give)
+
+-- functions of the language
+
+spends_builtin_value : (at : Place) (f : Builtin) (vs : List Value) → OnlySpends (builtin_value at f vs)
+spends_builtin_value at builtins.Abs (x ∷ []) = spends_then (spends_give_or at _) (λ z. spends_give)
+spends_builtin_value at builtins.Min (x ∷ y ∷ []) = spends_give
+spends_builtin_value at builtins.Max (x ∷ y ∷ []) = spends_give
+spends_builtin_value at builtins.Card (s ∷ []) = spends_give
+spends_builtin_value at builtins.Member (x ∷ s ∷ []) = spends_give
+spends_builtin_value at builtins.Union (s ∷ t ∷ []) = spends_give
+spends_builtin_value at builtins.Inter (s ∷ t ∷ []) = spends_give
+spends_builtin_value at builtins.Minus (s ∷ t ∷ []) = spends_give
+spends_builtin_value at f vs = spends_give
+
+spends_builtin : (k : List Bool) (l : Level) → LevelSpends k l → (at : Place) (f : Builtin) (es : List Shape) → AllPure k es → OnlySpends (builtin_form l at f es)
+unfolding builtin_form
+spends_builtin k l h at builtins.Count (a ∷ e ∷ []) p = spends_count k l h at a e p.0 p.1.0
+spends_builtin k l h at f es p = spends_then (spends_values k l h es [] p) (λ vs. spends_then (spends_charge 1 at) (λ _. spends_builtin_value at f vs))
+
+-- generators and aggregates
+
+-- the names of generators lie in the frame
+abbrev AllLocal : List Bound → Type 0
+AllLocal [] = Unit {0}
+AllLocal (b ∷ bs) = (is_local b.slot ≡ true) × AllLocal bs
+
+local_with : (known : List Bound) (slot : Slot) (v : ℤ) → AllLocal known → is_local slot ≡ true → AllLocal (with_bound known slot v)
+local_with [] slot v p q = (q, tt)
+local_with (b ∷ bs) slot v p q = (p.0, local_with bs slot v p.1 q)
+
+binds_local : (slot : Slot) (v : Value) → is_local slot ≡ true → OnlyBinds (put slot v)
+binds_local (Local i) v p = binds_put i v
+binds_local (Global i) v p = (let no : false ≡ true = p in absurd cc)
+
+binds_bind : (known : List Bound) → AllLocal known → OnlyBinds (bind known)
+unfolding bind
+binds_bind [] p = binds spends_give
+binds_bind (b ∷ bs) p = binds_then (binds_local b.slot _ p.0) (λ _. binds_bind bs p.1)
+
+binds_generated : {A : Type 0} (at : Place) (known : List Bound) {next : Act A} → AllLocal known → OnlyBinds next → OnlyBinds (generated at known next)
+unfolding generated
+binds_generated at known p k = binds_then (binds (spends_charge 1 at)) (λ _. binds_then (binds_bind known p) (λ _. k))
+
+binds_each_tuple : {A : Type 0} (k : List Bool) (l : Level) → LevelSpends k l → (at : Place) (more : A → Bool) (visit : ℤ → A → Act A) (known : List Bound) (gs : List Shape) (x : A) → AllLocal known → AllPure k gs → ((v : ℤ) (x : A) → OnlyBinds (visit v x)) → OnlyBinds (each_tuple l at more visit known gs x)
+unfolding each_tuple
+binds_each_tuple k l h at more visit known (shapes.generator place slot domain ∷ []) x n p q =
+    binds_then (binds (spends_value k l h domain (and_right (is_local slot) (is_pure k domain) p.0))) (λ d.
+    binds_each_in more _ d x (λ v y. binds_generated at (with_bound known slot v) (local_with known slot v n (and_left (is_local slot) (is_pure k domain) p.0)) (q v y)))
+binds_each_tuple k l h at more visit known (shapes.generator place slot domain ∷ g ∷ gs) x n p q =
+    binds_then (binds (spends_value k l h domain (and_right (is_local slot) (is_pure k domain) p.0))) (λ d.
+    binds_each_in more _ d x (λ v y.
+    binds_generated place (with_bound known slot v) (local_with known slot v n (and_left (is_local slot) (is_pure k domain) p.0))
+    (binds_each_tuple k l h at more visit (with_bound known slot v) (g ∷ gs) y (local_with known slot v n (and_left (is_local slot) (is_pure k domain) p.0)) p.1 q)))
+binds_each_tuple k l h at more visit known gs x n p q = binds spends_give
+
+spends_with_element : (at : Place) (a : Aggregate) (key : ℤ) (xs : List Element) (v : Value) → OnlySpends (with_element at a key xs v)
+spends_with_element at aggregates.All key xs v = spends_then (spends_unless _ at _) (λ _. spends_give)
+spends_with_element at a key xs v = spends_give
+
+spends_element : (k : List Bool) (l : Level) → LevelSpends k l → (at : Place) (a : Aggregate) (c body : Shape) (key : ℤ) (xs : List Element) → is_pure k c ≡ true → is_pure k body ≡ true → OnlySpends (element_form l at a c body key xs)
+unfolding element_form
+spends_element k l h at a c body key xs p q =
+    spends_then (spends_condition k l h c p) (λ t. spends_if t (spends_then (spends_value k l h body q) (λ v. spends_with_element at a key xs v)) spends_give)
+
+spends_aggregate_value : (at : Place) (a : Aggregate) (xs : List Element) → OnlySpends (aggregate_value at a xs)
+spends_aggregate_value at aggregates.Sum xs = spends_then (spends_give_or at _) (λ z. spends_give)
+spends_aggregate_value at aggregates.Min xs = spends_then (spends_give_or at _) (λ z. spends_give)
+spends_aggregate_value at aggregates.Max xs = spends_then (spends_give_or at _) (λ z. spends_give)
+spends_aggregate_value at a xs = spends_give
+
+spends_aggregate : (k : List Bool) (l : Level) → LevelSpends k l → (at : Place) (a : Aggregate) (gs : List Shape) (c body : Shape) → AllPure k gs → is_pure k c ≡ true → is_pure k body ≡ true → OnlySpends (aggregate_form l at a gs c body)
+unfolding aggregate_form
+spends_aggregate k l h at a gs c body p q r =
+    spends_then (spends_in_scope (binds_each_tuple k l h at always _ [] gs [] tt p (λ v xs. binds (spends_element k l h at a c body v xs q r)))) (λ xs. spends_aggregate_value at a xs)
+
+-- methods
+
+spends_fitting_number : (at : Place) (z : ℤ) → OnlySpends (fitting_number at z)
+spends_fitting_number at z = spends_then (spends_give_or at _) (λ x. spends_give)
+
+impure : {X : Type 0} (m : Method) → not (method_row m).impure ≡ true → (method_row m).impure ≡ true → X
+impure m p q = absurd (clash (method_row m).impure p q) where
+  clash : (b : Bool) → not b ≡ true → b ≡ true → ⊥
+  clash true p q = (let no : false ≡ true = p in absurd cc)
+  clash false p q = (let no : false ≡ true = q in absurd cc)
+
+spends_method_value : (at : Place) (m : Method) (o : Shape) (v : Value) (vs : List Value) → not (method_row m).impure ≡ true → OnlySpends (method_value at m o v vs)
+unfolding method_value
+spends_method_value at methods.Low o v vs p = spends_give
+spends_method_value at methods.Up o v vs p = spends_give
+spends_method_value at methods.RangeSize o v vs p = spends_fitting_number at (pos (size_of (bounds_of v)))
+spends_method_value at methods.Contains o v (x ∷ []) p = spends_give
+spends_method_value at methods.SetSize o v vs p = spends_give
+spends_method_value at methods.Insert o v (x ∷ []) p = impure methods.Insert p refl
+spends_method_value at methods.Delete o v (x ∷ []) p = impure methods.Delete p refl
+spends_method_value at methods.ArraySize o v vs p = spends_then (spends_cells v) (λ a. spends_give)
+spends_method_value at methods.ReadInt o v vs p = impure methods.ReadInt p refl
+spends_method_value at methods.Close o v vs p = impure methods.Close p refl
+spends_method_value at m o v vs p = spends_give
+
+spends_method : (k : List Bool) (l : Level) → LevelSpends k l → (at : Place) (m : Method) (o : Shape) (es : List Shape) → not (method_row m).impure ≡ true → is_pure k o ≡ true → AllPure k es → OnlySpends (method_form l at m o es)
+unfolding method_form
+spends_method k l h at m o es p q r =
+    spends_then (spends_value k l h o q) (λ v. spends_then (spends_values k l h es [] r) (λ vs. spends_then (spends_charge 1 at) (λ _. spends_method_value at m o v vs p)))
+
+-- calls
+
+spends_argument : (k : List Bool) (l : Level) → LevelSpends k l → (kind : Kind) (e : Shape) → is_pure k e ≡ true → OnlySpends (argument_form l kind e)
+unfolding argument_form
+spends_argument k l h kinds.Variable e p = h.expr e p
+spends_argument k l h kinds.SetVariable e p = h.expr e p
+spends_argument k l h kind e p = spends_then (spends_value k l h e p) (λ v. spends_give)
+
+spends_arguments : (k : List Bool) (l : Level) → LevelSpends k l → (ks : List Kind) (es : List Shape) (vs : List Value) → AllPure k es → OnlySpends (arguments_form l ks es vs)
+unfolding arguments_form
+spends_arguments k l h (kind ∷ ks) (e ∷ es) vs p = spends_then (spends_argument k l h kind e p.0) (λ v. spends_arguments k l h ks es (vs ++ v ∷ []) p.1)
+spends_arguments k l h ks es vs p = spends_give
+
+-- the function returns a pure expression
+pub record ReturnsPure (known : List Bool) (f : Coded) : Type 0 where
+  pub e : Seen
+  pub returned : returned_by f.body ≡ Some e
+  pub pure : is_pure known (whole e) ≡ true
+
+-- each function that is known to be pure is so
+pub record KnowsPure (c : Code) : Type 0 where
+  pub each : (n : ℕ) (f : Coded) → slice_index_or c.pure n false ≡ true → slice_get c.functions n ≡ Some f → ReturnsPure c.pure f
+
+spends_body : (k : List Bool) (l : Level) → LevelSpends k l → (f : Coded) (vs : List Value) → ReturnsPure k f → OnlySpends (body_form l f vs)
+unfolding body_form
+spends_body k l h f vs r = spends_in_scope (binds_in_frame vs (binds (spends_then (h.body f.body r.e r.returned r.pure) (λ flow. spends_give))))
+
+spends_called : (k : List Bool) (l : Level) → LevelSpends k l → (at : Place) (es : List Shape) (f : Option Coded) → AllPure k es → ((g : Coded) → f ≡ Some g → ReturnsPure k g) → OnlySpends (called l at es true f)
+spends_called k l h at es None p r = spends_give
+spends_called k l h at es (Some f) p r =
+    spends_then (spends_arguments k l h f.parameters es [] p) (λ vs. spends_then (spends_charge 1 at) (λ _. spends_then spends_give (λ ws. spends_body k l h f ws (r f refl))))
+
+spends_call : (c : Code) → KnowsPure c → (l : Level) → LevelSpends c.pure l → (at : Place) (f : ℕ) (es : List Shape) → slice_index_or c.pure f false ≡ true → AllPure c.pure es → OnlySpends (call_form c l at f es)
+unfolding call_form
+spends_call c r l h at f es p q =
+    subst (λ b. OnlySpends (called l at es b (slice_get c.functions f))) (sym p) (spends_called c.pure l h at es (slice_get c.functions f) q (λ g e. r.each f g p e))
+
+-- expressions
+
+spends_form : (c : Code) → KnowsPure c → (l : Level) → LevelSpends c.pure l → (at : Place) (kind : Kind) (form : Shape) → is_pure c.pure form ≡ true → OnlySpends (value_of_form c l at kind form)
+unfolding value_of_form
+spends_form c r l h at kind (shapes.number n) p = spends_give
+spends_form c r l h at kind (shapes.truth b) p = spends_give
+spends_form c r l h at kind (shapes.name slot) p = spends_look slot
+spends_form c r l h at kind (shapes.parentheses e) p = h.expr e p
+spends_form c r l h at kind (shapes.unary o e) p = spends_unary c.pure l h at o e p
+spends_form c r l h at kind (shapes.chain a links) p = spends_chain c.pure l h a (items links) (and_left (is_pure c.pure a) (is_pure c.pure links) p) (items_pure c.pure links (and_right (is_pure c.pure a) (is_pure c.pure links) p))
+spends_form c r l h at kind (shapes.compare o a b) p = spends_compare c.pure l h o a b (and_left (is_pure c.pure a) (is_pure c.pure b) p) (and_right (is_pure c.pure a) (is_pure c.pure b) p)
+spends_form c r l h at kind (shapes.range a b) p = spends_range c.pure l h a b (and_left (is_pure c.pure a) (is_pure c.pure b) p) (and_right (is_pure c.pure a) (is_pure c.pure b) p)
+spends_form c r l h at kind (shapes.conditional t a b) p =
+    let q = and_left (is_pure c.pure t && is_pure c.pure a) (is_pure c.pure b) p in
+    spends_conditional c.pure l h kind t a b (and_left (is_pure c.pure t) (is_pure c.pure a) q) (and_right (is_pure c.pure t) (is_pure c.pure a) q) (and_right (is_pure c.pure t && is_pure c.pure a) (is_pure c.pure b) p)
+spends_form c r l h at kind (shapes.list es) p = spends_list c.pure l h (items es) (items_pure c.pure es p)
+spends_form c r l h at kind (shapes.index a i) p = spends_index c.pure l h at a i (and_left (is_pure c.pure a) (is_pure c.pure i) p) (and_right (is_pure c.pure a) (is_pure c.pure i) p)
+spends_form c r l h at kind (shapes.cell a i j) p =
+    let q = and_left (is_pure c.pure a && is_pure c.pure i) (is_pure c.pure j) p in
+    spends_cell c.pure l h at a i j (and_left (is_pure c.pure a) (is_pure c.pure i) q) (and_right (is_pure c.pure a) (is_pure c.pure i) q) (and_right (is_pure c.pure a && is_pure c.pure i) (is_pure c.pure j) p)
+spends_form c r l h at kind (shapes.set es) p = spends_set c.pure l h (items es) (items_pure c.pure es p)
+spends_form c r l h at kind (shapes.aggregate a gs t body) p =
+    let q = and_left (is_pure c.pure gs && is_pure c.pure t) (is_pure c.pure body) p in
+    spends_aggregate c.pure l h at a (items gs) t body (items_pure c.pure gs (and_left (is_pure c.pure gs) (is_pure c.pure t) q)) (and_right (is_pure c.pure gs) (is_pure c.pure t) q) (and_right (is_pure c.pure gs && is_pure c.pure t) (is_pure c.pure body) p)
+spends_form c r l h at kind (shapes.builtin f es) p = spends_builtin c.pure l h at f (items es) (items_pure c.pure es p)
+spends_form c r l h at kind (shapes.call f es) p =
+    spends_call c r l h at f (items es) (and_left (slice_index_or c.pure f false) (is_pure c.pure es) p) (items_pure c.pure es (and_right (slice_index_or c.pure f false) (is_pure c.pure es) p))
+spends_form c r l h at kind (shapes.method m o es) p =
+    let q = and_left (not (method_row m).impure && is_pure c.pure o) (is_pure c.pure es) p in
+    spends_method c.pure l h at m o (items es) (and_left (not (method_row m).impure) (is_pure c.pure o) q) (and_right (not (method_row m).impure) (is_pure c.pure o) q) (items_pure c.pure es (and_right (not (method_row m).impure && is_pure c.pure o) (is_pure c.pure es) p))
+spends_form c r l h at kind form p = spends_give
+
+pub spends_expression : (c : Code) → KnowsPure c → (l : Level) → LevelSpends c.pure l → (e : Shape) → is_pure c.pure e ≡ true → OnlySpends (value_of_expression c l e)
+unfolding value_of_expression
+spends_expression c r l h (shapes.typed start at kind moving form) p = spends_form c r l h at kind form p
+spends_expression c r l h e p = spends_give
+
+-- terms
+
+spends_joined : (k : List Bool) (l : Level) → LevelSpends k l → (links : List Shape) (t : Term) → AllPure k links → OnlySpends (joined_form l links t)
+unfolding joined_form
+spends_joined k l h [] t p = spends_give
+spends_joined k l h (shapes.link o at e ∷ links) t p = spends_then (h.term e p.0) (λ u. spends_joined k l h links (joined o at t u) p.1)
+spends_joined k l h (x ∷ links) t p = spends_joined k l h links t p.1
+
+spends_moving : (k : List Bool) (l : Level) → LevelSpends k l → (form : Shape) → is_pure k form ≡ true → OnlySpends (moving_term l form)
+unfolding moving_term
+spends_moving k l h (shapes.name slot) p = spends_then (spends_look slot) (λ v. spends_give)
+spends_moving k l h (shapes.parentheses e) p = h.term e p
+spends_moving k l h (shapes.chain first links) p =
+    spends_then (h.term first (and_left (is_pure k first) (is_pure k links) p)) (λ t. spends_joined k l h (items links) t (items_pure k links (and_right (is_pure k first) (is_pure k links) p)))
+spends_moving k l h form p = spends_give
+
+pub spends_term : (c : Code) → KnowsPure c → (l : Level) → LevelSpends c.pure l → (e : Shape) → is_pure c.pure e ≡ true → OnlySpends (term_of_expression c l e)
+unfolding term_of_expression
+spends_term c r l h (shapes.typed start at kind moving form) p =
+    spends_if moving (spends_moving c.pure l h form p) (spends_then (spends_form c r l h at kind form p) (λ v. spends_give))
+spends_term c r l h e p = spends_give
+
+pub spends_returned : (k : List Bool) (l : Level) → LevelSpends k l → (e : Seen) → is_pure k (whole e) ≡ true → OnlySpends (value l (whole e))
+spends_returned k l h e p = spends_value k l h (whole e) p

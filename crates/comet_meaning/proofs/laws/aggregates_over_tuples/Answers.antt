@@ -1,0 +1,7 @@
+use Rattle.std.proofs.Common.{refl}
+use Rattle.comet_meaning.proofs.Computing.{everything}
+use Rattle.comet_meaning.proofs.laws.aggregates_over_tuples.Goals as goal
+
+pub returns : goal.returns
+unfolding everything
+returns c = refl

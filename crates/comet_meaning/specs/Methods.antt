@@ -1,0 +1,53 @@
+-- Methods: the object, the arguments from the left, a unit for the call at the method's name, and then what it does.
+-- From the language.
+use Rattle.std.specs.Prelude.{ℤ, pos, List, [], ◌∷◌, length}
+use Rattle.cbl_base.specs.Arithmetic.{exact}
+use Rattle.cbl_base.specs.Sets.{is_member, with_member, without_member}
+use Rattle.cbl_base.specs.declared.place.Place.{Place}
+use Rattle.checked_tree.specs.declared.expressions.Method.{Method}
+use Rattle.checked_tree.specs.declared.expressions.Method.TheVariants as methods
+use Rattle.checked_tree.specs.Shape as shapes
+use Rattle.checked_tree.specs.Shape.{Shape}
+use Rattle.comet_meaning.specs.Values.{Value, Nothing, Number, Truth, Set, number_of, bounds_of, members_of, solver_of, size_of}
+use Rattle.comet_meaning.specs.Outcome.{Act, ◌>>=◌, give, give_or, charge}
+use Rattle.comet_meaning.specs.Cells.{cells, look, put}
+use Rattle.comet_meaning.specs.Levels.{Level}
+use Rattle.comet_meaning.specs.Parts.{value, values}
+use Rattle.comet_meaning.specs.Data.{next_number}
+use Rattle.comet_meaning.specs.Models.{close}
+
+-- a number that an object gives must fit
+abbrev pub fitting_number : Place → ℤ → Act Value
+fitting_number at z = give_or at (exact z) >>= λ x. give (Number x)
+
+-- `insert` and `delete` write the set in the cell of a name
+
+abbrev pub put_set : Shape → (List ℤ → List ℤ) → Act Value
+put_set (shapes.typed start at kind moving (shapes.name slot)) f = do
+  v ← look slot
+  _ ← put slot (Set (f (members_of v)))
+  give Nothing
+put_set e f = give Nothing
+
+-- all of them
+
+-- what a method gives of its object's value and those of its arguments
+unfoldable pub method_value : Place → Method → Shape → Value → List Value → Act Value
+method_value at methods.Low o v vs = give (Number (bounds_of v).low)
+method_value at methods.Up o v vs = give (Number (bounds_of v).up)
+method_value at methods.RangeSize o v vs = fitting_number at (pos (size_of (bounds_of v)))
+method_value at methods.Contains o v (x ∷ []) = give (Truth (is_member (number_of x) (members_of v)))
+method_value at methods.SetSize o v vs = give (Number (pos (length (members_of v))))
+method_value at methods.Insert o v (x ∷ []) = put_set o (with_member (number_of x))
+method_value at methods.Delete o v (x ∷ []) = put_set o (without_member (number_of x))
+method_value at methods.ArraySize o v vs = cells v >>= λ a. give (Number (pos (length a.numbers)))
+method_value at methods.ReadInt o v vs = next_number at v
+method_value at methods.Close o v vs = close at (solver_of v)
+method_value at m o v vs = give Nothing
+
+unfoldable pub method_form : Level → Place → Method → Shape → List Shape → Act Value
+method_form l at m o es = do
+  v ← value l o
+  vs ← values l es []
+  _ ← charge 1 at
+  method_value at m o v vs

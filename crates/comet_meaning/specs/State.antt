@@ -1,0 +1,45 @@
+-- The state of a run: the cells of the global names and of those of the running call; the arrays and the objects; how
+-- much fuel is left; and what was printed. The frames of the calls that wait are kept by these calls, and how many
+-- statements and expressions are being executed inside each other is told by the level of the meaning that is asked.
+-- From the language.
+use Rattle.std.specs.Prelude.{ℕ, ℤ, List, [], Option}
+use Rattle.comet_meaning.specs.Values.{Value, Bounds}
+use Rattle.comet_meaning.specs.Solvers.{SolverState}
+
+-- an array of numbers with one dimension or two, row by row
+pub record Cells : Type 0 where
+  pub rows : Bounds
+  pub columns : Option Bounds
+  pub numbers : List ℤ
+
+pub record State : Type 0 where
+  pub globals : List Value
+  pub frame : List Value
+  pub arrays : List Cells
+  pub solvers : List SolverState
+  -- what each `InputFile` has not read yet
+  pub inputs : List (List ℕ)
+  pub data_text : List ℕ
+  pub fuel : ℕ
+  pub printed : List ℕ
+
+-- what is told of a state at which a run halts
+pub record Left : Type 0 where
+  pub fuel : ℕ
+  pub printed : List ℕ
+
+abbrev pub left : State → Left
+left s = record { fuel = s.fuel; printed = s.printed }
+
+-- the state at the start of a run, with this fuel and this data
+abbrev pub first_state : ℕ → List ℕ → State
+first_state fuel text = record {
+  globals = [];
+  frame = [];
+  arrays = [];
+  solvers = [];
+  inputs = [];
+  data_text = text;
+  fuel = fuel;
+  printed = [];
+}

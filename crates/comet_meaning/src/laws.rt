@@ -1,0 +1,110 @@
+//! Laws over the definitions alone: what they say of every program, and of some small ones.
+ghost use Rattle.std.specs.Prelude.{◌≡◌, ℕ, ◌≤◌, true, List, [], codes};
+ghost use Rattle.cbl_base.specs.declared.place.Place.{Place};
+ghost use Rattle.checked_tree.specs.Shape.{Shape, Seen, whole};
+ghost use Rattle.checked_tree.specs.Tasks.{Coded, Whole, Work};
+ghost use Rattle.cbl_base.specs.declared.faults.RunFault.TheVariants.{Depth, DefinedVariable, NoData, NotClosed, Overflow};
+ghost use Rattle.comet_meaning.specs.Outcome.{Faulted, SpentAt, then_do, give};
+ghost use Rattle.comet_meaning.specs.Loops.{while_form, turn_form, end_or};
+ghost use Rattle.comet_meaning.specs.State.{State};
+ghost use Rattle.comet_meaning.specs.Program.{level, code_of, run, meaning, Done, Stopped};
+ghost use Rattle.comet_meaning.specs.Purity.{is_pure, pure_functions};
+ghost use Rattle.comet_meaning.specs.OneEnd.{HasOneEnd};
+ghost use Rattle.comet_meaning.specs.Onward.{IsFront};
+ghost use Rattle.comet_meaning.specs.Spending.{IsSpent};
+ghost use Rattle.comet_meaning.specs.Examples as examples;
+
+/// From each state a program has exactly one end.
+pub fn one_end()
+    ensures { (p : Whole) (s : State) → HasOneEnd p s }
+{}
+
+/// A run takes back nothing that was printed, and gives back no fuel.
+pub fn runs_go_onward()
+    ensures fuel { (p : Whole) (s : State) → (run p s).fuel ≤ s.fuel }
+    ensures printed { (p : Whole) (s : State) → IsFront s.printed (run p s).printed }
+{}
+
+/// A pure expression changes nothing of the state but the fuel, however much room is left for parts inside each other.
+pub fn pure_expressions_only_spend_fuel()
+    ensures { (functions : List Coded) (room : ℕ) (e : Shape) (s : State) → is_pure (pure_functions functions) e ≡ true → IsSpent s ((level (code_of functions) room).expr e s) }
+{}
+
+/// A `while` is its first turn and then, where that doesn't end it, the same `while` again: that its turns are counted
+/// against the fuel cuts none off.
+pub fn a_loop_is_a_turn_and_the_loop_again()
+    ensures { (functions : List Coded) (room : ℕ) (at : Place) (test : Seen) (body : Work) (s : State) → while_form (level (code_of functions) room) at test body s ≡ then_do (turn_form (level (code_of functions) room) at (whole test) (give tt) body s) (end_or (while_form (level (code_of functions) room) at test body)) }
+{}
+
+/// Division goes toward zero, and the remainder has the dividend's sign.
+pub fn division_goes_toward_zero()
+    ensures { (meaning examples.dividing 100 []).printed ≡ codes "-3 1 -1\n" }
+{}
+
+/// A loop without an end spends its fuel, at the statement for which none is left.
+pub fn bare_loop_spends_fuel()
+    ensures { meaning examples.looping 10 [] ≡ record { end = Stopped (SpentAt (examples.column 12)); fuel = 0; printed = [] } }
+{}
+
+/// A function that goes on calling itself meets the limit of the running depth, at the call.
+pub fn endless_call_meets_depth()
+    ensures { (meaning examples.deepening 1099511627776 []).end ≡ Stopped (Faulted (examples.column 32) Depth) }
+{}
+
+/// `getInt` gives the numbers of the data in order, and at its end a fault at the method. What was printed before stays.
+pub fn numbers_are_read_in_order()
+    ensures { meaning examples.reading 10 (codes " 7\n") ≡ record { end = Stopped (Faulted (examples.column 55) NoData); fuel = 5; printed = codes "7\n" } }
+{}
+
+/// A defined variable equals its expression at `close` and behind each assignment.
+pub fn square_invariant()
+    ensures { meaning examples.squaring 8 [] ≡ record { end = Done; fuel = 0; printed = codes "10\n26\n" } }
+{}
+
+/// `close` has the fault of the operation that fails, at its place.
+pub fn close_evaluates_all()
+    ensures { (meaning examples.squaring_too_much 10 []).end ≡ Stopped (Faulted (examples.column 55) Overflow) }
+{}
+
+/// A defined variable has no value before `close`.
+pub fn defined_variable_waits_for_close()
+    ensures { (meaning examples.reading_early 10 []).end ≡ Stopped (Faulted (examples.column 69) NotClosed) }
+{}
+
+/// The right side of an assignment is evaluated before the solver refuses it.
+pub fn right_side_comes_first()
+    ensures right { (meaning examples.assigning_too_much 10 []).end ≡ Stopped (Faulted (examples.column 86) Overflow) }
+    ensures solver { (meaning examples.assigning_defined 10 []).end ≡ Stopped (Faulted (examples.column 61) DefinedVariable) }
+{}
+
+/// A function writes the array that it is given, and its own copy of a set.
+pub fn arrays_are_shared_and_sets_copied()
+    ensures { (meaning examples.handing_over 100 []).printed ≡ codes "[1,2]{1}" }
+{}
+
+/// The last generator goes fastest. A tuple, and a value of a generator before the last, cost a unit each.
+pub fn tuples_cost_fuel()
+    ensures { meaning examples.pairing 9 [] ≡ record { end = Done; fuel = 0; printed = codes "11\n12\n22\n" } }
+{}
+
+/// The names of generators are bound anew for each tuple, also where the body wrote one.
+pub fn tuples_bind_anew()
+    ensures { (meaning examples.rebinding 100 []).printed ≡ codes "11\n12\n21\n22\n" }
+{}
+
+/// A call costs a unit, and so do its block and its `return`, each declared cell and each cell of an array that is taken
+/// whole. The charge beyond what is left is spent at the array.
+pub fn charges_are_exact()
+    ensures enough { meaning examples.charging 16 [] ≡ record { end = Done; fuel = 0; printed = codes "[0,0,0]" } }
+    ensures less { (meaning examples.charging 15 []).end ≡ Stopped (SpentAt (examples.column 83)) }
+{}
+
+/// Aggregates have the values of their elements, in order of the tuples that pass the condition.
+pub fn aggregates_over_tuples()
+    ensures { (meaning examples.aggregating 100 []).printed ≡ codes "14[1,3]{2,4}{3}" }
+{}
+
+/// A later operand is evaluated only where it decides.
+pub fn later_operands_wait()
+    ensures { meaning examples.deciding 1 [] ≡ record { end = Done; fuel = 0; printed = codes "false\n" } }
+{}
