@@ -1,8 +1,9 @@
 -- A declaration goes where it is typed, and is typed where it goes.
-use Rattle.std.specs.Prelude.{◌≡◌, refl, ℕ, Bool, true, false, ◌&&◌, List, [], ◌∷◌, map, length, drop, Option, None, Some, option_map, if◌then◌else◌}
+use Rattle.std.specs.Prelude.{◌≡◌, refl, ℕ, Bool, true, false, ◌&&◌, List, [], ◌∷◌, map, length, Option, None, Some, option_map, if◌then◌else◌}
 use Rattle.std.proofs.Common.{sym, ap, subst, ◌∙◌}
 use Rattle.cbl_base.specs.declared.place.Place.{Place}
 use Rattle.comet_syntax.specs.declared.tree.expressions.Name.{Name}
+use Rattle.comet_syntax.specs.declared.tree.expressions.Argument.{Argument}
 use Rattle.comet_syntax.specs.declared.tree.expressions.Expression.{Expression}
 use Rattle.comet_syntax.specs.declared.tree.declarations.Class.{Class}
 use Rattle.comet_syntax.specs.declared.tree.declarations.Dimension.{Dimension}
@@ -25,7 +26,7 @@ use Rattle.type_scopes.specs.declared.names.Found.{Found}
 use Rattle.type_scopes.specs.declared.scope.Scope.{Scope}
 use Rattle.checked_tree.specs.declared.expressions.Slot.{Slot}
 use Rattle.type_scopes.specs.Names.{look, is_new, slot_of, opened, closed}
-use Rattle.type_scopes.specs.State.{State, Outcome, Went, Refused, Check, give, then_do, ◌>>=◌}
+use Rattle.type_scopes.specs.State.{State, Went, Check, give, then_do, ◌>>=◌}
 use Rattle.type_calls.specs.Doing.{act_on, doing_fault}
 use Rattle.type_expressions.specs.Expressions.{judge, judge_argument, arguments_form, some_form}
 use Rattle.type_declarations.specs.Parts as parts
@@ -33,7 +34,7 @@ use Rattle.type_declarations.specs.Parts.{Starting, Ranged, Celled, start_form, 
 use Rattle.type_declarations.specs.Objects.{Handed, made_kind, is_made_ls, maker_arguments, making_context, making_roots, object_doing, object_fault, ls_fault, handed_form, object_declared, object_made, object_form}
 use Rattle.type_declarations.specs.Declarations.{declaring_fault, scalar_fits, scalar_declared, scalar_form, array_declared, array_form, starting_with, making_doing, domain_fits, variable_declared, variable_with, variables_form, variable_form, variable_start, declaration_form}
 use Rattle.typing.specs.Calls.{having_done}
-use Rattle.typing.specs.Rules.{IsTyped, having_closed}
+use Rattle.typing.specs.Rules.{ArgumentsAreTyped, having_closed}
 use Rattle.typing.specs.Declarations as rules
 use Rattle.typing.specs.Declarations.{OptionalIsTyped, FirstValues, StartIsTyped, DimensionIsTyped, SecondIsTyped, RangesAreTyped, IsSized, SecondIsSized, IsListed, CellsAreTyped, ScalarIsTyped, ArrayIsTyped, VariableIsDeclared, VariableIsTyped, VariablesAreTyped, ObjectIsTyped, DeclarationIsTyped, having_declared_as, handed, values_of, values_in}
 use Rattle.typing.proofs.Went.{Goes, between, goes_on, goes_as, went_value, went_state}
@@ -253,3 +254,148 @@ array_typed scope s place n ds w made t h =
     let p = between _ _ _ made t o.next in
     let q = passed place (λ u. declaring_fault (is_new n.text scope.block u.names) (start_fits kind.Int p.made.start)) (λ _. array_declared n (sized_kind kind.Int ds) p.made scope) p.known made t p.next in
     as_went (λ y u. ArrayIsTyped scope s n ds w y u) q.1.is (rules.an_array (ranges_typed _ _ _ _ _ o.first) (cells_typed _ _ _ _ _ _ _ p.first) q.0)
+
+-- variables
+
+declared_goes : (scope : Scope) (s : State) (place : Place) (n : Name) (k : Kind) (fit : Bool) (d : Option Seen) (c : Celled) (solver : Name) (made : Deed) (t : State) → VariableIsDeclared scope s n k fit d c solver made t
+    → Goes (λ u. variable_with place n k fit d c scope (look solver.text u.names) u) s made t
+declared_goes scope s place n k fit d c solver made t (rules.declares {f} found r free) = record {
+  is =
+      ap (λ o. variable_with place n k fit d c scope o s) found
+      ∙ (passes place (λ u. declaring_fault (is_new n.text scope.block u.names) (is_same f.kind kind.Solver && (domain_fits d && fit))) (λ _. variable_declared place n k d c scope f) s made t r
+      (act_passes place scope making_doing (slot_of scope f.index ∷ []) _ s made t free (record { is = refl }))).is;
+}
+
+found_declared : (scope : Scope) (s : State) (place : Place) (n : Name) (k : Kind) (fit : Bool) (d : Option Seen) (c : Celled) (solver : Name) (made : Deed) (t : State) (o : Option Found) → look solver.text s.names ≡ o
+    → variable_with place n k fit d c scope o s ≡ Went made t → VariableIsDeclared scope s n k fit d c solver made t
+found_declared scope s place n k fit d c solver made t None found h = absurd (cc)
+found_declared scope s place n k fit d c solver made t (Some f) found h =
+    let q = passed place (λ u. declaring_fault (is_new n.text scope.block u.names) (is_same f.kind kind.Solver && (domain_fits d && fit))) (λ _. variable_declared place n k d c scope f) s made t (record { is = h }) in
+    let a = act_passed place scope making_doing (slot_of scope f.index ∷ []) _ s made t q.1 in
+    as_went (λ y u. VariableIsDeclared scope s n k fit d c solver y u) a.next (rules.declares found q.0 a.free)
+
+declared_typed : (scope : Scope) (s : State) (place : Place) (n : Name) (k : Kind) (fit : Bool) (d : Option Seen) (c : Celled) (solver : Name) (made : Deed) (t : State)
+    → Goes (λ u. variable_with place n k fit d c scope (look solver.text u.names) u) s made t → VariableIsDeclared scope s n k fit d c solver made t
+declared_typed scope s place n k fit d c solver made t h = found_declared scope s place n k fit d c solver made t (look solver.text s.names) refl h.is
+
+variable_goes : (scope : Scope) (s : State) (place : Place) (n : Name) (k : Kind) (solver : Name) (domain : Option Expression) (w : FirstValues) (made : Deed) (t : State) → VariableIsTyped scope s n k solver domain w made t
+    → Goes (variable_form place n k solver (option_map judge domain) (meant w) scope) s made t
+unfolding variable_form
+variable_goes scope s place n k solver domain w made t (rules.a_variable h g l) = goes_on _ _ (optional_goes _ _ _ _ _ h) (goes_on _ _ (start_goes _ _ _ _ _ g) (declared_goes scope _ place n k _ _ _ solver made t l))
+
+variable_typed : (scope : Scope) (s : State) (place : Place) (n : Name) (k : Kind) (solver : Name) (domain : Option Expression) (w : FirstValues) (made : Deed) (t : State)
+    → Goes (variable_form place n k solver (option_map judge domain) (meant w) scope) s made t → VariableIsTyped scope s n k solver domain w made t
+unfolding variable_form
+variable_typed scope s place n k solver domain w made t h =
+    let p = between _ _ s made t h in
+    let q = between _ _ _ made t p.next in
+    rules.a_variable (optional_typed _ _ _ _ _ p.first) (start_typed _ _ _ _ _ q.first)
+    (declared_typed scope q.known place n k (start_fits k q.made) p.made (record { sizes = []; start = q.made }) solver made t q.next)
+
+variables_go : (scope : Scope) (s : State) (place : Place) (n : Name) (k : Kind) (ds : Dimensions) (solver : Name) (domain : Option Expression) (w : FirstValues) (made : Deed) (t : State) → VariablesAreTyped scope s n k ds solver domain w made t
+    → Goes (variables_form place n k ds solver (option_map judge domain) (meant w) scope) s made t
+unfolding variables_form
+variables_go scope s place n k ds solver domain w made t (rules.some_variables g h l v) =
+    goes_on _ _ (ranges_go _ _ _ _ _ g) (goes_on _ _ (optional_goes _ _ _ _ _ h) (goes_on _ _ (cells_go _ _ _ _ _ _ _ l) (declared_goes scope _ place n (sized_kind k ds) _ _ _ solver made t v)))
+
+variables_typed : (scope : Scope) (s : State) (place : Place) (n : Name) (k : Kind) (ds : Dimensions) (solver : Name) (domain : Option Expression) (w : FirstValues) (made : Deed) (t : State)
+    → Goes (variables_form place n k ds solver (option_map judge domain) (meant w) scope) s made t → VariablesAreTyped scope s n k ds solver domain w made t
+unfolding variables_form
+variables_typed scope s place n k ds solver domain w made t h =
+    let o = between _ _ s made t h in
+    let p = between _ _ _ made t o.next in
+    let q = between _ _ _ made t p.next in
+    rules.some_variables (ranges_typed _ _ _ _ _ o.first) (optional_typed _ _ _ _ _ p.first) (cells_typed _ _ _ _ _ _ _ q.first)
+    (declared_typed scope q.known place n (sized_kind k ds) (start_fits k q.made.start) p.made q.made solver made t q.next)
+
+-- objects
+
+pub handed_goes : (k : Kind) (scope : Scope) (s : State) (args : List Argument) (es : List Seen) (t : State) → Goes (arguments_form (making_context k scope.context) (map judge_argument args) scope) s es t → Goes (handed_form k args scope) s (handed s es t) t
+unfolding handed_form
+handed_goes k scope s args es t h = record { is = ap (λ o. then_do o (λ (es : List Seen). λ (u : State). Went (handed s es u) u)) h.is }
+
+pub record HandedOver (k : Kind) (scope : Scope) (s : State) (args : List Argument) (x : Handed) (t : State) : Type 0 where
+  pub values : List Seen
+  pub known : State
+  pub typed : ArgumentsAreTyped (making_context k scope.context) scope [] s args values known
+  pub same : Went x t ≡ Went (handed s values known) known
+
+pub handed_typed : (k : Kind) (scope : Scope) (s : State) (args : List Argument) (x : Handed) (t : State) → Goes (handed_form k args scope) s x t → HandedOver k scope s args x t
+unfolding handed_form
+handed_typed k scope s args x t h =
+    let g = between (arguments_form (making_context k scope.context) (map judge_argument args) scope) (λ (es : List Seen). λ (u : State). Went (handed s es u) u) s x t (record { is = h.is }) in
+    record { values = g.made; known = g.known; typed = arguments_complete args _ _ _ _ _ _ g.first; same = sym g.next.is }
+
+object_goes : (scope : Scope) (s : State) (c : Class) (n : Name) (m : Maker) (made : Deed) (t : State) → ObjectIsTyped scope s c n m made t → Goes (object_form c n m scope) s made t
+unfolding object_form
+object_goes scope s c n m made t (rules.an_object {es} {t = u} h r free ls) =
+    goes_on _ _ (handed_goes (class_kind c.kind) scope s (maker_arguments m) es u (sound_arguments h))
+    (passes c.place (λ v. object_fault (is_new n.text scope.block v.names) (class_kind c.kind) (made_kind c m) es) _ u made t r
+    (act_passes c.place scope (object_doing (class_kind c.kind)) (making_roots (class_kind c.kind) (handed s es u)) _ u made t free
+    (passes c.place (λ _. ls_fault (class_is_ls c.kind && is_made_ls m)) (λ _. object_declared n (class_kind c.kind) (handed s es u) scope) _ made t ls (record { is = refl }))))
+
+made_typed : (scope : Scope) (s : State) (c : Class) (n : Name) (m : Maker) (es : List Seen) (u : State) (made : Deed) (t : State) → ArgumentsAreTyped (making_context (class_kind c.kind) scope.context) scope [] s (maker_arguments m) es u
+    → Goes (object_made c.place (class_is_ls c.kind && is_made_ls m) n (class_kind c.kind) (made_kind c m) (handed s es u) scope) u made t → ObjectIsTyped scope s c n m made t
+made_typed scope s c n m es u made t g h =
+    let q = passed c.place (λ v. object_fault (is_new n.text scope.block v.names) (class_kind c.kind) (made_kind c m) es) _ u made t h in
+    let a = act_passed c.place scope (object_doing (class_kind c.kind)) (making_roots (class_kind c.kind) (handed s es u)) _ u made t q.1 in
+    let l = passed c.place (λ _. ls_fault (class_is_ls c.kind && is_made_ls m)) (λ _. object_declared n (class_kind c.kind) (handed s es u) scope) _ made t (record { is = a.next }) in
+    as_went (λ y v. ObjectIsTyped scope s c n m y v) l.1.is (rules.an_object g q.0 a.free l.0)
+
+object_typed : (scope : Scope) (s : State) (c : Class) (n : Name) (m : Maker) (made : Deed) (t : State) → Goes (object_form c n m scope) s made t → ObjectIsTyped scope s c n m made t
+unfolding object_form
+object_typed scope s c n m made t h =
+    let p = between (handed_form (class_kind c.kind) (maker_arguments m) scope) (λ x. object_made c.place (class_is_ls c.kind && is_made_ls m) n (class_kind c.kind) (made_kind c m) x scope) s made t h in
+    let g = handed_typed (class_kind c.kind) scope s (maker_arguments m) p.made p.known p.first in
+    made_typed scope s c n m g.values g.known made t g.typed
+    (as_went (λ (x : Handed) (u : State). Goes (object_made c.place (class_is_ls c.kind && is_made_ls m) n (class_kind c.kind) (made_kind c m) x scope) u made t) g.same p.next)
+
+-- all declarations
+
+values_are : (e : Option Expression) → starting_with (option_map judge e) ≡ meant (values_of e)
+values_are None = refl
+values_are (Some e) = refl
+
+values_within : (x : Option VariableStart) → variable_start x ≡ meant (values_in x)
+values_within None = refl
+values_within (Some (starts.Assign e)) = refl
+values_within (Some (starts.Define e)) = refl
+
+array_as : (scope : Scope) (place : Place) (n : Name) (ds : Dimensions) (e : Option Expression) → array_form place n ds (starting_with (option_map judge e)) scope ≡ array_form place n ds (meant (values_of e)) scope
+array_as scope place n ds e = ap (λ w. array_form place n ds w scope) (values_are e)
+
+variable_as : (scope : Scope) (place : Place) (n solver : Name) (d : Option Expression) (x : Option VariableStart)
+    → variable_form place n kind.Variable solver (option_map judge d) (variable_start x) scope ≡ variable_form place n kind.Variable solver (option_map judge d) (meant (values_in x)) scope
+variable_as scope place n solver d x = ap (λ w. variable_form place n kind.Variable solver (option_map judge d) w scope) (values_within x)
+
+variables_as : (scope : Scope) (place : Place) (n : Name) (ds : Dimensions) (solver : Name) (d : Option Expression) (x : Option VariableStart)
+    → variables_form place n kind.Variable ds solver (option_map judge d) (variable_start x) scope ≡ variables_form place n kind.Variable ds solver (option_map judge d) (meant (values_in x)) scope
+variables_as scope place n ds solver d x = ap (λ w. variables_form place n kind.Variable ds solver (option_map judge d) w scope) (values_within x)
+
+pub declaration_goes : (scope : Scope) (s : State) (d : Declaration) (made : Deed) (t : State) → DeclarationIsTyped scope s d made t → Goes (declaration_form d scope) s made t
+unfolding declaration_form
+declaration_goes scope s d made t (rules.an_int {place} {n} {e} h) = scalar_goes scope s place n kind.Int e made t h
+declaration_goes scope s d made t (rules.ints {place} {n} {ds} {e} h) = goes_as (sym (array_as scope place n ds e)) (array_goes scope s place n ds (values_of e) made t h)
+declaration_goes scope s d made t (rules.an_int_array {place} {n} {e} h) = scalar_goes scope s place n kind.Array (Some e) made t h
+declaration_goes scope s d made t (rules.a_bool {place} {n} {e} h) = scalar_goes scope s place n kind.Bool e made t h
+declaration_goes scope s d made t (rules.a_range_name {place} {n} {e} h) = scalar_goes scope s place n kind.Range (Some e) made t h
+declaration_goes scope s d made t (rules.a_set_name {place} {n} {e} h) = scalar_goes scope s place n kind.Set e made t h
+declaration_goes scope s d made t (rules.an_int_variable {place} {n} {solver} {d = domain} {x} h) = goes_as (sym (variable_as scope place n solver domain x)) (variable_goes scope s place n kind.Variable solver domain (values_in x) made t h)
+declaration_goes scope s d made t (rules.int_variables {place} {n} {solver} {ds} {d = domain} {x} h) = goes_as (sym (variables_as scope place n ds solver domain x)) (variables_go scope s place n kind.Variable ds solver domain (values_in x) made t h)
+declaration_goes scope s d made t (rules.a_set_variable {place} {n} {solver} {e} h) = variable_goes scope s place n kind.SetVariable solver None (rules.a_definition e) made t h
+declaration_goes scope s d made t (rules.set_variables {place} {n} {solver} {ds} {e} h) = variables_go scope s place n kind.SetVariable ds solver None (rules.a_definition e) made t h
+declaration_goes scope s d made t (rules.object h) = object_goes _ _ _ _ _ _ _ h
+
+pub declaration_typed : (scope : Scope) (s : State) (d : Declaration) (made : Deed) (t : State) → Goes (declaration_form d scope) s made t → DeclarationIsTyped scope s d made t
+unfolding declaration_form
+declaration_typed scope s (declarations.Int place n None e) made t h = rules.an_int (scalar_typed scope s place n kind.Int e made t h)
+declaration_typed scope s (declarations.Int place n (Some ds) e) made t h = rules.ints (array_typed scope s place n ds (values_of e) made t (goes_as (array_as scope place n ds e) h))
+declaration_typed scope s (declarations.IntArray place n e) made t h = rules.an_int_array (scalar_typed scope s place n kind.Array (Some e) made t h)
+declaration_typed scope s (declarations.Bool place n e) made t h = rules.a_bool (scalar_typed scope s place n kind.Bool e made t h)
+declaration_typed scope s (declarations.Range place n e) made t h = rules.a_range_name (scalar_typed scope s place n kind.Range (Some e) made t h)
+declaration_typed scope s (declarations.Set place n e) made t h = rules.a_set_name (scalar_typed scope s place n kind.Set e made t h)
+declaration_typed scope s (declarations.Variable place w n None solver d x) made t h = rules.an_int_variable (variable_typed scope s place n kind.Variable solver d (values_in x) made t (goes_as (variable_as scope place n solver d x) h))
+declaration_typed scope s (declarations.Variable place w n (Some ds) solver d x) made t h = rules.int_variables (variables_typed scope s place n kind.Variable ds solver d (values_in x) made t (goes_as (variables_as scope place n ds solver d x) h))
+declaration_typed scope s (declarations.SetVariable place w n None solver e) made t h = rules.a_set_variable (variable_typed scope s place n kind.SetVariable solver None (rules.a_definition e) made t h)
+declaration_typed scope s (declarations.SetVariable place w n (Some ds) solver e) made t h = rules.set_variables (variables_typed scope s place n kind.SetVariable ds solver None (rules.a_definition e) made t h)
+declaration_typed scope s (declarations.Object c n m) made t h = rules.object (object_typed scope s c n m made t h)

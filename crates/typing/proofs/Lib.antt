@@ -6,3 +6,8 @@ pub mod Sound
 pub mod Typed
 pub mod Complete
 pub mod Declared
+pub mod SimpleForms
+pub mod Does
+pub mod StatementsGo
+pub mod StatementsTyped
+pub mod Wholes

@@ -106,7 +106,7 @@ found_typed : (scope : Scope) (s : State) (n : Name) (x : Seen) (t : State) (o :
 found_typed scope s n x t None found h = absurd (cc)
 found_typed scope s n x t (Some f) found h = ruled_typed scope s n f x t (name_rule scope.context f.kind) found refl h
 
-name_form_typed : (n : Name) (scope : Scope) (s : State) (x : Seen) (t : State) → Goes (forms.name_form n scope) s x t → IsTyped scope s (trees.Name n) x t
+pub name_form_typed : (n : Name) (scope : Scope) (s : State) (x : Seen) (t : State) → Goes (forms.name_form n scope) s x t → IsTyped scope s (trees.Name n) x t
 unfolding forms.name_form
 name_form_typed n scope s x t h = found_typed scope s n x t (look n.text s.names) refl h.is
 
