@@ -7,3 +7,7 @@ pub mod SpendingForms
 pub mod SpendingPrograms
 pub mod Computing
 pub mod Turns
+pub mod Tuples
+pub mod TupleSteps
+pub mod Rows
+pub mod TupleStack

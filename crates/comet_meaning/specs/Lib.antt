@@ -12,6 +12,7 @@ pub mod Operators
 pub mod Arrays
 pub mod Builtins
 pub mod Generators
+pub mod Odometer
 pub mod Aggregates
 pub mod Data
 pub mod Models
