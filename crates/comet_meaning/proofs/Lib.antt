@@ -7,7 +7,9 @@ pub mod SpendingForms
 pub mod SpendingPrograms
 pub mod Computing
 pub mod Turns
+pub mod Endings
 pub mod Tuples
 pub mod TupleSteps
 pub mod Rows
 pub mod TupleStack
+pub mod Domains

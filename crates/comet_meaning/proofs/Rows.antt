@@ -9,25 +9,27 @@ use Rattle.comet_syntax.specs.declared.tree.expressions.ChainOperator.{ChainOper
 use Rattle.checked_tree.specs.declared.kind.Kind.{Kind}
 use Rattle.checked_tree.specs.Shape as shapes
 use Rattle.checked_tree.specs.Shape.{Shape, Seen, whole, rows, wholes}
-use Rattle.checked_tree.specs.Actions.{Shown}
+use Rattle.checked_tree.specs.Actions.{Shown, Sized}
 use Rattle.checked_tree.specs.Tasks.{Work, row_of}
-use Rattle.comet_meaning.specs.Values.{Value}
+use Rattle.comet_meaning.specs.Values.{Value, Number, Bounds}
 use Rattle.comet_meaning.specs.Terms.{Term, joined}
 use Rattle.comet_meaning.specs.State.{State, Left, left}
-use Rattle.comet_meaning.specs.Outcome.{Outcome, Went, Halted, Halt, Act, then_do}
+use Rattle.comet_meaning.specs.Outcome.{Outcome, Went, Halted, Halt, then_do}
 use Rattle.comet_meaning.specs.Levels.{Level, Flow, Next, Returned}
-use Rattle.comet_meaning.specs.Parts.{items, value, values}
+use Rattle.comet_meaning.specs.Parts.{items, value, values, bounds}
 use Rattle.comet_meaning.specs.Operators.{link_form, links_form}
+use Rattle.comet_meaning.specs.Cells.{put}
+use Rattle.comet_meaning.specs.Generators.{Bound, bind}
+use Rattle.comet_meaning.specs.Declarations.{Dimension, dimensions_form}
 use Rattle.comet_meaning.specs.Calls.{argument_form, arguments_form, own_array, own_arrays}
 use Rattle.comet_meaning.specs.TermForms.{joined_form}
 use Rattle.comet_meaning.specs.Printing.{shown_form, print_form}
 use Rattle.comet_meaning.specs.Loops.{tasks, then_next, tasks_form}
-use Rattle.comet_meaning.specs.Onward.{IsOnward, left_by, GoesOn}
-use Rattle.comet_meaning.proofs.GoingOn.{then_on}
-use Rattle.comet_meaning.proofs.GoingParts.{LevelGoesOn, goes_values, goes_links}
+use Rattle.comet_meaning.specs.Onward.{IsOnward, left_by}
+use Rattle.comet_meaning.proofs.GoingParts.{LevelGoesOn, goes_values, goes_links, goes_bind}
 use Rattle.comet_meaning.proofs.GoingExpressions.{goes_arguments, goes_own_arrays, goes_joined}
-use Rattle.comet_meaning.proofs.GoingStatements.{goes_printing, goes_then_next, goes_tasks}
-use Rattle.comet_meaning.proofs.Tuples.{halted_then, went_then}
+use Rattle.comet_meaning.proofs.GoingStatements.{goes_dimensions, goes_printing, goes_then_next, goes_tasks}
+use Rattle.comet_meaning.proofs.Endings.{went_then, halted_then, Passes, passes_to}
 
 -- rows as lists
 
@@ -62,10 +64,6 @@ found_stands [] i x e = absurd (none-some x e)
 found_stands (y ∷ ys) zero x e = (omega arith, sym (same_Some y x e))
 found_stands (y ∷ ys) (suc i) x e = let p = found_stands ys i x e in (omega (arith, p.0), p.1)
 
--- a part that goes onward, and then a rest that does
-stops_at : {A B : Type 0} {a : Left} {w : Outcome B} (o : Outcome A) (f : A → Act B) → then_do o f ≡ w → ((x : A) → GoesOn (f x)) → IsOnward a (left_by o) → IsOnward a (left_by w)
-stops_at {a = a} o f e k on = subst (λ w. IsOnward a (left_by w)) e (then_on a o f on k)
-
 -- values
 
 pub record ValuesLeft {X : Type 0} (l : Level) (f : X → Shape) (xs : List X) (i : ℕ) (vs : List Value) (s : State) (w : Outcome (List Value)) : Type 0 where
@@ -93,8 +91,8 @@ module _ {X : Type 0} {l : Level} {f : X → Shape} {xs : List X} {i : ℕ} {vs 
     pub values_halt : {h : Halt} {t : Left} → value l (f x) s ≡ Halted h t → w ≡ Halted h t
     values_halt e = sym values_at ∙ halted_then _ e
 
-    pub values_stop : {a : Left} → LevelGoesOn l → IsOnward a (left_by (value l (f x) s)) → IsOnward a (left_by w)
-    values_stop k on = stops_at _ _ values_at (λ v. goes_values l k _ _) on
+    pub values_err : (P : (A : Type 0) → Outcome A → Type 0) → Passes P → LevelGoesOn l → P Value (value l (f x) s) → P (List Value) w
+    values_err P through k e = passes_to P through _ _ values_at (λ v. goes_values l k _ _) e
 
 -- statements
 
@@ -126,8 +124,8 @@ module _ {X : Type 0} {l : Level} {f : X → Work} {xs : List X} {i : ℕ} {s : 
     pub tasks_halt : {h : Halt} {t : Left} → l.stmt (f x) s ≡ Halted h t → w ≡ Halted h t
     tasks_halt e = sym tasks_at ∙ halted_then _ e
 
-    pub tasks_stop : {a : Left} → LevelGoesOn l → IsOnward a (left_by (l.stmt (f x) s)) → IsOnward a (left_by w)
-    tasks_stop k on = stops_at _ _ tasks_at (λ flow. goes_then_next (goes_tasks l k _) flow) on
+    pub tasks_err : (P : (A : Type 0) → Outcome A → Type 0) → Passes P → LevelGoesOn l → P Flow (l.stmt (f x) s) → P Flow w
+    tasks_err P through k e = passes_to P through _ _ tasks_at (λ flow. goes_then_next (goes_tasks l k _) flow) e
 
 -- operands of a chain
 
@@ -156,8 +154,8 @@ module _ {X : Type 0} {l : Level} {f : X → Shape} {xs : List X} {i : ℕ} {v :
     pub links_halt : {h : Halt} {t : Left} → link_form l at o e v s ≡ Halted h t → w ≡ Halted h t
     links_halt e = sym links_at ∙ halted_then _ e
 
-    pub links_stop : {a : Left} → LevelGoesOn l → IsOnward a (left_by (link_form l at o e v s)) → IsOnward a (left_by w)
-    links_stop k on = stops_at _ _ links_at (λ u. goes_links l k _ u) on
+    pub links_err : (P : (A : Type 0) → Outcome A → Type 0) → Passes P → LevelGoesOn l → P Value (link_form l at o e v s) → P Value w
+    links_err P through k e = passes_to P through _ _ links_at (λ u. goes_links l k _ u) e
 
 -- operands of a chain, as terms
 
@@ -186,8 +184,8 @@ module _ {X : Type 0} {l : Level} {f : X → Shape} {xs : List X} {i : ℕ} {t :
     pub terms_halt : {h : Halt} {r : Left} → l.term e s ≡ Halted h r → w ≡ Halted h r
     terms_halt e = sym terms_at ∙ halted_then _ e
 
-    pub terms_stop : {a : Left} → LevelGoesOn l → IsOnward a (left_by (l.term e s)) → IsOnward a (left_by w)
-    terms_stop k on = stops_at _ _ terms_at (λ u. goes_joined l k _ _) on
+    pub terms_err : (P : (A : Type 0) → Outcome A → Type 0) → Passes P → LevelGoesOn l → P Term (l.term e s) → P Term w
+    terms_err P through k e = passes_to P through _ _ terms_at (λ u. goes_joined l k _ _) e
 
 -- what is printed
 
@@ -216,8 +214,8 @@ module _ {X : Type 0} {l : Level} {f : X → Shown} {xs : List X} {i : ℕ} {s :
     pub prints_halt : {h : Halt} {t : Left} → shown_form l (f x) s ≡ Halted h t → w ≡ Halted h t
     prints_halt e = sym prints_at ∙ halted_then _ e
 
-    pub prints_stop : {a : Left} → LevelGoesOn l → IsOnward a (left_by (shown_form l (f x) s)) → IsOnward a (left_by w)
-    prints_stop k on = stops_at _ _ prints_at (λ _. goes_printing l k _) on
+    pub prints_err : (P : (A : Type 0) → Outcome A → Type 0) → Passes P → LevelGoesOn l → P (Unit {0}) (shown_form l (f x) s) → P (Unit {0}) w
+    prints_err P through k e = passes_to P through _ _ prints_at (λ _. goes_printing l k _) e
 
 -- arguments, each with the kind of its parameter
 
@@ -260,8 +258,8 @@ module _ {X : Type 0} {l : Level} {f : X → Shape} {ks : List Kind} {xs : List 
     pub arguments_halt : {h : Halt} {t : Left} → argument_form l k (f x) s ≡ Halted h t → w ≡ Halted h t
     arguments_halt e = sym arguments_at ∙ halted_then _ e
 
-    pub arguments_stop : {a : Left} → LevelGoesOn l → IsOnward a (left_by (argument_form l k (f x) s)) → IsOnward a (left_by w)
-    arguments_stop g on = stops_at _ _ arguments_at (λ v. goes_arguments l g _ _ _) on
+    pub arguments_err : (P : (A : Type 0) → Outcome A → Type 0) → Passes P → LevelGoesOn l → P Value (argument_form l k (f x) s) → P (List Value) w
+    arguments_err P through g e = passes_to P through _ _ arguments_at (λ v. goes_arguments l g _ _ _) e
 
 -- arrays that a function may write
 
@@ -284,3 +282,63 @@ module _ {vs : List Value} {i : ℕ} {ws : List Value} {s : State} {w : Outcome 
 
     pub own_step : {u : Value} {t : State} → own_array v s ≡ Went u t → OwnLeft vs (i + 1) (ws ++ u ∷ []) t w
     own_step e = record { left = sym (went_then _ e) ∙ own_at }
+
+    pub own_err : (P : (A : Type 0) → Outcome A → Type 0) → Passes P → P Value (own_array v s) → P (List Value) w
+    own_err P through e = passes_to P through (own_array v s) (λ u. own_arrays (drop (i + 1) vs) (ws ++ u ∷ [])) own_at (λ u. goes_own_arrays (drop (i + 1) vs) (ws ++ u ∷ [])) e
+
+-- names that get their values
+
+pub record NamesLeft {X : Type 0} (f : X → Bound) (xs : List X) (i : ℕ) (s : State) (w : Outcome (Unit {0})) : Type 0 where
+  pub left : bind (map f (drop i xs)) s ≡ w
+
+pub names_start : {X : Type 0} (f : X → Bound) (xs : List X) (known : List Bound) (s : State) → known ≡ map f xs → NamesLeft f xs 0 s (bind known s)
+names_start f xs known s e = record { left = ap (λ ys. bind ys s) (sym e) }
+
+module _ {X : Type 0} {f : X → Bound} {xs : List X} {i : ℕ} {s : State} {w : Outcome (Unit {0})} (m : NamesLeft f xs i s w) where
+  pub names_end : length xs ≤ i → w ≡ Went tt s
+  unfolding bind
+  names_end h = sym m.left ∙ at_end (λ ys. bind ys s) f xs i h
+
+  pub names_onward : IsOnward (left s) (left_by w)
+  names_onward = subst (λ o. IsOnward (left s) (left_by o)) m.left ((goes_bind (map f (drop i xs))).from s)
+
+  module _ (x : X) (h : i < length xs) (is : x ≡ get_or xs i x) where
+    pub names_at : then_do (put (f x).slot (Number (f x).value) s) (λ _. bind (map f (drop (i + 1) xs))) ≡ w
+    unfolding bind
+    names_at = sym (at_next (λ ys. bind ys s) f xs i x h is) ∙ m.left
+
+    pub names_step : {t : State} → put (f x).slot (Number (f x).value) s ≡ Went tt t → NamesLeft f xs (i + 1) t w
+    names_step e = record { left = sym (went_then _ e) ∙ names_at }
+
+    pub names_err : (P : (A : Type 0) → Outcome A → Type 0) → Passes P → P (Unit {0}) (put (f x).slot (Number (f x).value) s) → P (Unit {0}) w
+    names_err P through e = passes_to P through _ _ names_at (λ _. goes_bind _) e
+
+-- dimensions of an array
+
+pub record DimensionsLeft {X : Type 0} (l : Level) (f : X → Sized) (xs : List X) (i : ℕ) (ds : List Dimension) (s : State) (w : Outcome (List Dimension)) : Type 0 where
+  pub left : dimensions_form l (map f (drop i xs)) ds s ≡ w
+
+pub dimensions_start : {X : Type 0} (l : Level) (f : X → Sized) (xs : List X) (sizes : List Sized) (s : State) → sizes ≡ map f xs → DimensionsLeft l f xs 0 [] s (dimensions_form l sizes [] s)
+dimensions_start l f xs sizes s e = record { left = ap (λ ys. dimensions_form l ys [] s) (sym e) }
+
+module _ {X : Type 0} {l : Level} {f : X → Sized} {xs : List X} {i : ℕ} {ds : List Dimension} {s : State} {w : Outcome (List Dimension)} (m : DimensionsLeft l f xs i ds s w) where
+  pub dimensions_end : length xs ≤ i → w ≡ Went ds s
+  unfolding dimensions_form
+  dimensions_end h = sym m.left ∙ at_end (λ ys. dimensions_form l ys ds s) f xs i h
+
+  pub dimensions_onward : LevelGoesOn l → IsOnward (left s) (left_by w)
+  dimensions_onward k = subst (λ o. IsOnward (left s) (left_by o)) m.left ((goes_dimensions l k (map f (drop i xs)) ds).from s)
+
+  module _ (x : X) (h : i < length xs) (is : x ≡ get_or xs i x) where
+    pub dimensions_at : then_do (bounds l (whole (f x).range) s) (λ b. dimensions_form l (map f (drop (i + 1) xs)) (ds ++ record { slot = (f x).slot; bounds = b } ∷ [])) ≡ w
+    unfolding dimensions_form
+    dimensions_at = sym (at_next (λ ys. dimensions_form l ys ds s) f xs i x h is) ∙ m.left
+
+    pub dimensions_step : {b : Bounds} {t : State} → bounds l (whole (f x).range) s ≡ Went b t → DimensionsLeft l f xs (i + 1) (ds ++ record { slot = (f x).slot; bounds = b } ∷ []) t w
+    dimensions_step e = record { left = sym (went_then _ e) ∙ dimensions_at }
+
+    pub dimensions_halt : {h : Halt} {t : Left} → bounds l (whole (f x).range) s ≡ Halted h t → w ≡ Halted h t
+    dimensions_halt e = sym dimensions_at ∙ halted_then _ e
+
+    pub dimensions_err : (P : (A : Type 0) → Outcome A → Type 0) → Passes P → LevelGoesOn l → P Bounds (bounds l (whole (f x).range) s) → P (List Dimension) w
+    dimensions_err P through k e = passes_to P through _ _ dimensions_at (λ b. goes_dimensions l k _ _) e

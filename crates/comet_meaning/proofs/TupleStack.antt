@@ -1,4 +1,4 @@
--- A loop over tuples with one list of names and a stack of pending values, the last generator's on top.
+-- A loop over tuples keeps one list of names, and a stack of the values that the open generators have left.
 use Rattle.std.proofs.Common.{◌≡◌, refl, sym, ap, ◌∙◌, ℕ, ◌+◌, ◌-◌, ◌<◌, ◌≤◌, ℤ, Bool, true, false, List, [], ◌∷◌, map, length, take, drop, get_or, Some, None, arith}
 use Rattle.std.proofs.lemmas.List.{at_drop_more, drop_all, drop-map, take_all, take-take, take_at, take-append-le, length-take-le, length_push}
 use Rattle.cbl_base.specs.declared.place.Place.{Place}
@@ -7,18 +7,18 @@ use Rattle.checked_tree.specs.Shape as shapes
 use Rattle.checked_tree.specs.Shape.{Shape}
 use Rattle.comet_meaning.specs.Values.{Value}
 use Rattle.comet_meaning.specs.State.{State, left}
-use Rattle.comet_meaning.specs.Outcome.{Outcome, Went, Act, charge}
+use Rattle.comet_meaning.specs.Outcome.{Outcome, Went, Act}
 use Rattle.comet_meaning.specs.Levels.{Level}
 use Rattle.comet_meaning.specs.Parts.{value}
-use Rattle.comet_meaning.specs.Generators.{Bound, with_bound, bind, each_tuple}
-use Rattle.comet_meaning.specs.Odometer.{Pending, pending_of, next_of, behind_next, Opened, rest_of, open_at, stack_of}
+use Rattle.comet_meaning.specs.Generators.{Bound, with_bound, each_tuple}
+use Rattle.comet_meaning.specs.Odometer.{Pending, pending_of, next_of, behind_next, Opened, begun, rest_of, open_at, stack_of}
 use Rattle.comet_meaning.specs.Onward.{IsOnward, left_by, GoesOn}
 use Rattle.comet_meaning.proofs.GoingParts.{LevelGoesOn}
 use Rattle.comet_meaning.proofs.Tuples.{tuples_of_none}
 use Rattle.comet_meaning.proofs.TupleSteps as steps
 use Rattle.comet_meaning.proofs.TupleSteps.{Remains}
 
--- a generator that stands there
+-- a generator, where it stands
 
 pub record IsGenerator {X : Type 0} (f : X → Shape) (xs : List X) (n : ℕ) (place : Place) (slot : Slot) (domain : Shape) : Type 0 where
   pub inside : n < length xs
@@ -30,8 +30,13 @@ is_generator f xs n x h is e = record {
   there = drop-map f n xs ∙ at_drop_more (map f) xs n x h ∙ ap (λ y. f y ∷ map f (drop (n + 1) xs)) (sym is) ∙ ap (λ g. g ∷ map f (drop (n + 1) xs)) e;
 }
 
-none_later : {X : Type 0} (f : X → Shape) (xs : List X) (n : ℕ) → length xs ≡ n → map f (drop n xs) ≡ []
+-- what stands behind a generator: none, or another one
+
+pub none_later : {X : Type 0} (f : X → Shape) (xs : List X) (n : ℕ) → length xs ≡ n → map f (drop n xs) ≡ []
 none_later f xs n h = ap (map f) (drop_all n xs (omega arith))
+
+pub one_later : {X : Type 0} {f : X → Shape} {xs : List X} {n : ℕ} {place : Place} {slot : Slot} {domain : Shape} → IsGenerator f xs n place slot domain → map f (drop n xs) ≡ shapes.generator place slot domain ∷ map f (drop (n + 1) xs)
+one_later {f = f} {xs = xs} {n = n} g = sym (drop-map f n xs) ∙ g.there
 
 none_pending : (bounds : List Bound) (n : ℕ) (p : Pending) (hs : List Shape) → next_of p ≡ None → next_of (open_at bounds n p hs).pending ≡ None
 none_pending bounds n p (shapes.generator place slot domain ∷ hs) e = e
@@ -57,6 +62,8 @@ top_is : {X : Type 0} (f : X → Shape) (xs : List X) (bounds known : List Bound
 top_is f xs bounds known n p {place} {slot} g e =
     ap (open_at bounds n p) g.there ∙ ap (λ ks. record { place = place; slot = slot; known = ks; later = map f (drop (n + 1) xs); pending = p }) e
 
+-- What is still to be done from here is the whole. Each generator but the last open one has a value, so one name fewer
+-- is known than generators are open.
 pub record TuplesLeft {A X : Type 0} (l : Level) (at : Place) (more : A → Bool) (visit : ℤ → A → Act A) (f : X → Shape) (xs : List X) (bounds : List Bound) (ps : List Pending) (x : A) (s : State) (w : Outcome A) : Type 0 where
   pub rest : rest_of l at more visit (stack_of (map f xs) bounds ps) x s ≡ w
   pub known : length bounds ≡ length ps - 1
@@ -112,21 +119,21 @@ module _ {A X : Type 0} {l : Level} {at : Place} {more : A → Bool} {visit : �
       record { rest = ap (λ o. rest_of l at more visit (o ∷ stack_of (map f xs) bounds ps) x s) (sym (top_is f xs bounds bounds (length ps) p g (take_all (length ps) bounds (omega arith)))) ∙ m.rest }
 
   -- a tuple was visited
-  pub tuples_visit : {p : Pending} {ps : List Pending} {place : Place} {slot : Slot} {domain : Shape} {t u r : State} {y : A} (v : ℤ) → TuplesLeft l at more visit f xs bounds (p ∷ ps) x s w → IsGenerator f xs (length ps) place slot domain → length xs ≡ length ps + 1 → more x ≡ true → next_of p ≡ Some v → charge 1 at s ≡ Went tt t → bind (with_bound bounds slot v) t ≡ Went tt u → visit v x u ≡ Went y r → TuplesLeft l at more visit f xs bounds (behind_next p ∷ ps) y r w
-  tuples_visit {p} {ps} {r = r} {y = y} v m g last on next c b e =
+  pub tuples_visit : {p : Pending} {ps : List Pending} {place : Place} {slot : Slot} {domain : Shape} {u r : State} {y : A} (v : ℤ) → TuplesLeft l at more visit f xs bounds (p ∷ ps) x s w → IsGenerator f xs (length ps) place slot domain → length xs ≡ length ps + 1 → more x ≡ true → next_of p ≡ Some v → begun at (with_bound bounds slot v) s ≡ Went tt u → visit v x u ≡ Went y r → TuplesLeft l at more visit f xs bounds (behind_next p ∷ ps) y r w
+  tuples_visit {p} {ps} {r = r} {y = y} v m g last on next b e =
       let known : length bounds ≡ length (p ∷ ps) - 1 = m.known in
       let inside : length (p ∷ ps) ≤ length xs = m.inside in
       record {
         rest =
             ap (λ o. rest_of l at more visit (o ∷ stack_of (map f xs) bounds ps) y r) (top_is f xs bounds bounds (length ps) (behind_next p) g (take_all (length ps) bounds (omega arith)))
-            ∙ (steps.visits v (tuples_top m g) on next (none_later f xs (length ps + 1) last) c b e).rest;
+            ∙ (steps.visits v (tuples_top m g) on next (none_later f xs (length ps + 1) last) b e).rest;
         known = omega arith;
         inside = omega arith;
       }
 
   -- the next generator's domain gave a value
-  pub tuples_next : {p : Pending} {ps : List Pending} {place place' : Place} {slot slot' : Slot} {domain domain' : Shape} {t u r : State} {d : Value} (v : ℤ) → TuplesLeft l at more visit f xs bounds (p ∷ ps) x s w → IsGenerator f xs (length ps) place slot domain → IsGenerator f xs (length ps + 1) place' slot' domain' → more x ≡ true → next_of p ≡ Some v → charge 1 place s ≡ Went tt t → bind (with_bound bounds slot v) t ≡ Went tt u → value l domain' u ≡ Went d r → TuplesLeft l at more visit f xs (with_bound bounds slot v) (pending_of d ∷ behind_next p ∷ ps) x r w
-  tuples_next {p} {ps} {slot = slot} {r = r} {d = d} v m g g' on next c b e =
+  pub tuples_next : {p : Pending} {ps : List Pending} {place place' : Place} {slot slot' : Slot} {domain domain' : Shape} {u r : State} {d : Value} (v : ℤ) → TuplesLeft l at more visit f xs bounds (p ∷ ps) x s w → IsGenerator f xs (length ps) place slot domain → IsGenerator f xs (length ps + 1) place' slot' domain' → more x ≡ true → next_of p ≡ Some v → begun place (with_bound bounds slot v) s ≡ Went tt u → value l domain' u ≡ Went d r → TuplesLeft l at more visit f xs (with_bound bounds slot v) (pending_of d ∷ behind_next p ∷ ps) x r w
+  tuples_next {p} {ps} {slot = slot} {r = r} {d = d} v m g g' on next b e =
       let known : length bounds ≡ length (p ∷ ps) - 1 = m.known in
       let more_known : length (with_bound bounds slot v) ≡ length bounds + 1 = length_push bounds _ in
       let inside : length ps + 1 < length xs = g'.inside in
@@ -137,7 +144,7 @@ module _ {A X : Type 0} {l : Level} {at : Place} {more : A → Bool} {visit : �
       record {
         rest =
             ap (λ os. rest_of l at more visit os x r) (λ k. top k ∷ second k ∷ below k)
-            ∙ (steps.opens v (tuples_top m g) on next (sym (drop-map f (length ps + 1) xs) ∙ g'.there) c b e).rest;
+            ∙ (steps.opens v (tuples_top m g) on next (one_later g') b e).rest;
         known = omega arith;
         inside = omega arith;
       }

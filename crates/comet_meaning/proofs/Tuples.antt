@@ -6,29 +6,13 @@ use Rattle.checked_tree.specs.declared.expressions.Slot.{Slot}
 use Rattle.checked_tree.specs.Shape as shapes
 use Rattle.checked_tree.specs.Shape.{Shape}
 use Rattle.comet_meaning.specs.Values.{Value, Range, Set}
-use Rattle.comet_meaning.specs.State.{State, Left}
-use Rattle.comet_meaning.specs.Outcome.{Outcome, Went, Halted, Halt, Act, then_do, ◌>>=◌, give, charge, each_of, each_from, each_in}
+use Rattle.comet_meaning.specs.State.{State}
+use Rattle.comet_meaning.specs.Outcome.{Went, Act, then_do, ◌>>=◌, give, charge, each_of, each_from, each_in}
 use Rattle.comet_meaning.specs.Levels.{Level}
 use Rattle.comet_meaning.specs.Parts.{value}
 use Rattle.comet_meaning.specs.Generators.{Bound, with_bound, bind, generated, each_tuple}
-use Rattle.comet_meaning.specs.Odometer.{Pending, Numbers, Members, pending_of, next_of, behind_next, each_pending, Opened, opened, advanced, known_at, one_value, rest_of}
-
--- parts behind one another
-
-pub then_give : {A : Type 0} (o : Outcome A) → then_do o (λ x s. Went x s) ≡ o
-then_give (Went x s) = refl
-then_give (Halted h t) = refl
-
-pub then_then : {A B C : Type 0} (o : Outcome A) (f : A → Act B) (g : B → Act C) → then_do (then_do o f) g ≡ then_do o (λ x s. then_do (f x s) g)
-then_then (Went x s) f g = refl
-then_then (Halted h t) f g = refl
-
--- what halts a part halts all
-pub halted_then : {A B : Type 0} {o : Outcome A} {h : Halt} {t : Left} (f : A → Act B) → o ≡ Halted h t → then_do o f ≡ Halted h t
-halted_then f e = ap (λ o. then_do o f) e
-
-pub went_then : {A B : Type 0} {o : Outcome A} {x : A} {s : State} (f : A → Act B) → o ≡ Went x s → then_do o f ≡ f x s
-went_then f e = ap (λ o. then_do o f) e
+use Rattle.comet_meaning.specs.Odometer.{Pending, Numbers, Members, pending_of, next_of, behind_next, each_pending, Opened, opened, advanced, known_at, one_value, begun, rest_of}
+use Rattle.comet_meaning.proofs.Endings.{then_give, then_then, went_then}
 
 -- the values that are left
 
@@ -38,19 +22,19 @@ each_in_is more f (Range b) x = refl
 each_in_is more f (Set xs) x = refl
 each_in_is more f v x = refl
 
-pending_ends : {A : Type 0} (more : A → Bool) (f : ℤ → A → Act A) (p : Pending) (x : A) (s : State) → next_of p ≡ None → each_pending more f p x s ≡ Went x s
+pub pending_ends : {A : Type 0} (more : A → Bool) (f : ℤ → A → Act A) (p : Pending) (x : A) (s : State) → next_of p ≡ None → each_pending more f p x s ≡ Went x s
 pending_ends more f (Numbers v zero) x s e = refl
 pending_ends more f (Numbers v (suc n)) x s e = absurd (none-some v (sym e))
 pending_ends more f (Members []) x s e = refl
 pending_ends more f (Members (v ∷ vs)) x s e = absurd (none-some v (sym e))
 
-pending_over : {A : Type 0} (more : A → Bool) (f : ℤ → A → Act A) (p : Pending) (x : A) (s : State) → more x ≡ false → each_pending more f p x s ≡ Went x s
+pub pending_over : {A : Type 0} (more : A → Bool) (f : ℤ → A → Act A) (p : Pending) (x : A) (s : State) → more x ≡ false → each_pending more f p x s ≡ Went x s
 pending_over more f (Numbers v zero) x s e = refl
 pending_over more f (Numbers v (suc n)) x s e = ap (λ b. (if b then (λ t. then_do (f v x t) (each_from more f (v +ℤ pos 1) n)) else give x) s) e
 pending_over more f (Members []) x s e = refl
 pending_over more f (Members (v ∷ vs)) x s e = ap (λ b. (if b then (λ t. then_do (f v x t) (each_of more f vs)) else give x) s) e
 
-pending_step : {A : Type 0} (more : A → Bool) (f : ℤ → A → Act A) (p : Pending) (v : ℤ) (x : A) (s : State) → more x ≡ true → next_of p ≡ Some v → each_pending more f p x s ≡ then_do (f v x s) (each_pending more f (behind_next p))
+pub pending_step : {A : Type 0} (more : A → Bool) (f : ℤ → A → Act A) (p : Pending) (v : ℤ) (x : A) (s : State) → more x ≡ true → next_of p ≡ Some v → each_pending more f p x s ≡ then_do (f v x s) (each_pending more f (behind_next p))
 pending_step more f (Numbers w zero) v x s m e = absurd (none-some v e)
 pending_step more f (Numbers w (suc n)) v x s m e =
     ap (λ b. (if b then (λ t. then_do (f w x t) (each_from more f (w +ℤ pos 1) n)) else give x) s) m
@@ -66,6 +50,10 @@ unfolding generated
 generated_then at known next f s =
     then_then (charge 1 at s) (λ _ t. then_do (bind known t) (λ _. next)) f
     ∙ (λ k. then_do (charge 1 at s) (λ _ t. then_then (bind known t) (λ _. next) f k))
+
+-- the unit and the names come first
+pub begun_first : {A : Type 0} (at : Place) (known : List Bound) (next : Act A) (s : State) → then_do (begun at known s) (λ _. next) ≡ then_do (charge 1 at s) (λ _. bind known >>= λ _. next)
+begun_first at known next s = generated_then at known (give tt) (λ _. next) s
 
 module _ {A : Type 0} (l : Level) (at : Place) (more : A → Bool) (visit : ℤ → A → Act A) where
   -- without generators nothing is done

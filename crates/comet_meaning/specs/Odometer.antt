@@ -67,6 +67,10 @@ abbrev pub one_value : {A : Type 0} → Level → Place → (A → Bool) → (�
 one_value l at more visit place known [] v x = generated at known (visit v x)
 one_value l at more visit place known (g ∷ gs) v x = generated place known (each_tuple l at more visit known (g ∷ gs) x)
 
+-- how one value begins: its unit is charged, and the names get their values
+abbrev pub begun : Place → List Bound → Act (Unit {0})
+begun at known = generated at known (give tt)
+
 -- what is still to be done where these generators are open
 unfoldable pub rest_of : {A : Type 0} → Level → Place → (A → Bool) → (ℤ → A → Act A) → List Opened → A → Act A
 rest_of l at more visit [] x = give x
