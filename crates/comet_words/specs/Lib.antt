@@ -1,0 +1,6 @@
+pub mod Asked
+pub mod Given
+pub mod Items
+pub mod Options
+pub mod Values
+pub mod View
