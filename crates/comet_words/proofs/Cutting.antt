@@ -8,7 +8,7 @@ use Rattle.comet_words.specs.Options.{setting_named, settings, spelling}
 use Rattle.comet_words.specs.Items.{alone, items}
 use Rattle.comet_words.specs.View.{texts}
 
-some_same : {A : Type 0} (x y : A) → Some x ≡ Some y → x ≡ y
+pub some_same : {A : Type 0} (x y : A) → Some x ≡ Some y → x ≡ y
 some_same x y same = cc
 
 -- what a search finds passes its test
@@ -32,12 +32,13 @@ spelling_alone Fuel = refl
 spelling_alone Generate = refl
 
 -- an option without a value says nothing
-option_alone : (word : List ℕ) (setting : Setting) → setting_named word ≡ Some setting → alone word ≡ None
+pub option_alone : (word : List ℕ) (setting : Setting) → setting_named word ≡ Some setting → alone word ≡ None
 option_alone word setting named = subst (λ w. alone w ≡ None) (sym (named_spelling word setting named)) (spelling_alone setting)
 
 -- words that end with an option without a value aren't items
 pub lone_option : {A : Type 0} (words : List (String A)) (word : String A) (setting : Setting) → 0 < length words → length words ≤ 1
     → word ≡ slice_index_or words 0 word → setting_named (string_bytes word) ≡ Some setting → items (texts words) ≡ None
 lone_option [] word setting some few at named = absurd (omega arith)
-lone_option (x ∷ []) word setting some few at named = rw (option_alone (string_bytes x) setting (subst (λ w. setting_named (string_bytes w) ≡ Some setting) at named)) refl
+lone_option (x ∷ []) word setting some few at named =
+    rw (option_alone (string_bytes x) setting (subst (λ w. setting_named (string_bytes w) ≡ Some setting) at named)) refl
 lone_option (x ∷ y ∷ more) word setting some few at named = absurd (omega arith)

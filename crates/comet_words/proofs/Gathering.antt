@@ -35,7 +35,8 @@ given_twice known (FuelItem fuel) items is = rw (taken known.fuel fuel (filter_m
 given_twice known JournalItem items is = rw (taken known.journal true (filter_map journal_in items) is) (simp bind_none)
 
 -- an item that wasn't given before is given now
-pub given_now : (known : Known) (item : Item) (items : List Item) → has known item ≡ false → asked_with known (item ∷ items) ≡ asked_with (with known item) items
+pub given_now : (known : Known) (item : Item) (items : List Item) → has known item ≡ false
+    → asked_with known (item ∷ items) ≡ asked_with (with known item) items
 given_now known (OriginItem origin) items is = rw (free known.origin origin (filter_map origin_in items) is) refl
 given_now known (DataItem name) items is = rw (free known.data_file name (filter_map data_in items) is) refl
 given_now known (ReplayItem name) items is = rw (free known.replay_file name (filter_map replay_in items) is) refl
@@ -57,7 +58,8 @@ pub asked_with_no_more : (known : Known) → asked_with known [] ≡ all_given k
 asked_with_no_more known = refl
 
 -- what is asked for by what was given and the words that are left, each case of the first item
-pub more_twice : (known : Known) (item : Item) (more : Option (List Item)) → has known item ≡ true → option_and_then (asked_with known) (followed item more) ≡ None
+pub more_twice : (known : Known) (item : Item) (more : Option (List Item)) → has known item ≡ true
+    → option_and_then (asked_with known) (followed item more) ≡ None
 more_twice known item None is = refl
 more_twice known item (Some items) is = given_twice known item items is
 

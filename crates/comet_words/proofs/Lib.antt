@@ -1,3 +1,4 @@
 pub mod Numerals
 pub mod Cutting
 pub mod Gathering
+pub mod Forming

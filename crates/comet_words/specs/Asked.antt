@@ -43,13 +43,13 @@ abbrev pub journal_in : Item → Option Bool
 journal_in JournalItem = Some true
 journal_in item = None
 
--- the one member of a list, if it has one at all; a list with more has none
+-- the member of a list, or that it has none; nothing where it has more than one
 abbrev pub at_most_one : {A : Type 0} → List A → Option (Option A)
 at_most_one [] = Some None
 at_most_one (x ∷ []) = Some (Some x)
 at_most_one (x ∷ y ∷ more) = None
 
--- the one member of a list
+-- the member of a list; nothing where it has none, or more than one
 abbrev pub exactly_one : {A : Type 0} → List A → Option A
 exactly_one [] = None
 exactly_one (x ∷ []) = Some x

@@ -65,4 +65,12 @@ asked_with known items = do
   fuel ← one_more known.fuel (filter_map fuel_in items)
   journal ← one_more known.journal (filter_map journal_in items)
   origin ← one_more known.origin (filter_map origin_in items)
-  all_given (record { origin = origin; data_file = data_file; replay_file = replay_file; seed = seed; workers = workers; fuel = fuel; journal = journal })
+  all_given (record {
+    origin = origin;
+    data_file = data_file;
+    replay_file = replay_file;
+    seed = seed;
+    workers = workers;
+    fuel = fuel;
+    journal = journal;
+  })

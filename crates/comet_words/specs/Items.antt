@@ -4,7 +4,7 @@ use Rattle.std.specs.Prelude.{ℕ, Bool, ◌==◌, List, [], ◌∷◌, Option, 
 use Rattle.std.specs.List.{before_first, after_first}
 use Rattle.comet_words.specs.declared.setting.Setting.{Setting}
 use Rattle.comet_words.specs.Values.{is_name}
-use Rattle.comet_words.specs.Options.{Item, OriginItem, JournalItem, Named, set, setting_named}
+use Rattle.comet_words.specs.Options.{Item, OriginItem, JournalItem, Named, item_of, setting_named}
 
 abbrev pub is_equals : ℕ → Bool
 is_equals byte = byte == 61
@@ -13,17 +13,20 @@ infixl 10 ◌>>=◌
 abbrev pub ◌>>=◌ : {A B : Type 0} → Option A → (A → Option B) → Option B
 found >>= f = option_and_then f found
 
--- an option and its value with the first `=` between them
+-- an option and its value with the first `=` between them; without `=` the value is empty, and no option takes that
 abbrev pub joined : List ℕ → Option Item
-joined word = setting_named (before_first is_equals word) >>= λ setting. set setting (after_first is_equals word)
+joined word = setting_named (before_first is_equals word) >>= λ setting. item_of setting (after_first is_equals word)
 
 -- what a word says alone
 abbrev pub alone : List ℕ → Option Item
-alone word = if is_name word then Some (OriginItem (Named word)) else if bytes_eq word (codes "--journal") then Some JournalItem else joined word
+alone word =
+    if is_name word then Some (OriginItem (Named word))
+    else if bytes_eq word (codes "--journal") then Some JournalItem
+    else joined word
 
 -- what an option says with the next word, which isn't empty and doesn't begin with `-`
 abbrev pub apart : Setting → List ℕ → Option Item
-apart setting value = if is_name value then set setting value else None
+apart setting value = if is_name value then item_of setting value else None
 
 -- what a word that is an option's spelling says with the next word
 abbrev pub pair : List ℕ → List ℕ → Option Item

@@ -1,5 +1,6 @@
 pub mod Asked
 pub mod Given
+pub mod InForm
 pub mod Items
 pub mod Options
 pub mod Values

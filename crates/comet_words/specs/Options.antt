@@ -34,10 +34,10 @@ abbrev pub setting_named : List ℕ → Option Setting
 setting_named name = find (λ setting. bytes_eq name (spelling setting)) settings
 
 -- what an option says with its value, where that is one of its values
-abbrev pub set : Setting → List ℕ → Option Item
-set Data value = option_map DataItem (file value)
-set Replay value = option_map ReplayItem (file value)
-set Seed value = option_map SeedItem (number 0 (2 ^ 64 - 1) value)
-set Workers value = option_map WorkersItem (number 1 64 value)
-set Fuel value = option_map FuelItem (number 1 (2 ^ 62) value)
-set Generate value = option_map (λ size. OriginItem (Generated size)) (number 4 2000 value)
+abbrev pub item_of : Setting → List ℕ → Option Item
+item_of Data value = option_map DataItem (file value)
+item_of Replay value = option_map ReplayItem (file value)
+item_of Seed value = option_map SeedItem (number 0 (2 ^ 64 - 1) value)
+item_of Workers value = option_map WorkersItem (number 1 64 value)
+item_of Fuel value = option_map FuelItem (number 1 (2 ^ 62) value)
+item_of Generate value = option_map (λ size. OriginItem (Generated size)) (number 4 2000 value)

@@ -21,4 +21,5 @@ is_number value = nat_lt 0 (length value) && nat_le (length value) 20 && list_al
 -- the number that a value is, at least `least` and at most `most`
 abbrev pub number : ℕ → ℕ → List ℕ → Option ℕ
 number least most value =
-    if is_number value && nat_le least (digits_value 10 value) && nat_le (digits_value 10 value) most then Some (digits_value 10 value) else None
+    let n = digits_value 10 value in
+    if is_number value && nat_le least n && nat_le n most then Some n else None

@@ -3,7 +3,7 @@ ghost use Rattle.std.specs.Prelude.{ℕ, ◌≡◌, ◌<◌, List, ◌∷◌, le
 ghost use Rattle.comet_words.specs.Items.{alone, apart, items, followed};
 ghost use Rattle.comet_words.specs.View.{said, texts};
 
-use crate::setting::{Setting, set, setting_named};
+use crate::setting::{Setting, item_of, setting_named};
 use crate::value::is_name;
 use crate::words::Source;
 
@@ -30,7 +30,7 @@ fn alone(word: &str) -> Option<Item<'_>>
         return Some(Item::Journal);
     }
     let (name, value) = word.split_once('=')?;
-    set(setting_named(name)?, value)
+    item_of(setting_named(name)?, value)
 }
 
 /// What an option says with the next word, which mustn't look like an option.
@@ -38,7 +38,7 @@ fn apart(setting: Setting, value: &str) -> Option<Item<'_>>
     ensures { option_map said result ≡ apart setting value.now }
 {
     if is_name(value) {
-        set(setting, value)
+        item_of(setting, value)
     } else {
         None
     }

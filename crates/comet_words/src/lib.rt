@@ -6,6 +6,7 @@
 
 mod given;
 mod item;
+pub mod laws;
 mod limits;
 mod setting;
 #[cfg(test)]

@@ -1,6 +1,6 @@
 //! The options that have a value.
 ghost use Rattle.std.specs.Prelude.{◌≡◌, option_map};
-ghost use Rattle.comet_words.specs.Options.{set, setting_named};
+ghost use Rattle.comet_words.specs.Options.{item_of, setting_named};
 ghost use Rattle.comet_words.specs.View.{said};
 
 use crate::item::Item;
@@ -35,8 +35,8 @@ pub(crate) fn setting_named(name: &str) -> Option<Setting>
 }
 
 /// What an option says with its value. `None` exactly where the value isn't one of this option's.
-pub(crate) fn set(setting: Setting, value: &str) -> Option<Item<'_>>
-    ensures { option_map said result ≡ set setting value.now }
+pub(crate) fn item_of(setting: Setting, value: &str) -> Option<Item<'_>>
+    ensures { option_map said result ≡ item_of setting value.now }
 {
     match setting {
         Setting::Data => Some(Item::Data(file(value)?)),

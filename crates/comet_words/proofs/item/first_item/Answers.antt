@@ -8,4 +8,5 @@ pub returns-in_err-value-in-Some-clause-cut : goal.returns-in_err-value-in-Some-
 returns-in_err-value-in-Some-clause-cut c =
     let few : length c.args.words.now ≤ 1 = omega (arith, simp (length-take, length-drop) at c.in_err-value-in-Some.ensures.item.3) in
     let named : setting_named (string_bytes c.index-words-0.result) ≡ Some c.in-Some.setting = cc in
-    rw c.from_residual-in_err-value-in-Some.ensures (lone_option c.args.words.now c.index-words-0.result c.in-Some.setting c.requires few c.index-words-0.is named)
+    rw c.from_residual-in_err-value-in-Some.ensures
+    (lone_option c.args.words.now c.index-words-0.result c.in-Some.setting c.requires few c.index-words-0.is named)
