@@ -1,0 +1,16 @@
+//! Two questions about a checked program that are answered before it runs: whether it holds only forms that run
+//! by now, and which of its functions are pure.
+//!
+//! It knows nothing of how a program runs. The layers above use that each answer is its definition.
+#![tactic(auto)]
+
+mod actions;
+mod expressions;
+pub mod functions;
+pub mod programs;
+mod purity;
+mod tasks;
+mod terms;
+
+pub use functions::pure_functions;
+pub use programs::is_built;

@@ -1,0 +1,95 @@
+//! The statements that run by now.
+ghost use Rattle.std.specs.Prelude.{◌≡◌, ◌&&◌, false, map, option_map};
+ghost use Rattle.std.specs.List.{list_all};
+ghost use Rattle.checked_tree.specs.Shape.{seen, shape_of_generator};
+ghost use Rattle.checked_tree.specs.Actions.{deed_of};
+ghost use Rattle.checked_tree.specs.Tasks.{counter_of, row_of, work_of, work_of_act};
+ghost use Rattle.comet_meaning.specs.Built as built;
+
+use crate::actions::{is_built_action, is_built_option};
+use crate::expressions::{are_built_generators, is_built_part};
+use checked_tree::{Act, Action, Counter, Generator, Task, Typed};
+
+fn is_built_counter(counter: &Option<Counter>) -> bool
+    ensures { result ≡ built.is_built_option (λ x. built.is_built_part x.start) (option_map counter_of counter.now) }
+{
+    match counter {
+        None => true,
+        Some(counter) => is_built_part(&counter.start),
+    }
+}
+
+fn is_built_step(step: &Option<Action>) -> bool
+    ensures { result ≡ built.is_built_option (built.is_built_deed false) (option_map deed_of step.now) }
+{
+    match step {
+        None => true,
+        Some(step) => is_built_action(false, step),
+    }
+}
+
+#[tactic(auto, using(crate::proofs::Lists::built_rows))]
+fn is_built_head(generators: &[Generator], condition: &Option<Typed>) -> bool
+    ensures { result ≡ (list_all built.is_built_expression (map shape_of_generator generators.now) && built.is_built_option built.is_built_part (option_map seen condition.now)) }
+{
+    are_built_generators(generators) && is_built_option(condition)
+}
+
+/// Whether a statement inside of another one, or of a function, runs by now.
+#[cycle(task)]
+#[tactic(auto, unfolding(checked_tree::specs::Tasks::work_of, checked_tree::specs::Tasks::work_of_act))]
+pub(crate) fn is_built_task(task: &Task) -> bool
+    ensures { result ≡ built.is_built_work (work_of task.now) }
+{
+    is_built_act(&task.act)
+}
+
+#[cycle(task)]
+#[tactic(auto, unfolding(checked_tree::specs::Tasks::work_of, checked_tree::specs::Tasks::work_of_act))]
+fn is_built_act(act: &Act) -> bool
+    ensures { result ≡ built.is_built_work (work_of_act act.now) }
+{
+    match act {
+        Act::Action(action) => is_built_action(false, action),
+        Act::Block(tasks) => are_built_tasks(tasks),
+        Act::If { test, then } => is_built_part(test) && is_built_task(then),
+        Act::IfElse {
+            test,
+            then,
+            otherwise,
+        } => is_built_part(test) && is_built_task(then) && is_built_task(otherwise),
+        Act::While { test, body } => is_built_part(test) && is_built_task(body),
+        Act::For {
+            counter,
+            test,
+            step,
+            body,
+        } => is_built_counter(counter)
+            && is_built_option(test)
+            && is_built_step(step)
+            && is_built_task(body),
+        Act::ForAll {
+            generators,
+            condition,
+            body,
+        } => is_built_head(generators, condition) && is_built_task(body),
+        Act::Select { .. } => false,
+        Act::SelectBy { .. } => false,
+        Act::Neighbor { .. } => false,
+        Act::Whenever { .. } => false,
+        Act::With { .. } => false,
+        Act::Parall { .. } => false,
+    }
+}
+
+#[cycle(task)]
+fn are_built_tasks(tasks: &[Task]) -> bool
+    ensures { result ≡ built.is_built_work (row_of (map work_of tasks.now)) }
+{
+    for task in tasks {
+        if !is_built_task(task) {
+            return false;
+        }
+    }
+    true
+}
