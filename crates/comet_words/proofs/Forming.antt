@@ -95,7 +95,7 @@ one_some (x ∷ y ∷ more) single = absurd (omega arith)
 
 -- what is made of seven parts is there exactly where each part is
 module _ {A B C D E F G H : Type 0} (make : A → B → C → D → E → F → G → H) where
-  abbrev made : Option A → Option B → Option C → Option D → Option E → Option F → Option G → Option H
+  abbrev pub made : Option A → Option B → Option C → Option D → Option E → Option F → Option G → Option H
   made a b c d e f g =
       a >>= λ a. b >>= λ b. c >>= λ c. d >>= λ d. e >>= λ e. f >>= λ f. g >>= λ g. Some (make a b c d e f g)
 
@@ -121,7 +121,7 @@ module _ {A B C D E F G H : Type 0} (make : A → B → C → D → E → F → 
   whole (Some a) (Some b) (Some c) (Some d) (Some e) (Some f) None h i j k l m n = cc
   whole (Some a) (Some b) (Some c) (Some d) (Some e) (Some f) (Some g) h i j k l m n = refl
 
-abbrev make : Option (List ℕ) → Option (List ℕ) → Option ℕ → Option ℕ → Option ℕ → Option Bool → Origin → Asked
+abbrev pub make : Option (List ℕ) → Option (List ℕ) → Option ℕ → Option ℕ → Option ℕ → Option Bool → Origin → Asked
 make data_file replay_file seed workers fuel journal origin = record {
   origin = origin;
   data_file = data_file;

@@ -2,3 +2,4 @@ pub mod Numerals
 pub mod Cutting
 pub mod Gathering
 pub mod Forming
+pub mod Ranges

@@ -1,7 +1,8 @@
 //! What the words ask for.
-ghost use Rattle.std.specs.Prelude.{◌≡◌, ◌↔◌, IsTrue, IsSome, option_and_then, option_map};
+ghost use Rattle.std.specs.Prelude.{◌≡◌, ◌↔◌, IfSome, IsTrue, IsSome, option_and_then, option_map};
 ghost use Rattle.comet_words.specs.Asked.{asked};
 ghost use Rattle.comet_words.specs.Given.{asked_with};
+ghost use Rattle.comet_words.specs.InRange.{InRange};
 ghost use Rattle.comet_words.specs.Items.{items};
 ghost use Rattle.comet_words.specs.View.{asked_for, known_by, texts};
 
@@ -51,7 +52,8 @@ fn ask<'a>(given: Given<'a>, words: &'a [String]) -> Option<Words<'a>>
 
 /// What the words, those behind the program's own name, ask for. `None` exactly where they aren't in form.
 pub fn read_words(words: &[String]) -> Option<Words<'_>>
-    ensures { option_map asked_for result ≡ asked (texts words.now) }
+    ensures exact { option_map asked_for result ≡ asked (texts words.now) }
+    ensures in_range { IfSome result (λ asked. InRange (asked_for asked)) }
 {
     ask(Given::nothing(), words)
 }
