@@ -1,0 +1,40 @@
+-- Texts with commas between them.
+use Rattle.std.proofs.Common.{◌≡◌, ℕ, suc, ◌+◌, ◌-◌, ◌<◌, ℤ, Bool, true, false, List, [], ◌∷◌, ◌++◌, take, drop, map, refl, ap, sym, ◌∙◌, append_assoc, arith}
+use Rattle.std.proofs.lemmas.List.{append-nil}
+use Rattle.std.specs.Prelude.{codes, ◌==◌, if◌then◌else◌}
+use Rattle.comet_meaning.specs.Printing.{separated, row_text, rows_of}
+use Rattle.run_values.specs.Texts.{behind_commas}
+
+-- the first text, and then the others behind commas
+pub separated_first : (x : List ℕ) (xs : List (List ℕ)) → separated (x ∷ xs) ≡ x ++ behind_commas xs
+separated_first x [] = sym (append-nil x)
+separated_first x (y ∷ ys) = append_assoc x (codes ",") (separated (y ∷ ys)) ∙ ap (λ t. x ++ (codes "," ++ t)) (separated_first y ys)
+
+-- what is still to be written where this is the number of texts so far
+abbrev pub pending : ℕ → List (List ℕ) → List ℕ
+pending count ts = if count == 0 then separated ts else behind_commas ts
+
+pub pending-none : (count : ℕ) → pending count [] ≡ []
+pending-none count = either (count == 0)
+  where
+    either : (b : Bool) → (if b then separated [] else behind_commas []) ≡ []
+    either true = refl
+    either false = refl
+
+pending-suc : (count : ℕ) (ts : List (List ℕ)) → pending (count + 1) ts ≡ behind_commas ts
+pending-suc count ts = grind arith
+
+-- one more text, behind a comma unless it is the first
+one_more : (b : Bool) (text t : List ℕ) (ts : List (List ℕ)) → (text ++ (if b then [] else codes ",")) ++ t ++ behind_commas ts ≡ text ++ (if b then separated (t ∷ ts) else behind_commas (t ∷ ts))
+one_more true text t ts =
+    append_assoc (text ++ []) t (behind_commas ts) ∙ ap (λ s. s ++ (t ++ behind_commas ts)) (append-nil text) ∙ ap (λ s. text ++ s) (sym (separated_first t ts))
+one_more false text t ts = append_assoc (text ++ codes ",") t (behind_commas ts) ∙ append_assoc text (codes ",") (t ++ behind_commas ts)
+
+pub row_more : (rows row columns : ℕ) (rest : List ℤ) (text : List ℕ) → row < rows →
+    (text ++ (if row == 0 then [] else codes ",")) ++ row_text (take columns rest) ++ pending (row + 1) (map row_text (rows_of (rows - (row + 1)) columns (drop columns rest)))
+    ≡ text ++ pending row (map row_text (rows_of (rows - row) columns rest))
+row_more rows row columns rest text below =
+    let more : rows - row ≡ suc (rows - (row + 1)) = omega arith in
+    let later : List (List ℕ) = map row_text (rows_of (rows - (row + 1)) columns (drop columns rest)) in
+    let behind : pending (row + 1) later ≡ behind_commas later = pending-suc row later in
+    rw (more, behind) (one_more (row == 0) text (row_text (take columns rest)) later)

@@ -1,0 +1,4 @@
+pub mod CommaTexts
+pub mod KeySets
+pub mod PlainTexts
+pub mod SetValues

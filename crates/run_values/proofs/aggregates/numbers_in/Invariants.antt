@@ -1,0 +1,7 @@
+use Rattle.std.proofs.Common.{◌≡◌, map, take}
+use Rattle.comet_meaning.specs.Aggregates.{numbers_of}
+use Rattle.run_values.specs.Views.{element_seen}
+use Rattle.run_values.proofs.aggregates.numbers_in.Given as goal
+
+abbrev pub invariant-loop-element : goal.invariant-loop-element
+invariant-loop-element l = l.numbers.items ≡ numbers_of (map element_seen (take l.element-index l.elements))

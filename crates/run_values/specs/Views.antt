@@ -1,0 +1,31 @@
+-- The code's values, as the meaning of programs has them. A rule of this project.
+use Rattle.std.specs.Prelude.{option_map}
+use Rattle.comet_meaning.specs.Aggregates as aggregates
+use Rattle.comet_meaning.specs.Values as values
+use Rattle.comet_meaning.specs.State as states
+use Rattle.run_values.specs.declared.aggregates.Element.{Element}
+use Rattle.run_values.specs.declared.values.Bounds.{Bounds}
+use Rattle.run_values.specs.declared.values.Cells.{Cells}
+use Rattle.run_values.specs.declared.values.Value.{Value}
+use Rattle.run_values.specs.declared.values.Value.TheVariants.{Nothing, Number, Truth, Range, Set, Array, Row, Variable, Solver, Input}
+
+abbrev pub bounds_seen : Bounds → values.Bounds
+bounds_seen b = record { low = b.low; up = b.up }
+
+abbrev pub value_seen : Value → values.Value
+value_seen Nothing = values.Nothing
+value_seen (Number z) = values.Number z
+value_seen (Truth b) = values.Truth b
+value_seen (Range b) = values.Range (bounds_seen b)
+value_seen (Set s) = values.Set s
+value_seen (Array n) = values.Array n
+value_seen (Row xs) = values.Row xs.items
+value_seen (Variable x) = values.Variable x
+value_seen (Solver m) = values.Solver m
+value_seen (Input k) = values.Input k
+
+abbrev pub cells_seen : Cells → states.Cells
+cells_seen c = record { rows = bounds_seen c.rows; columns = option_map bounds_seen c.columns; numbers = c.numbers.items }
+
+abbrev pub element_seen : Element → aggregates.Element
+element_seen x = record { key = x.key; value = value_seen x.value }

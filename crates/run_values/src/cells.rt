@@ -1,0 +1,94 @@
+//! Cells of an array.
+ghost use Rattle.std.specs.Prelude.{◌≡◌, pos, Some, slice_index_or};
+ghost use Rattle.comet_meaning.specs.Cells.{no_cells, row_of, at_index, at_column, at_indices, number_at, with_number};
+ghost use Rattle.comet_meaning.specs.Values.{Number};
+ghost use Rattle.run_values.specs.Views.{bounds_seen, cells_seen};
+
+use crate::values::{Bounds, Cells};
+use std::alloc::Global;
+
+impl Cells {
+    /// No cells at all.
+    pub fn none(alloc: Global) -> Cells
+        ensures { cells_seen result ≡ no_cells }
+    {
+        Cells {
+            rows: Bounds::from_zero(0),
+            columns: None,
+            numbers: Vec::new(alloc),
+        }
+    }
+
+    /// Numbers in a row, as an array from 0.
+    pub fn row(numbers: Vec<i64>) -> Cells
+        ensures { cells_seen result ≡ row_of numbers.items }
+    {
+        Cells {
+            rows: Bounds::from_zero(numbers.len()),
+            columns: None,
+            numbers,
+        }
+    }
+
+    /// Where the cell of an index stands; `None` exactly for an index outside the bounds.
+    pub fn at_index(&self, index: i64) -> Option<u128>
+        ensures { result ≡ at_index (cells_seen self.now) index }
+    {
+        if self.rows.is_within(index) {
+            Some(self.rows.offset(index) as u128)
+        } else {
+            None
+        }
+    }
+
+    /// Where the cell of a row's index and a column's stands; `None` exactly where one of them is outside its bounds,
+    /// and for an array of one dimension.
+    pub fn at_indices(&self, row: i64, column: i64) -> Option<u128>
+        ensures { result ≡ at_indices (cells_seen self.now) row column }
+    {
+        match self.columns {
+            None => None,
+            Some(columns) => at_column(self.rows, columns, row, column),
+        }
+    }
+
+    /// The number in a cell, and 0 where there is none.
+    pub fn number_at(&self, cell: u128) -> i64
+        ensures { Number result ≡ number_at (cells_seen self.now) cell }
+    {
+        match usize::try_from(cell) {
+            Ok(index) => number_in(&self.numbers, index),
+            Err(_) => 0,
+        }
+    }
+
+    /// Writes a number into a cell. Where there is none, nothing is written.
+    pub fn set_number(&mut self, cell: u128, number: i64)
+        ensures { cells_seen self.new ≡ with_number cell number (Some (cells_seen self.old)) }
+    {
+        if cell < self.numbers.len() as u128 {
+            self.numbers[cell as usize] = number;
+        }
+    }
+}
+
+/// Where the cell of a row's index and a column's stands; `None` exactly where one of them is outside its bounds.
+fn at_column(rows: Bounds, columns: Bounds, row: i64, column: i64) -> Option<u128>
+    ensures { result ≡ at_column (bounds_seen rows) row column (Some (bounds_seen columns)) }
+{
+    if rows.is_within(row) && columns.is_within(column) {
+        Some(rows.offset(row) as u128 * columns.size() + columns.offset(column) as u128)
+    } else {
+        None
+    }
+}
+
+/// The number at an index, and 0 where there is none.
+fn number_in(numbers: &[i64], index: usize) -> i64
+    ensures { result ≡ slice_index_or numbers.now index (pos 0) }
+{
+    match numbers.get(index) {
+        Some(number) => *number,
+        None => 0,
+    }
+}

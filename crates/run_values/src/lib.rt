@@ -1,0 +1,18 @@
+//! Values of a running program, and what operators do with them.
+//!
+//! It knows nothing of names, of arrays' places or of statements. The layers above use that each operation does
+//! what the meaning of programs says of the values' views.
+#![tactic(auto)]
+
+pub mod aggregates;
+pub mod bounds;
+pub mod builtins;
+pub mod cells;
+pub mod operators;
+pub mod stop;
+pub mod texts;
+pub mod values;
+
+pub use aggregates::Element;
+pub use stop::{OutStop, Stop};
+pub use values::{Bounds, Cells, Value};
