@@ -1,0 +1,7 @@
+pub mod ActLaws
+pub mod ArrayLaws
+pub mod DigitLaws
+pub mod OwnArrays
+pub mod PrintLaws
+pub mod WordLaws
+pub mod WrittenCells

@@ -1,0 +1,36 @@
+use Rattle.std.proofs.Common.{refl}
+use Rattle.comet_meaning.specs.Printing.{value_text}
+use Rattle.run_state.specs.Views.{state_seen}
+use Rattle.run_state.proofs.state.State.print_value.Goals as goal
+
+pub returns-in-Number-clause-did : goal.returns-in-Number-clause-did
+unfolding value_text
+returns-in-Number-clause-did g c = rw c.in-Number.is (c.print_number.ensures.did (state_seen c.args.self.now (g.O.Out.taken c.args.out.now)) refl)
+
+pub returns-in-Truth-clause-did : goal.returns-in-Truth-clause-did
+unfolding value_text
+returns-in-Truth-clause-did g c = rw c.in-Truth.is (rw c.in-Truth.is at (c.print_plain.ensures.did (state_seen c.args.self.now (g.O.Out.taken c.args.out.now)) refl))
+
+pub returns-in-Range-clause-did : goal.returns-in-Range-clause-did
+unfolding value_text
+returns-in-Range-clause-did g c = rw c.in-Range.is (rw c.in-Range.is at (c.print_plain-in-Range.ensures.did (state_seen c.args.self.now (g.O.Out.taken c.args.out.now)) refl))
+
+pub returns-in-Set-clause-did : goal.returns-in-Set-clause-did
+unfolding value_text
+returns-in-Set-clause-did g c = rw c.in-Set.is (rw c.in-Set.is at (c.print_plain-in-Set.ensures.did (state_seen c.args.self.now (g.O.Out.taken c.args.out.now)) refl))
+
+pub returns-in-Nothing-clause-did : goal.returns-in-Nothing-clause-did
+unfolding value_text
+returns-in-Nothing-clause-did g c = rw c.in-Nothing.is (rw c.in-Nothing.is at (c.print_plain-in-Nothing.ensures.did (state_seen c.args.self.now (g.O.Out.taken c.args.out.now)) refl))
+
+pub returns-in-Variable-clause-did : goal.returns-in-Variable-clause-did
+unfolding value_text
+returns-in-Variable-clause-did g c = rw c.in-Variable.is (rw c.in-Variable.is at (c.print_plain-in-Variable.ensures.did (state_seen c.args.self.now (g.O.Out.taken c.args.out.now)) refl))
+
+pub returns-in-Solver-clause-did : goal.returns-in-Solver-clause-did
+unfolding value_text
+returns-in-Solver-clause-did g c = rw c.in-Solver.is (rw c.in-Solver.is at (c.print_plain-in-Solver.ensures.did (state_seen c.args.self.now (g.O.Out.taken c.args.out.now)) refl))
+
+pub returns-in-Input-clause-did : goal.returns-in-Input-clause-did
+unfolding value_text
+returns-in-Input-clause-did g c = rw c.in-Input.is (rw c.in-Input.is at (c.print_plain-in-Input.ensures.did (state_seen c.args.self.now (g.O.Out.taken c.args.out.now)) refl))

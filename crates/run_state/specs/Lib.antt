@@ -1,0 +1,5 @@
+pub mod Acts
+pub mod Numbers
+pub mod Shares
+pub mod Targets
+pub mod Views

@@ -1,0 +1,109 @@
+//! Arrays that are taken whole, and arrays of their own.
+ghost use Rattle.std.specs.Prelude.{◌≡◌, ◌≤◌, ℕ, List, [], IfErr, map, pos};
+ghost use Rattle.cbl_base.specs.Counts.{count_of};
+ghost use Rattle.comet_meaning.specs.Calls as meaning;
+ghost use Rattle.run_values.specs.Did.{Did};
+ghost use Rattle.run_values.specs.Views.{value_seen};
+ghost use Rattle.run_values.specs.declared.stop.Stop.TheVariants.{NoMemory};
+ghost use Rattle.run_state.specs.Acts.{counted, copied_into, listed};
+ghost use Rattle.run_state.specs.Views.{state_seen};
+
+use crate::fuel::spend;
+use crate::state::State;
+use cbl_base::{Place, RunFault};
+use checked_tree::Slot;
+use run_values::{Cells, Stop, Value};
+use std::mem;
+
+impl State {
+    /// How often a number stands in an array. The call is charged, and then the cells, at the array's place.
+    #[tactic(auto, unfolding(comet_meaning::specs::Cells::cells, comet_meaning::specs::Arrays::taken_whole))]
+    pub fn count(&mut self, call: Place, place: Place, array: &Value, number: i64) -> Result<Value, Stop>
+        ensures did { (printed : List ℕ) → Did value_seen result (state_seen self.new printed) (counted call place (value_seen array.now) number (state_seen self.old printed)) }
+        ensures never_rises { self.new.fuel ≤ self.old.fuel }
+    {
+        spend(&mut self.fuel, 1, call)?;
+        let cells = self.numbers(array).len();
+        spend(&mut self.fuel, cells as u64, place)?;
+        Ok(Value::Number(count_in(number, self.numbers(array))))
+    }
+
+    /// A name gets a new array of the numbers of an array, whose cells are charged at this place.
+    #[tactic(auto, unfolding(comet_meaning::specs::Cells::cells))]
+    pub fn copy_array(&mut self, at: Place, slot: Slot, array: &Value) -> Result<(), Stop>
+        ensures did { (printed : List ℕ) → Did (λ _. tt) result (state_seen self.new printed) (copied_into at slot (value_seen array.now) (state_seen self.old printed)) }
+        ensures never_rises { self.new.fuel ≤ self.old.fuel }
+    {
+        let cells = self.numbers(array).len();
+        spend(&mut self.fuel, cells as u64, at)?;
+        let numbers = Vec::from_slice(self.alloc, self.numbers(array))?;
+        let array = self.new_array(Cells::row(numbers))?;
+        self.put(slot, array)
+    }
+
+    /// The numbers of a list of exactly so many, which are charged at this place. `OutOfRange` exactly where they are
+    /// more or fewer, before anything is charged.
+    #[tactic(auto, unfolding(comet_meaning::specs::Cells::cells))]
+    pub fn listed(&mut self, at: Place, count: u128, list: &Value) -> Result<Vec<i64>, Stop>
+        ensures did { (printed : List ℕ) → Did (λ numbers. numbers.items) result (state_seen self.new printed) (listed at count (value_seen list.now) (state_seen self.old printed)) }
+        ensures never_rises { self.new.fuel ≤ self.old.fuel }
+    {
+        let cells = self.numbers(list).len();
+        if cells as u128 != count {
+            return Err(Stop::Fault(at, RunFault::OutOfRange));
+        }
+        spend(&mut self.fuel, cells as u64, at)?;
+        let numbers = Vec::from_slice(self.alloc, self.numbers(list))?;
+        Ok(numbers)
+    }
+
+    /// The arguments as a function has them: numbers in a row become an array that it may write, unless it is pure.
+    pub fn handed(&mut self, pure: bool, values: Vec<Value>) -> Result<Vec<Value>, Stop>
+        ensures did { (printed : List ℕ) → Did (λ handed. map value_seen handed.items) result (state_seen self.new printed) (meaning.handed pure (map value_seen values.items) (state_seen self.old printed)) }
+        ensures fuel { self.new.fuel ≡ self.old.fuel }
+    {
+        if pure {
+            return Ok(values);
+        }
+        self.own_arrays(values)
+    }
+
+    /// The values, with each row of numbers as an array of its own.
+    fn own_arrays(&mut self, values: Vec<Value>) -> Result<Vec<Value>, Stop>
+        ensures did { (printed : List ℕ) → Did (λ owned. map value_seen owned.items) result (state_seen self.new printed) (meaning.own_arrays (map value_seen values.items) [] (state_seen self.old printed)) }
+        ensures fuel { self.new.fuel ≡ self.old.fuel }
+    {
+        let mut owned = values;
+        for i in 0..owned.len() {
+            let value = mem::replace(&mut owned[i], Value::Nothing);
+            owned[i] = self.own_array(value)?;
+        }
+        Ok(owned)
+    }
+
+    /// A row of numbers as an array of its own, and any other value as it is.
+    fn own_array(&mut self, value: Value) -> Result<Value, Stop>
+        ensures did { (printed : List ℕ) → Did value_seen result (state_seen self.new printed) (meaning.own_array (value_seen value) (state_seen self.old printed)) }
+        ensures memory { IfErr result (λ stop. stop ≡ NoMemory) }
+        ensures fuel { self.new.fuel ≡ self.old.fuel }
+    {
+        match value {
+            Value::Row(numbers) => self.new_array(Cells::row(numbers)),
+            value => Ok(value),
+        }
+    }
+}
+
+/// At how many places the number stands.
+fn count_in(number: i64, cells: &[i64]) -> i64
+    ensures { result ≡ pos (count_of number cells.now) }
+{
+    count_of(number, cells) as i64
+}
+
+/// At how many places the number stands.
+fn count_of(number: i64, cells: &[i64]) -> usize
+    ensures { result ≡ count_of number cells.now }
+{
+    cells.iter().filter(|x| **x == number).count()
+}

@@ -1,0 +1,21 @@
+//! The state of a run: what the names hold, the arrays, the objects, the fuel and the data, and what is done with
+//! them.
+//!
+//! It knows nothing of expressions or statements. The layers above use that each act does what the meaning of
+//! programs says of the state's view.
+#![tactic(auto)]
+
+pub mod arrays;
+pub mod cells;
+pub mod data;
+pub mod fuel;
+pub mod names;
+pub mod out;
+pub mod printing;
+pub mod state;
+pub mod targets;
+mod words;
+
+pub use out::{Bytes, Out, print};
+pub use state::State;
+pub use targets::Target;

@@ -1,0 +1,40 @@
+//! The state of a run.
+ghost use Rattle.std.specs.Prelude.{◌≡◌, []};
+ghost use Rattle.comet_meaning.specs.State.{first_state};
+ghost use Rattle.run_state.specs.Views.{state_seen};
+
+use run_models::Solver;
+use run_values::{Cells, Value};
+use std::alloc::Global;
+
+/// The state of a run.
+#[derive(Drop)]
+pub struct State {
+    pub(crate) globals: Vec<Value>,
+    pub frame: Vec<Value>,
+    pub(crate) arrays: Vec<Cells>,
+    pub solvers: Vec<Solver>,
+    /// For each `InputFile` how many bytes of the data it has read.
+    pub(crate) inputs: Vec<usize>,
+    pub(crate) data: Vec<u8>,
+    pub fuel: u64,
+    pub alloc: Global,
+}
+
+impl State {
+    /// The state at the start of a run, with this fuel and this data.
+    pub fn new(alloc: Global, fuel: u64, text: Vec<u8>) -> State
+        ensures { state_seen result [] ≡ first_state fuel text.items }
+    {
+        State {
+            globals: Vec::new(alloc),
+            frame: Vec::new(alloc),
+            arrays: Vec::new(alloc),
+            solvers: Vec::new(alloc),
+            inputs: Vec::new(alloc),
+            data: text,
+            fuel,
+            alloc,
+        }
+    }
+}

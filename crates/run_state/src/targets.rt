@@ -1,0 +1,98 @@
+//! What is written, and what stands there.
+ghost use Rattle.std.specs.Prelude.{◌≡◌, ℕ, List};
+ghost use Rattle.comet_meaning.specs.Writes as meaning;
+ghost use Rattle.comet_meaning.specs.Writes.{moved, name_target, old_value};
+ghost use Rattle.run_values.specs.Did.{Did};
+ghost use Rattle.run_values.specs.Views.{value_seen};
+ghost use Rattle.run_state.specs.Acts.{index_written, cell_written};
+ghost use Rattle.run_state.specs.Targets.{target_seen};
+ghost use Rattle.run_state.specs.Views.{state_seen};
+
+use crate::state::State;
+use cbl_base::{Place, RunFault, VarId};
+use checked_tree::{Kind, Slot};
+use run_values::{Stop, Value};
+
+/// What is written.
+#[derive(Drop)]
+pub enum Target {
+    Nowhere,
+    /// The cell of a name.
+    Name(Slot),
+    /// A cell of the array with this number.
+    Element(usize, u128),
+    Moved(VarId),
+}
+
+impl State {
+    /// What a name stands for where it is written: a name of a variable stands for the variable, and any other for its
+    /// own cell.
+    #[tactic(auto, unfolding(comet_meaning::specs::Writes::name_target))]
+    pub fn name_target(&self, kind: Kind, slot: Slot) -> Result<Target, Stop>
+        ensures { (printed : List ℕ) → Did target_seen result (state_seen self.now printed) (name_target kind slot (state_seen self.now printed)) }
+    {
+        match kind {
+            Kind::Variable => {
+                let value = self.look(slot)?;
+                Ok(moved(&value))
+            }
+            _ => Ok(Target::Name(slot)),
+        }
+    }
+
+    /// The cell of an index. `OutOfRange` at this place exactly where there is no such cell; there is no other stop.
+    #[tactic(auto, unfolding(comet_meaning::specs::Cells::cells))]
+    pub fn index_target(&self, at: Place, array: &Value, index: i64) -> Result<Target, Stop>
+        ensures { (printed : List ℕ) → Did target_seen result (state_seen self.now printed) (index_written at (value_seen array.now) index (state_seen self.now printed)) }
+    {
+        match self.at_index(array, index) {
+            Some(cell) => Ok(element_of(array, cell)),
+            None => Err(Stop::Fault(at, RunFault::OutOfRange)),
+        }
+    }
+
+    /// The cell of a row's index and a column's. `OutOfRange` at this place exactly where there is no such cell; there
+    /// is no other stop.
+    #[tactic(auto, unfolding(comet_meaning::specs::Cells::cells))]
+    pub fn cell_target(&self, at: Place, array: &Value, row: i64, column: i64) -> Result<Target, Stop>
+        ensures { (printed : List ℕ) → Did target_seen result (state_seen self.now printed) (cell_written at (value_seen array.now) row column (state_seen self.now printed)) }
+    {
+        match self.at_indices(array, row, column) {
+            Some(cell) => Ok(element_of(array, cell)),
+            None => Err(Stop::Fault(at, RunFault::OutOfRange)),
+        }
+    }
+
+    /// What stands where it is written, before it is.
+    #[tactic(auto, unfolding(comet_meaning::specs::Writes::old_value, comet_meaning::specs::Cells::cells))]
+    pub fn old_value(&self, target: &Target) -> Result<Value, Stop>
+        ensures { (printed : List ℕ) → Did value_seen result (state_seen self.now printed) (old_value (target_seen target.now) (state_seen self.now printed)) }
+    {
+        match target {
+            Target::Name(slot) => self.look(*slot),
+            Target::Element(array, cell) => Ok(self.element(*array, *cell)),
+            Target::Nowhere => Ok(Value::Nothing),
+            Target::Moved(_) => Ok(Value::Nothing),
+        }
+    }
+}
+
+/// A variable, and nothing of what is none.
+fn moved(value: &Value) -> Target
+    ensures { target_seen result ≡ moved (value_seen value.now) }
+{
+    match value {
+        Value::Variable(variable) => Target::Moved(*variable),
+        _ => Target::Nowhere,
+    }
+}
+
+/// A cell of an array, and nothing of what is none.
+fn element_of(array: &Value, cell: u128) -> Target
+    ensures { target_seen result ≡ meaning.element_of (value_seen array.now) cell }
+{
+    match array {
+        Value::Array(number) => Target::Element(*number, cell),
+        _ => Target::Nowhere,
+    }
+}
