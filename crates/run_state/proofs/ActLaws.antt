@@ -1,5 +1,5 @@
 -- Acts on arrays that are taken whole, step by step.
-use Rattle.std.proofs.Common.{◌≡◌, ℕ, ◌≤◌, ℤ, pos, List, length, refl, sym, ◌∙◌, ap}
+use Rattle.std.proofs.Common.{◌≡◌, ℕ, ◌≤◌, ℤ, pos, List, length, refl}
 use Rattle.std.proofs.lemmas.Bool.{le-leb, eq-eqb}
 use Rattle.cbl_base.specs.Counts.{count_of}
 use Rattle.cbl_base.specs.declared.place.Place.{Place}

@@ -1,9 +1,9 @@
 -- Arguments that are rows of numbers become arrays one after the other.
-use Rattle.std.proofs.Common.{◌≡◌, ℕ, ◌+◌, ◌<◌, List, [], ◌∷◌, ◌++◌, length, get_or, set, take, drop, map, refl, sym, ◌∙◌, ap, subst, arith}
-use Rattle.std.proofs.lemmas.List.{take_more_set, drop-set-lt, drop_more, drop_all, take_all, set-set, map-set, length-map}
+use Rattle.std.proofs.Common.{◌≡◌, ℕ, ◌+◌, ◌<◌, List, [], ◌∷◌, ◌++◌, length, get_or, set, take, drop, map, refl, sym, ◌∙◌, ap, arith}
+use Rattle.std.proofs.lemmas.List.{take_more_set, drop-set-lt, drop_more, set-set, map-set, length-map}
 use Rattle.comet_meaning.specs.Values.{Value}
 use Rattle.comet_meaning.specs.State.{State}
-use Rattle.comet_meaning.specs.Outcome.{Outcome, Went, then_do}
+use Rattle.comet_meaning.specs.Outcome.{Went}
 use Rattle.comet_meaning.specs.Calls.{own_array, own_arrays}
 use Rattle.run_values.specs.Views.{value_seen}
 use Rattle.run_values.specs.declared.values.Value.{Value as declared}
@@ -16,10 +16,6 @@ own_more vs i v w s t h is owned =
     let behind : drop (i + 1) (set vs i w) ≡ drop (i + 1) vs = drop-set-lt (i + 1) vs i w (omega arith) in
     let front : take (i + 1) (set vs i w) ≡ take i vs ++ w ∷ [] = take_more_set vs i w h in
     rw (behind, front, before, owned) refl
-
--- all are owned
-pub own_done : (vs : List Value) (i : ℕ) (s : State) → length vs ≡ i → own_arrays (drop i vs) (take i vs) s ≡ Went vs s
-own_done vs i s h = rw (drop_all i vs (omega arith), take_all i vs (omega arith)) refl
 
 -- the same of values as the code has them, which are taken out of the list and put back
 pub seen_own_more : (xs : List declared) (i : ℕ) (x y z : declared) (s t : State) → i < length xs → x ≡ get_or xs i x → own_array (value_seen x) s ≡ Went (value_seen z) t → own_arrays (drop (i + 1) (map value_seen (set (set xs i y) i z))) (take (i + 1) (map value_seen (set (set xs i y) i z))) t ≡ own_arrays (drop i (map value_seen xs)) (take i (map value_seen xs)) s

@@ -1,6 +1,6 @@
 -- Words of a text: what a step over a byte does, and where a word ends.
-use Rattle.std.proofs.Common.{◌≡◌, ℕ, ℤ, Option, Some, None, set, if◌then◌else◌, ◌+◌, ◌-◌, ◌<◌, ◌≤◌, Bool, true, false, List, [], ◌∷◌, ◌++◌, length, get_or, take, drop, refl, sym, ◌∙◌, ap, subst, arith, append_assoc}
-use Rattle.std.proofs.lemmas.List.{append-nil, drop_more, drop_all, take_more, get_or-drop, length-drop}
+use Rattle.std.proofs.Common.{◌≡◌, ℕ, ℤ, Option, Some, None, set, if◌then◌else◌, ◌+◌, ◌-◌, ◌<◌, ◌≤◌, Bool, true, false, List, [], ◌∷◌, ◌++◌, length, get_or, take, drop, refl, sym, ◌∙◌, ap, arith, append_assoc}
+use Rattle.std.proofs.lemmas.List.{drop_more, take_more, get_or-drop, length-drop}
 use Rattle.cbl_base.specs.Arithmetic.{fits_64}
 use Rattle.cbl_base.specs.declared.place.Place.{Place}
 use Rattle.cbl_base.specs.declared.faults.RunFault.TheVariants.{BadData}
@@ -10,29 +10,12 @@ use Rattle.comet_meaning.specs.Outcome.{Went, Halted, Faulted, give, fault}
 use Rattle.comet_meaning.specs.Data.{is_blank, behind_blanks, word_of, behind_word, spelled, fitting, first_word}
 use Rattle.run_state.specs.Numbers.{that_fits}
 
-pub blank_is_skipped : (text : List ℕ) (n : ℕ) → n < length text → is_blank (get_or text n 0) ≡ true → behind_blanks (drop (n + 1) text) ≡ behind_blanks (drop n text)
-blank_is_skipped text n h blank = rw (drop_more text n 0 h, blank) refl
-
-pub no_blank_is_skipped : (text : List ℕ) (n : ℕ) → n < length text → is_blank (get_or text n 0) ≡ false → drop n text ≡ behind_blanks (drop n text)
-no_blank_is_skipped text n h plain = rw (drop_more text n 0 h, plain) refl
-
-pub no_blank_at_end : (text : List ℕ) (n : ℕ) → length text ≤ n → drop n text ≡ behind_blanks (drop n text)
-no_blank_at_end text n h = rw (drop_all n text h) refl
-
 -- a part of a word was read, from one place to another
 pub record IsInWord (text : List ℕ) (from to : ℕ) : Type 0 where
   pub onward : from ≤ to
   pub within : to ≤ length text
   pub word : word_of (drop from text) ≡ take (to - from) (drop from text) ++ word_of (drop to text)
   pub rest : behind_word (drop to text) ≡ behind_word (drop from text)
-
-pub word_begins : (text : List ℕ) (n : ℕ) → n ≤ length text → IsInWord text n n
-word_begins text n h = record {
-  onward = omega arith;
-  within = h;
-  word = let e : n - n ≡ 0 = omega arith in rw e refl;
-  rest = refl;
-}
 
 one_more : (text : List ℕ) (from to : ℕ) → from ≤ to → to < length text → take (to + 1 - from) (drop from text) ≡ take (to - from) (drop from text) ++ get_or text to 0 ∷ []
 one_more text from to h k =
@@ -48,11 +31,11 @@ word_goes_on text from to w h plain = record {
   onward = omega (arith, w.onward);
   within = omega arith;
   word =
-    let e : word_of (drop to text) ≡ get_or text to 0 ∷ word_of (drop (to + 1) text) = rw (drop_more text to 0 h, plain) refl in
-    w.word ∙ ap (λ (xs : List ℕ). take (to - from) (drop from text) ++ xs) e ∙ sym (append_assoc (take (to - from) (drop from text)) (get_or text to 0 ∷ []) (word_of (drop (to + 1) text))) ∙ ap (λ (xs : List ℕ). xs ++ word_of (drop (to + 1) text)) (sym (one_more text from to w.onward h));
+      let e : word_of (drop to text) ≡ get_or text to 0 ∷ word_of (drop (to + 1) text) = rw (drop_more text to 0 h, plain) refl in
+      w.word ∙ ap (λ (xs : List ℕ). take (to - from) (drop from text) ++ xs) e ∙ sym (append_assoc (take (to - from) (drop from text)) (get_or text to 0 ∷ []) (word_of (drop (to + 1) text))) ∙ ap (λ (xs : List ℕ). xs ++ word_of (drop (to + 1) text)) (sym (one_more text from to w.onward h));
   rest =
-    let e : behind_word (drop to text) ≡ behind_word (drop (to + 1) text) = rw (drop_more text to 0 h, plain) refl in
-    sym e ∙ w.rest;
+      let e : behind_word (drop to text) ≡ behind_word (drop (to + 1) text) = rw (drop_more text to 0 h, plain) refl in
+      sym e ∙ w.rest;
 }
 
 -- a word is not empty behind blanks

@@ -4,13 +4,15 @@ use Rattle.cbl_base.specs.Counts.{count_of}
 use Rattle.cbl_base.specs.declared.place.Place.{Place}
 use Rattle.cbl_base.specs.declared.faults.RunFault.TheVariants.{OutOfRange}
 use Rattle.checked_tree.specs.declared.expressions.Slot.{Slot}
-use Rattle.comet_meaning.specs.Values.{Value, Number}
+use Rattle.comet_meaning.specs.Values.{Value, Number, Array, Row}
 use Rattle.comet_meaning.specs.Outcome.{Act, ◌>>=◌, give, unless, charge}
-use Rattle.comet_meaning.specs.Cells.{put, cells, row_of, new_array, at_index, at_indices, found_at, number_at}
+use Rattle.comet_meaning.specs.Cells.{put, cells, cells_of, row_of, new_array, at_index, at_indices, found_at, number_at}
 use Rattle.comet_meaning.specs.Arrays.{taken_whole}
 use Rattle.comet_meaning.specs.Levels.{Target}
 use Rattle.comet_meaning.specs.Writes.{element_of}
-use Rattle.comet_meaning.specs.Printing.{array_text, value_text, print}
+use Rattle.comet_meaning.specs.Printing.{array_text, value_text, cells_text, print}
+use Rattle.comet_meaning.specs.State.{State}
+use Rattle.run_values.specs.Texts.{plain_text}
 
 -- `a[i]`, of an array and an index
 abbrev pub indexed : Place → Value → ℤ → Act Value
@@ -78,3 +80,9 @@ abbrev pub array_shown : Place → Value → Act (Unit {0})
 array_shown at v = do
   text ← array_text at v
   print text
+
+-- the text of a value that is printed
+abbrev pub shown_text : State → Value → List ℕ
+shown_text s (Array n) = cells_text (cells_of s (Array n))
+shown_text s (Row xs) = cells_text (cells_of s (Row xs))
+shown_text s v = plain_text v

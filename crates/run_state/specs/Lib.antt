@@ -1,5 +1,6 @@
 pub mod Acts
 pub mod Numbers
 pub mod Shares
+pub mod Stops
 pub mod Targets
 pub mod Views

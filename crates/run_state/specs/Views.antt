@@ -2,7 +2,6 @@
 use Rattle.std.specs.Prelude.{ℕ, List, drop, map}
 use Rattle.comet_meaning.specs.State.{State}
 use Rattle.run_values.specs.Views.{value_seen, cells_seen}
-use Rattle.run_models.specs.Views.{solver_seen}
 use Rattle.run_state.specs.declared.state.State.{State as declared}
 
 abbrev pub state_seen : declared → List ℕ → State
@@ -10,7 +9,7 @@ state_seen s printed = record {
   globals = map value_seen s.globals.items;
   frame = map value_seen s.frame.items;
   arrays = map cells_seen s.arrays.items;
-  solvers = map solver_seen s.solvers.items;
+  solvers = s.solvers.items;
   inputs = map (λ n. drop n s.data.items) s.inputs.items;
   data_text = s.data.items;
   fuel = s.fuel;

@@ -6,6 +6,7 @@ ghost use Rattle.run_values.specs.Did.{Did};
 ghost use Rattle.run_values.specs.Views.{value_seen};
 ghost use Rattle.run_values.specs.declared.stop.Stop.TheVariants.{NoMemory};
 ghost use Rattle.run_state.specs.Acts.{counted, copied_into, listed};
+ghost use Rattle.run_state.specs.Stops.{IsQuiet, IsSpent};
 ghost use Rattle.run_state.specs.Views.{state_seen};
 
 use crate::fuel::spend;
@@ -16,10 +17,18 @@ use run_values::{Cells, Stop, Value};
 use std::mem;
 
 impl State {
-    /// How often a number stands in an array. The call is charged, and then the cells, at the array's place.
+    /// How often a number stands in an array. The call is charged, and then the cells, at the array's place. `Spent` at
+    /// the place whose charge the fuel doesn't reach for; there is no other stop.
     #[tactic(auto, unfolding(comet_meaning::specs::Cells::cells, comet_meaning::specs::Arrays::taken_whole))]
-    pub fn count(&mut self, call: Place, place: Place, array: &Value, number: i64) -> Result<Value, Stop>
+    pub fn count(
+        &mut self,
+        call: Place,
+        place: Place,
+        array: &Value,
+        number: i64,
+    ) -> Result<Value, Stop>
         ensures did { (printed : List ℕ) → Did value_seen result (state_seen self.new printed) (counted call place (value_seen array.now) number (state_seen self.old printed)) }
+        ensures stop { IfErr result IsSpent }
         ensures never_rises { self.new.fuel ≤ self.old.fuel }
     {
         spend(&mut self.fuel, 1, call)?;
@@ -28,10 +37,12 @@ impl State {
         Ok(Value::Number(count_in(number, self.numbers(array))))
     }
 
-    /// A name gets a new array of the numbers of an array, whose cells are charged at this place.
+    /// A name gets a new array of the numbers of an array, whose cells are charged at this place. `Spent` where the fuel
+    /// doesn't reach for them, and `NoMemory` where there is none; there is no other stop.
     #[tactic(auto, unfolding(comet_meaning::specs::Cells::cells))]
     pub fn copy_array(&mut self, at: Place, slot: Slot, array: &Value) -> Result<(), Stop>
         ensures did { (printed : List ℕ) → Did (λ _. tt) result (state_seen self.new printed) (copied_into at slot (value_seen array.now) (state_seen self.old printed)) }
+        ensures stop { IfErr result IsQuiet }
         ensures never_rises { self.new.fuel ≤ self.old.fuel }
     {
         let cells = self.numbers(array).len();
@@ -42,10 +53,12 @@ impl State {
     }
 
     /// The numbers of a list of exactly so many, which are charged at this place. `OutOfRange` exactly where they are
-    /// more or fewer, before anything is charged.
+    /// more or fewer, before anything is charged; `Spent` where the fuel doesn't reach for them, and `NoMemory` where
+    /// there is none for a copy.
     #[tactic(auto, unfolding(comet_meaning::specs::Cells::cells))]
     pub fn listed(&mut self, at: Place, count: u128, list: &Value) -> Result<Vec<i64>, Stop>
         ensures did { (printed : List ℕ) → Did (λ numbers. numbers.items) result (state_seen self.new printed) (listed at count (value_seen list.now) (state_seen self.old printed)) }
+        ensures stop { IfErr result IsQuiet }
         ensures never_rises { self.new.fuel ≤ self.old.fuel }
     {
         let cells = self.numbers(list).len();
@@ -58,8 +71,10 @@ impl State {
     }
 
     /// The arguments as a function has them: numbers in a row become an array that it may write, unless it is pure.
+    /// `NoMemory` where there is none for the arrays; there is no other stop.
     pub fn handed(&mut self, pure: bool, values: Vec<Value>) -> Result<Vec<Value>, Stop>
         ensures did { (printed : List ℕ) → Did (λ handed. map value_seen handed.items) result (state_seen self.new printed) (meaning.handed pure (map value_seen values.items) (state_seen self.old printed)) }
+        ensures memory { IfErr result (λ stop. stop ≡ NoMemory) }
         ensures fuel { self.new.fuel ≡ self.old.fuel }
     {
         if pure {
@@ -71,6 +86,7 @@ impl State {
     /// The values, with each row of numbers as an array of its own.
     fn own_arrays(&mut self, values: Vec<Value>) -> Result<Vec<Value>, Stop>
         ensures did { (printed : List ℕ) → Did (λ owned. map value_seen owned.items) result (state_seen self.new printed) (meaning.own_arrays (map value_seen values.items) [] (state_seen self.old printed)) }
+        ensures memory { IfErr result (λ stop. stop ≡ NoMemory) }
         ensures fuel { self.new.fuel ≡ self.old.fuel }
     {
         let mut owned = values;

@@ -5,7 +5,7 @@ ghost use Rattle.comet_meaning.specs.Cells.{cells_of, row_of, put_number, number
 ghost use Rattle.comet_meaning.specs.Outcome.{Went};
 ghost use Rattle.comet_meaning.specs.Values as values;
 ghost use Rattle.comet_meaning.specs.Values.{Number};
-ghost use Rattle.run_values.specs.Did.{Did};
+ghost use Rattle.run_values.specs.Did.{Did, IsFault};
 ghost use Rattle.run_values.specs.Views.{value_seen, cells_seen};
 ghost use Rattle.run_values.specs.declared.stop.Stop.TheVariants.{NoMemory};
 ghost use Rattle.run_state.specs.Acts.{indexed, indexed_twice, array_size};
@@ -20,7 +20,8 @@ impl State {
     /// other stop.
     #[tactic(auto, unfolding(comet_meaning::specs::Cells::cells))]
     pub fn index(&self, at: Place, array: &Value, index: i64) -> Result<Value, Stop>
-        ensures { (printed : List ℕ) → Did value_seen result (state_seen self.now printed) (indexed at (value_seen array.now) index (state_seen self.now printed)) }
+        ensures did { (printed : List ℕ) → Did value_seen result (state_seen self.now printed) (indexed at (value_seen array.now) index (state_seen self.now printed)) }
+        ensures stop { IfErr result IsFault }
     {
         match self.at_index(array, index) {
             Some(cell) => Ok(Value::Number(self.number_at(array, cell))),
@@ -32,7 +33,8 @@ impl State {
     /// cell; there is no other stop.
     #[tactic(auto, unfolding(comet_meaning::specs::Cells::cells))]
     pub fn cell(&self, at: Place, array: &Value, row: i64, column: i64) -> Result<Value, Stop>
-        ensures { (printed : List ℕ) → Did value_seen result (state_seen self.now printed) (indexed_twice at (value_seen array.now) row column (state_seen self.now printed)) }
+        ensures did { (printed : List ℕ) → Did value_seen result (state_seen self.now printed) (indexed_twice at (value_seen array.now) row column (state_seen self.now printed)) }
+        ensures stop { IfErr result IsFault }
     {
         match self.at_indices(array, row, column) {
             Some(cell) => Ok(Value::Number(self.number_at(array, cell))),
@@ -86,7 +88,6 @@ impl State {
     }
 
     /// Where the cell of a row's index and a column's stands; `None` exactly where there is no such cell.
-    #[tactic(auto, using(crate::proofs::ArrayLaws::seen_there))]
     pub(crate) fn at_indices(&self, array: &Value, row: i64, column: i64) -> Option<u128>
         ensures { (printed : List ℕ) → result ≡ meaning.at_indices (cells_of (state_seen self.now printed) (value_seen array.now)) row column }
     {

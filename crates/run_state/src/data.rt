@@ -1,10 +1,11 @@
 //! Data.
-ghost use Rattle.std.specs.Prelude.{◌≡◌, ℕ, List};
+ghost use Rattle.std.specs.Prelude.{◌≡◌, ℕ, List, IfErr};
 ghost use Rattle.comet_meaning.specs.Data as meaning;
 ghost use Rattle.comet_meaning.specs.Declarations as declarations;
 ghost use Rattle.comet_meaning.specs.Values as values;
-ghost use Rattle.run_values.specs.Did.{Did};
+ghost use Rattle.run_values.specs.Did.{Did, IsFault};
 ghost use Rattle.run_values.specs.Views.{value_seen};
+ghost use Rattle.run_values.specs.declared.stop.Stop.TheVariants.{NoMemory};
 ghost use Rattle.run_state.specs.Views.{state_seen};
 
 use crate::state::State;
@@ -20,6 +21,7 @@ impl State {
     #[tactic(auto, unfolding(comet_meaning::specs::Declarations::make_input))]
     pub fn make_input(&mut self) -> Result<Value, Stop>
         ensures did { (printed : List ℕ) → Did value_seen result (state_seen self.new printed) (declarations.make_input (state_seen self.old printed)) }
+        ensures memory { IfErr result (λ stop. stop ≡ NoMemory) }
         ensures fuel { self.new.fuel ≡ self.old.fuel }
     {
         let number = self.inputs.len();
@@ -33,6 +35,7 @@ impl State {
     #[tactic(auto, unfolding(comet_meaning::specs::Data::next_number))]
     pub fn next_number(&mut self, at: Place, input: &Value) -> Result<Value, Stop>
         ensures did { (printed : List ℕ) → Did value_seen result (state_seen self.new printed) (meaning.next_number at (value_seen input.now) (state_seen self.old printed)) }
+        ensures stop { IfErr result IsFault }
         ensures fuel { self.new.fuel ≡ self.old.fuel }
     {
         if self.data.len() > MOST_DATA {
@@ -47,6 +50,7 @@ impl State {
     /// The number of the first word that an input hasn't read yet.
     fn first_word(&mut self, at: Place, input: usize) -> Result<Value, Stop>
         ensures did { (printed : List ℕ) → Did value_seen result (state_seen self.new printed) (meaning.first_word at (values.Input input) (meaning.behind_blanks (meaning.unread (state_seen self.old printed) (values.Input input))) (state_seen self.old printed)) }
+        ensures stop { IfErr result IsFault }
         ensures fuel { self.new.fuel ≡ self.old.fuel }
     {
         if input >= self.inputs.len() {

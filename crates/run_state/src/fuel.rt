@@ -15,6 +15,7 @@ impl State {
     /// other stop.
     pub fn charge(&mut self, units: u64, at: Place) -> Result<(), Stop>
         ensures did { (printed : List ℕ) → Did (λ _. tt) result (state_seen self.new printed) (charge units at (state_seen self.old printed)) }
+        ensures stop { IfErr result (λ stop. stop ≡ Spent at) }
         ensures spent { OnOk result (self.new.fuel + units ≡ self.old.fuel) }
         ensures never_rises { self.new.fuel ≤ self.old.fuel }
     {

@@ -14,10 +14,12 @@ use run_values::{Stop, Value};
 use std::alloc::Global;
 
 impl State {
-    /// A copy of what a name's cell holds.
+    /// A copy of what a name's cell holds, and nothing where there is no such cell. `NoMemory` where there is none for
+    /// it; there is no other stop.
     #[tactic(auto, unfolding(comet_meaning::specs::Cells::look))]
     pub fn look(&self, slot: Slot) -> Result<Value, Stop>
-        ensures { (printed : List ℕ) → Did value_seen result (state_seen self.now printed) (look slot (state_seen self.now printed)) }
+        ensures did { (printed : List ℕ) → Did value_seen result (state_seen self.now printed) (look slot (state_seen self.now printed)) }
+        ensures memory { IfErr result (λ stop. stop ≡ NoMemory) }
     {
         match slot {
             Slot::Global(index) => copied_cell(self.alloc, &self.globals, index),
@@ -25,10 +27,12 @@ impl State {
         }
     }
 
-    /// Writes a value into a name's cell. The cells before it that weren't there yet hold nothing.
+    /// Writes a value into a name's cell. The cells before it that weren't there yet hold nothing. `NoMemory` where there
+    /// is none for them; there is no other stop.
     #[tactic(auto, unfolding(comet_meaning::specs::Cells::put))]
     pub fn put(&mut self, slot: Slot, value: Value) -> Result<(), Stop>
         ensures did { (printed : List ℕ) → Did (λ _. tt) result (state_seen self.new printed) (put slot (value_seen value) (state_seen self.old printed)) }
+        ensures memory { IfErr result (λ stop. stop ≡ NoMemory) }
         ensures fuel { self.new.fuel ≡ self.old.fuel }
     {
         match slot {

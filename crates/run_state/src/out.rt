@@ -1,17 +1,15 @@
 //! Outputs, and what is printed.
-ghost use Rattle.std.specs.Prelude.{◌≡◌, ◌≤◌, ◌++◌, ◌↔◌, ℕ, List, Option, None, Err, true, OnOk, OnErr, IfErr, length};
+ghost use Rattle.std.specs.Prelude.{◌≡◌, ◌≤◌, ◌++◌, ◌↔◌, ℕ, List, Option, None, Err, true, OnOk, IfErr, length};
 ghost use Rattle.std.specs.Fmt.{signed_decimal};
 ghost use Rattle.cbl_io.specs.Faults.{HasRisen};
-ghost use Rattle.comet_meaning.specs.Onward.{IsFront, left_by};
+ghost use Rattle.comet_meaning.specs.Onward.{IsFront};
 ghost use Rattle.comet_meaning.specs.Printing as meaning;
 ghost use Rattle.comet_meaning.specs.State as states;
 ghost use Rattle.run_values.specs.Did.{Did};
-ghost use Rattle.run_values.specs.Views.{value_seen};
 ghost use Rattle.run_values.specs.declared.stop.OutStop.TheVariants.{Full, Failed};
 ghost use Rattle.run_values.specs.declared.stop.Stop.TheVariants.{Output};
-ghost use Rattle.run_state.specs.Acts.{shown};
 ghost use Rattle.run_state.specs.Shares.{is_short, share_behind};
-ghost use Rattle.run_state.specs.Views.{state_seen};
+ghost use Rattle.run_state.specs.Stops.{IsOutput};
 
 use itoa::Buffer;
 use run_values::{OutStop, Stop};
@@ -62,12 +60,14 @@ impl Out for Bytes {
     }
 }
 
-/// Prints a text. There is no other stop than the output's.
+/// Prints a text. It stops as the output does, and has then printed a front of the text.
 #[tactic(auto, unfolding(comet_meaning::specs::Printing::print))]
 pub fn print<O: Out>(out: &mut O, text: &[u8]) -> Result<(), Stop>
     ensures did { (s : states.State) → s.printed ≡ O.taken out.old → Did (λ _. tt) result (record s { printed = O.taken out.new }) (meaning.print text.now s) }
+    ensures stop { IfErr result IsOutput }
     ensures begun { IsFront (O.taken out.old) (O.taken out.new) }
     ensures front { IsFront (O.taken out.new) (O.taken out.old ++ text.now) }
+    ensures lowered { OnOk result (O.share out.new ≡ share_behind (O.share out.old) (length text.now)) }
     ensures full { (result ≡ Err (Output Full)) ↔ (is_short (O.share out.old) (length text.now) ≡ true) }
     ensures untold { O.share out.old ≡ None → O.share out.new ≡ None }
     ensures failed { result ≡ Err (Output Failed) → HasRisen (O.faults out.old) (O.faults out.new) }
@@ -77,11 +77,13 @@ pub fn print<O: Out>(out: &mut O, text: &[u8]) -> Result<(), Stop>
     Ok(())
 }
 
-/// Prints a number.
+/// Prints a number. It stops as the output does, and has then printed a front of its text.
 pub(crate) fn print_number<O: Out>(out: &mut O, number: &i64) -> Result<(), Stop>
     ensures did { (s : states.State) → s.printed ≡ O.taken out.old → Did (λ _. tt) result (record s { printed = O.taken out.new }) (meaning.print (signed_decimal number.now) s) }
+    ensures stop { IfErr result IsOutput }
     ensures begun { IsFront (O.taken out.old) (O.taken out.new) }
     ensures front { IsFront (O.taken out.new) (O.taken out.old ++ signed_decimal number.now) }
+    ensures lowered { OnOk result (O.share out.new ≡ share_behind (O.share out.old) (length (signed_decimal number.now))) }
     ensures full { (result ≡ Err (Output Full)) ↔ (is_short (O.share out.old) (length (signed_decimal number.now)) ≡ true) }
     ensures untold { O.share out.old ≡ None → O.share out.new ≡ None }
     ensures failed { result ≡ Err (Output Failed) → HasRisen (O.faults out.old) (O.faults out.new) }

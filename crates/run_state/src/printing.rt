@@ -1,5 +1,5 @@
 //! Values that are printed.
-ghost use Rattle.std.specs.Prelude.{◌≡◌, ◌≤◌, ◌++◌, ℕ, List, None, Err, IfErr, OnOk};
+ghost use Rattle.std.specs.Prelude.{◌≡◌, ◌≤◌, ◌++◌, ℕ, List, [], length, true, None, Err, IfErr, OnOk};
 ghost use Rattle.cbl_io.specs.Faults.{HasRisen};
 ghost use Rattle.comet_meaning.specs.Cells.{cells_of};
 ghost use Rattle.comet_meaning.specs.Onward.{IsFront, left_by};
@@ -9,9 +9,10 @@ ghost use Rattle.comet_meaning.specs.State as states;
 ghost use Rattle.run_values.specs.Did.{Did};
 ghost use Rattle.run_values.specs.Texts.{plain_text};
 ghost use Rattle.run_values.specs.Views.{value_seen};
-ghost use Rattle.run_values.specs.declared.stop.OutStop.TheVariants.{Failed};
+ghost use Rattle.run_values.specs.declared.stop.OutStop.TheVariants.{Full, Failed};
 ghost use Rattle.run_values.specs.declared.stop.Stop.TheVariants.{NoMemory, Output};
-ghost use Rattle.run_state.specs.Acts.{shown, array_shown};
+ghost use Rattle.run_state.specs.Acts.{shown, shown_text, array_shown};
+ghost use Rattle.run_state.specs.Shares.{is_short, share_behind};
 ghost use Rattle.run_state.specs.Views.{state_seen};
 
 use crate::fuel::spend;
@@ -24,12 +25,15 @@ use std::alloc::Global;
 
 impl State {
     /// Prints a value; what can't be printed is nothing. The cells of an array are charged before, at this place.
-    /// After any stop a front of the text was printed.
+    /// `Spent` where the fuel doesn't reach for them, `NoMemory` where there is none for the text; else it stops as the
+    /// output does. After any stop a front of the text was printed.
     #[tactic(auto, unfolding(comet_meaning::specs::Printing::value_text, comet_meaning::specs::Printing::print))]
     pub fn print_value<O: Out>(&mut self, out: &mut O, at: Place, value: &Value) -> Result<(), Stop>
         ensures did { Did (λ _. tt) result (state_seen self.new (O.taken out.new)) (shown at (value_seen value.now) (state_seen self.old (O.taken out.old))) }
         ensures begun { IsFront (O.taken out.old) (O.taken out.new) }
         ensures front { IsFront (O.taken out.new) (left_by (shown at (value_seen value.now) (state_seen self.old (O.taken out.old)))).printed }
+        ensures lowered { OnOk result (O.share out.new ≡ share_behind (O.share out.old) (length (shown_text (state_seen self.old []) (value_seen value.now)))) }
+        ensures full { result ≡ Err (Output Full) → is_short (O.share out.old) (length (shown_text (state_seen self.old []) (value_seen value.now))) ≡ true }
         ensures untold { O.share out.old ≡ None → O.share out.new ≡ None }
         ensures failed { result ≡ Err (Output Failed) → HasRisen (O.faults out.old) (O.faults out.new) }
         ensures never_falls { O.faults out.old ≤ O.faults out.new }
@@ -55,6 +59,8 @@ impl State {
         ensures did { Did (λ _. tt) result (state_seen self.new (O.taken out.new)) (array_shown at (value_seen array.now) (state_seen self.old (O.taken out.old))) }
         ensures begun { IsFront (O.taken out.old) (O.taken out.new) }
         ensures front { IsFront (O.taken out.new) (left_by (array_shown at (value_seen array.now) (state_seen self.old (O.taken out.old)))).printed }
+        ensures lowered { OnOk result (O.share out.new ≡ share_behind (O.share out.old) (length (cells_text (cells_of (state_seen self.old []) (value_seen array.now))))) }
+        ensures full { result ≡ Err (Output Full) → is_short (O.share out.old) (length (cells_text (cells_of (state_seen self.old []) (value_seen array.now)))) ≡ true }
         ensures untold { O.share out.old ≡ None → O.share out.new ≡ None }
         ensures failed { result ≡ Err (Output Failed) → HasRisen (O.faults out.old) (O.faults out.new) }
         ensures never_falls { O.faults out.old ≤ O.faults out.new }
@@ -83,12 +89,14 @@ impl State {
     }
 }
 
-/// Prints a value that is no array.
+/// Prints a value that is no array. `NoMemory` where there is none for its text; else it stops as the output does.
 #[tactic(auto, unfolding(comet_meaning::specs::Printing::print))]
 fn print_plain<O: Out>(out: &mut O, alloc: Global, value: &Value) -> Result<(), Stop>
     ensures did { (s : states.State) → s.printed ≡ O.taken out.old → Did (λ _. tt) result (record s { printed = O.taken out.new }) (meaning.print (plain_text (value_seen value.now)) s) }
     ensures begun { IsFront (O.taken out.old) (O.taken out.new) }
     ensures front { IsFront (O.taken out.new) (O.taken out.old ++ plain_text (value_seen value.now)) }
+    ensures lowered { OnOk result (O.share out.new ≡ share_behind (O.share out.old) (length (plain_text (value_seen value.now)))) }
+    ensures full { result ≡ Err (Output Full) → is_short (O.share out.old) (length (plain_text (value_seen value.now))) ≡ true }
     ensures untold { O.share out.old ≡ None → O.share out.new ≡ None }
     ensures failed { result ≡ Err (Output Failed) → HasRisen (O.faults out.old) (O.faults out.new) }
     ensures never_falls { O.faults out.old ≤ O.faults out.new }

@@ -1,9 +1,10 @@
 //! What is written, and what stands there.
-ghost use Rattle.std.specs.Prelude.{◌≡◌, ℕ, List};
+ghost use Rattle.std.specs.Prelude.{◌≡◌, ℕ, List, IfErr};
 ghost use Rattle.comet_meaning.specs.Writes as meaning;
 ghost use Rattle.comet_meaning.specs.Writes.{moved, name_target, old_value};
-ghost use Rattle.run_values.specs.Did.{Did};
+ghost use Rattle.run_values.specs.Did.{Did, IsFault};
 ghost use Rattle.run_values.specs.Views.{value_seen};
+ghost use Rattle.run_values.specs.declared.stop.Stop.TheVariants.{NoMemory};
 ghost use Rattle.run_state.specs.Acts.{index_written, cell_written};
 ghost use Rattle.run_state.specs.Targets.{target_seen};
 ghost use Rattle.run_state.specs.Views.{state_seen};
@@ -26,10 +27,11 @@ pub enum Target {
 
 impl State {
     /// What a name stands for where it is written: a name of a variable stands for the variable, and any other for its
-    /// own cell.
+    /// own cell. `NoMemory` where there is none; there is no other stop.
     #[tactic(auto, unfolding(comet_meaning::specs::Writes::name_target))]
     pub fn name_target(&self, kind: Kind, slot: Slot) -> Result<Target, Stop>
-        ensures { (printed : List ℕ) → Did target_seen result (state_seen self.now printed) (name_target kind slot (state_seen self.now printed)) }
+        ensures did { (printed : List ℕ) → Did target_seen result (state_seen self.now printed) (name_target kind slot (state_seen self.now printed)) }
+        ensures memory { IfErr result (λ stop. stop ≡ NoMemory) }
     {
         match kind {
             Kind::Variable => {
@@ -43,7 +45,8 @@ impl State {
     /// The cell of an index. `OutOfRange` at this place exactly where there is no such cell; there is no other stop.
     #[tactic(auto, unfolding(comet_meaning::specs::Cells::cells))]
     pub fn index_target(&self, at: Place, array: &Value, index: i64) -> Result<Target, Stop>
-        ensures { (printed : List ℕ) → Did target_seen result (state_seen self.now printed) (index_written at (value_seen array.now) index (state_seen self.now printed)) }
+        ensures did { (printed : List ℕ) → Did target_seen result (state_seen self.now printed) (index_written at (value_seen array.now) index (state_seen self.now printed)) }
+        ensures stop { IfErr result IsFault }
     {
         match self.at_index(array, index) {
             Some(cell) => Ok(element_of(array, cell)),
@@ -54,8 +57,15 @@ impl State {
     /// The cell of a row's index and a column's. `OutOfRange` at this place exactly where there is no such cell; there
     /// is no other stop.
     #[tactic(auto, unfolding(comet_meaning::specs::Cells::cells))]
-    pub fn cell_target(&self, at: Place, array: &Value, row: i64, column: i64) -> Result<Target, Stop>
-        ensures { (printed : List ℕ) → Did target_seen result (state_seen self.now printed) (cell_written at (value_seen array.now) row column (state_seen self.now printed)) }
+    pub fn cell_target(
+        &self,
+        at: Place,
+        array: &Value,
+        row: i64,
+        column: i64,
+    ) -> Result<Target, Stop>
+        ensures did { (printed : List ℕ) → Did target_seen result (state_seen self.now printed) (cell_written at (value_seen array.now) row column (state_seen self.now printed)) }
+        ensures stop { IfErr result IsFault }
     {
         match self.at_indices(array, row, column) {
             Some(cell) => Ok(element_of(array, cell)),
@@ -63,10 +73,11 @@ impl State {
         }
     }
 
-    /// What stands where it is written, before it is.
+    /// What stands where it is written, before it is. `NoMemory` where there is none for a copy; there is no other stop.
     #[tactic(auto, unfolding(comet_meaning::specs::Writes::old_value, comet_meaning::specs::Cells::cells))]
     pub fn old_value(&self, target: &Target) -> Result<Value, Stop>
-        ensures { (printed : List ℕ) → Did value_seen result (state_seen self.now printed) (old_value (target_seen target.now) (state_seen self.now printed)) }
+        ensures did { (printed : List ℕ) → Did value_seen result (state_seen self.now printed) (old_value (target_seen target.now) (state_seen self.now printed)) }
+        ensures memory { IfErr result (λ stop. stop ≡ NoMemory) }
     {
         match target {
             Target::Name(slot) => self.look(*slot),

@@ -26,7 +26,6 @@ pub(crate) fn behind_blanks(text: &[u8], from: usize) -> usize
 }
 
 /// Where the word that begins at this place ends.
-#[tactic(auto, using(crate::proofs::WordLaws::word_goes_on))]
 pub(crate) fn word_end(text: &[u8], from: usize) -> usize
     requires { from ≤ length text.now }
     ensures onward { from ≤ result }

@@ -1,3 +1,4 @@
+-- The cell that is written is the next one.
 use Rattle.std.proofs.Common.{sym, ◌∙◌, arith}
 use Rattle.run_state.proofs.WrittenCells.{seen_next}
 use Rattle.run_state.proofs.names.add_cell.Goals as goal

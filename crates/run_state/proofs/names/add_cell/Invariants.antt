@@ -1,4 +1,5 @@
-use Rattle.std.proofs.Common.{◌≡◌, ◌≤◌, ◌-◌, length, map, vec_len}
+-- Cells that hold nothing change nothing of what the write makes.
+use Rattle.std.proofs.Common.{◌≡◌, ◌≤◌, ◌-◌, length, map}
 use Rattle.comet_meaning.specs.Cells.{with_cell}
 use Rattle.run_values.specs.Views.{value_seen}
 use Rattle.run_state.proofs.names.add_cell.Given as goal

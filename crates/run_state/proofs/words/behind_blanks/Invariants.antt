@@ -1,3 +1,4 @@
+-- What is left behind the blanks so far is left behind all.
 use Rattle.std.proofs.Common.{◌≡◌, ◌-◌, length, drop}
 use Rattle.comet_meaning.specs.Data.{behind_blanks}
 use Rattle.run_state.proofs.words.behind_blanks.Given as goal

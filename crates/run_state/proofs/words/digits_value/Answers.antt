@@ -1,4 +1,5 @@
-use Rattle.std.proofs.Common.{◌≡◌, ◌+◌, ◌^◌, ◌∷◌, Option, None, get_or, drop, refl, sym, ◌∙◌}
+-- A digit that is refused refuses the word.
+use Rattle.std.proofs.Common.{◌≡◌, ◌+◌, ◌^◌, ◌∷◌, None, get_or, drop, sym, ◌∙◌}
 use Rattle.std.proofs.lemmas.List.{drop_more}
 use Rattle.comet_meaning.specs.Data.{digits_from}
 use Rattle.run_state.specs.Numbers.{at_most}

@@ -1,3 +1,4 @@
+-- The number so far, and then the digits that are left, is the whole number.
 use Rattle.std.proofs.Common.{◌≡◌, ◌≤◌, ◌^◌, drop}
 use Rattle.comet_meaning.specs.Data.{digits_from, digits_value}
 use Rattle.run_state.specs.Numbers.{at_most}

@@ -1,3 +1,4 @@
+-- A byte that is no blank belongs to the word.
 use Rattle.std.proofs.Common.{sym, ◌∙◌}
 use Rattle.run_state.proofs.WordLaws.{word_goes_on}
 use Rattle.run_state.proofs.words.word_end.Goals as goal

@@ -1,3 +1,4 @@
+-- A part of the word was read.
 use Rattle.std.proofs.Common.{◌-◌, length}
 use Rattle.run_state.proofs.WordLaws.{IsInWord}
 use Rattle.run_state.proofs.words.word_end.Given as goal

@@ -1,3 +1,4 @@
+-- The array that is found is the one whose number is asked.
 use Rattle.std.proofs.Common.{◌≡◌, get_or, map}
 use Rattle.std.specs.Int.{w64}
 use Rattle.std.proofs.lemmas.Int.{to_z-of_z}

@@ -1,9 +1,7 @@
-use Rattle.std.proofs.Common.{◌≡◌, ℤ, List, length, refl, sym, ◌∙◌, ap, subst}
-use Rattle.comet_meaning.specs.Values.{Value}
-use Rattle.comet_meaning.specs.Outcome.{Went}
-use Rattle.comet_meaning.specs.Cells.{cells_of, row_of, new_array}
-use Rattle.run_values.specs.Did.{Did}
-use Rattle.run_values.specs.Views.{value_seen, cells_seen}
+-- The cells are charged, copied, and put.
+use Rattle.std.proofs.Common.{◌≡◌, refl, sym, ◌∙◌, ap}
+use Rattle.comet_meaning.specs.Cells.{row_of}
+use Rattle.run_values.specs.Views.{value_seen}
 use Rattle.run_state.specs.Views.{state_seen}
 use Rattle.run_state.proofs.ActLaws.{copied_law}
 use Rattle.run_state.proofs.state.State.copy_array.Goals as goal

@@ -1,9 +1,8 @@
+-- The call is charged, then the cells, and then they are counted.
 use Rattle.std.proofs.Common.{◌≡◌, ℤ, pos, List, refl, sym, ◌∙◌, ap, rules}
 use Rattle.std.specs.Int.{w64}
 use Rattle.std.proofs.lemmas.Int.{ints, to_z-of_z}
 use Rattle.cbl_base.specs.Counts.{count_of}
-use Rattle.comet_meaning.specs.Values.{Number}
-use Rattle.comet_meaning.specs.Outcome.{Went}
 use Rattle.run_values.specs.Views.{value_seen}
 use Rattle.run_state.specs.Views.{state_seen}
 use Rattle.run_state.proofs.ActLaws.{counted_law}

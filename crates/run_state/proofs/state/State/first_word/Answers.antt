@@ -1,7 +1,8 @@
-use Rattle.std.proofs.Common.{◌≡◌, ◌<◌, ◌-◌, ℕ, List, [], length, get_or, take, drop, map, sym, ◌∙◌, ap, arith, rules}
+-- The word behind the blanks is no number, or is the number.
+use Rattle.std.proofs.Common.{◌≡◌, ℕ, [], get_or, drop, map, sym, ◌∙◌, ap, arith, rules}
 use Rattle.std.proofs.lemmas.Int.{ints, to_z-of_z}
 use Rattle.std.proofs.lemmas.List.{map-set, length-drop}
-use Rattle.comet_meaning.specs.Data.{behind_blanks, word_of}
+use Rattle.comet_meaning.specs.Data.{behind_blanks}
 use Rattle.run_state.specs.Views.{state_seen}
 use Rattle.run_state.proofs.ArrayLaws.{seen_there}
 use Rattle.run_state.proofs.WordLaws.{bad_word, good_word, word_is_there}

@@ -1,4 +1,5 @@
-use Rattle.std.proofs.Common.{◌≡◌, ℤ, List, length, refl, sym, ◌∙◌, ap, arith}
+-- The list has as many numbers as are asked, and they are charged.
+use Rattle.std.proofs.Common.{◌≡◌, length, refl, sym, ◌∙◌}
 use Rattle.run_values.specs.Views.{value_seen}
 use Rattle.run_state.specs.Views.{state_seen}
 use Rattle.run_state.proofs.ActLaws.{listed_law}

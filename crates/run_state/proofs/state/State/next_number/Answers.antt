@@ -1,3 +1,4 @@
+-- Data that is not too long is read from its first word on.
 use Rattle.std.proofs.Common.{arith}
 use Rattle.run_state.specs.Views.{state_seen}
 use Rattle.run_state.proofs.ActLaws.{read_law}

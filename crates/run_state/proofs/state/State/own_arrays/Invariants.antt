@@ -1,3 +1,4 @@
+-- What is left to be owned, behind what is, is the whole.
 use Rattle.std.proofs.Common.{◌≡◌, ℕ, List, [], length, map, take, drop}
 use Rattle.comet_meaning.specs.Calls.{own_arrays}
 use Rattle.run_values.specs.Views.{value_seen}

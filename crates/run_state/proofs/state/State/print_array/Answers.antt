@@ -1,4 +1,5 @@
-use Rattle.std.proofs.Common.{◌≡◌, ℕ, List, ◌++◌, refl, ◌∙◌, ap}
+-- The cells are charged, and then the text is printed.
+use Rattle.std.proofs.Common.{◌≡◌, ℕ, List, [], ◌++◌, refl, ◌∙◌, ap}
 use Rattle.comet_meaning.specs.Cells.{cells_of}
 use Rattle.comet_meaning.specs.Printing.{cells_text, print}
 use Rattle.run_values.specs.Views.{value_seen}
@@ -30,3 +31,17 @@ returns-clause-front g c =
     let law = array_paid c.args.at v s c.spend.new.fuel c.numbers-cells.result.now (c.numbers-cells.ensures printed) (c.in_ok-spend.ensures.did s refl) in
     let text : c.deref.result.now ≡ cells_text (cells_of s v) = c.deref.ensures.value ∙ c.in_ok-push_array.ensures.ok printed ∙ ap (λ (t : List ℕ). t ++ cells_text (cells_of s v)) c.new-text.ensures.items in
     rw law (rw text at c.print.ensures.front)
+
+pub returns-clause-lowered : goal.returns-clause-lowered
+returns-clause-lowered g c =
+    let s = state_seen c.args.self.now [] in
+    let v = value_seen c.args.array.now in
+    let text : c.deref.result.now ≡ cells_text (cells_of s v) = c.deref.ensures.value ∙ c.in_ok-push_array.ensures.ok [] ∙ ap (λ (t : List ℕ). t ++ cells_text (cells_of s v)) c.new-text.ensures.items in
+    rw text at c.print.ensures.lowered
+
+pub returns-clause-full : goal.returns-clause-full
+returns-clause-full g c =
+    let s = state_seen c.args.self.now [] in
+    let v = value_seen c.args.array.now in
+    let text : c.deref.result.now ≡ cells_text (cells_of s v) = c.deref.ensures.value ∙ c.in_ok-push_array.ensures.ok [] ∙ ap (λ (t : List ℕ). t ++ cells_text (cells_of s v)) c.new-text.ensures.items in
+    (rw text at c.print.ensures.full).0

@@ -1,3 +1,4 @@
+-- What is no array is printed at once.
 use Rattle.std.proofs.Common.{refl}
 use Rattle.comet_meaning.specs.Printing.{value_text}
 use Rattle.run_state.specs.Views.{state_seen}
