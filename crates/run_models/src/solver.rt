@@ -1,11 +1,11 @@
 //! A solver: its variables, with their domains and definitions, and their values.
-ghost use Rattle.std.specs.Prelude.{◌≡◌, pos, [], map, slice_index_or};
+ghost use Rattle.std.specs.Prelude.{◌≡◌, pos, [], map, slice_index_or, IfErr};
 ghost use Rattle.comet_meaning.specs.Values.{Number};
 ghost use Rattle.comet_meaning.specs.State.{State};
 ghost use Rattle.comet_meaning.specs.Solvers.{new_solver, fresh_values, values_behind};
 ghost use Rattle.comet_meaning.specs.Parts.{is_defined, variable_value};
 ghost use Rattle.comet_meaning.specs.Models.{begins_in};
-ghost use Rattle.run_values.specs.Did.{Did};
+ghost use Rattle.run_values.specs.Did.{Did, IsFault};
 ghost use Rattle.run_models.specs.Changing.{reading, with_next};
 ghost use Rattle.run_models.specs.Gives.{Gives};
 ghost use Rattle.run_models.specs.Views.{beginning_seen, modelled_seen};
@@ -136,16 +136,18 @@ impl Solver {
     }
 
     /// The value of the variable with this index, which is read at a place; 0 where there is none. Before the solver is
-    /// closed a defined variable can't be read: `NotClosed`.
+    /// closed a defined variable can't be read: `NotClosed`; there is no other stop.
     pub fn value(&self, at: Place, index: u32) -> Result<i64, Stop>
-        ensures { (s : State) → Did (λ z. Number z) result s (variable_value at index self.now s) }
+        ensures did { (s : State) → Did (λ z. Number z) result s (variable_value at index self.now s) }
+        ensures stop { IfErr result IsFault }
     {
         self.read(at, index)
     }
 
     /// The same, as the value or the fault of a part of a program.
     fn read(&self, at: Place, index: u32) -> Result<i64, Stop>
-        ensures { Gives (λ z. Number z) result (reading at index self.now) }
+        ensures meant { Gives (λ z. Number z) result (reading at index self.now) }
+        ensures stop { IfErr result IsFault }
     {
         if self.closed {
             return Ok(number_in(self.values.as_slice(), index));
