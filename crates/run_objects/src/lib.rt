@@ -1,0 +1,18 @@
+//! The variables and objects of a run, its methods, and what is written.
+//!
+//! It knows nothing of expressions or of statements. The layers above use that each function does what the meaning of
+//! programs says of the state's view.
+#![tactic(auto)]
+
+pub mod methods;
+pub mod objects;
+pub mod variables;
+pub mod writes;
+
+pub use methods::method;
+pub use objects::make_object;
+pub use variables::{assign, close, new_variable, read};
+pub use writes::{added, stepped, subtracted, write};
+
+#[cfg(test)]
+mod tests;
