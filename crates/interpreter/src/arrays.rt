@@ -1,0 +1,168 @@
+//! Lists, sets, the cells of arrays, and the functions of the language.
+ghost use Rattle.std.specs.Prelude.{◌≡◌, ℕ, List, []};
+ghost use Rattle.checked_tree.specs.declared.expressions.Builtin.TheVariants.{Count};
+ghost use Rattle.comet_meaning.specs.Arrays as arrays;
+ghost use Rattle.comet_meaning.specs.Builtins as builtins;
+ghost use Rattle.comet_meaning.specs.Expressions as expressions;
+ghost use Rattle.comet_meaning.specs.Program.{level};
+ghost use Rattle.interpreter.specs.Does.{Does};
+ghost use Rattle.interpreter.specs.Parts.{plain_builtin};
+ghost use Rattle.interpreter.specs.Views.{code_seen, part, row};
+ghost use Rattle.run_state.specs.Views.{state_seen};
+ghost use Rattle.run_values.specs.Views.{value_seen};
+
+use crate::code::Code;
+use crate::expressions::{number_of, value_of, values_of};
+use cbl_base::Place;
+use checked_tree::{Builtin, Typed};
+use run_state::{Out, State};
+use run_values::builtins::builtin;
+use run_values::operators::{row_of_values, set_of_values};
+use run_values::{Stop, Value};
+
+/// A list: its numbers in a row.
+#[cycle(run)]
+#[tactic(auto, unfolding(comet_meaning::specs::Arrays::list_form))]
+pub(crate) fn evaluate_list<O: Out>(
+    s: &mut State,
+    out: &mut O,
+    code: &Code<'_>,
+    room: u32,
+    cells: &[Typed],
+) -> Result<Value, Stop>
+    ensures did { Does value_seen result (state_seen s.new (O.taken out.new)) (arrays.list_form (level (code_seen code.now) room) (row cells.now) (state_seen s.old (O.taken out.old))) }
+{
+    let values = values_of(s, out, code, room, cells)?;
+    row_of_values(s.alloc, &values)
+}
+
+/// `{..}`: the set of the numbers.
+#[cycle(run)]
+#[tactic(auto, unfolding(comet_meaning::specs::Expressions::set_form))]
+pub(crate) fn evaluate_set<O: Out>(
+    s: &mut State,
+    out: &mut O,
+    code: &Code<'_>,
+    room: u32,
+    members: &[Typed],
+) -> Result<Value, Stop>
+    ensures did { Does value_seen result (state_seen s.new (O.taken out.new)) (expressions.set_form (level (code_seen code.now) room) (row members.now) (state_seen s.old (O.taken out.old))) }
+{
+    let values = values_of(s, out, code, room, members)?;
+    set_of_values(s.alloc, &values)
+}
+
+/// `a[i]`: the cell, and `OutOfRange` outside the array.
+#[cycle(run)]
+#[tactic(auto, unfolding(comet_meaning::specs::Arrays::index_form))]
+pub(crate) fn evaluate_index<O: Out>(
+    s: &mut State,
+    out: &mut O,
+    code: &Code<'_>,
+    room: u32,
+    at: Place,
+    array: &Typed,
+    index: &Typed,
+) -> Result<Value, Stop>
+    ensures did { Does value_seen result (state_seen s.new (O.taken out.new)) (arrays.index_form (level (code_seen code.now) room) at (part array.now) (part index.now) (state_seen s.old (O.taken out.old))) }
+{
+    let array = value_of(s, out, code, room, array)?;
+    let index = number_of(s, out, code, room, index)?;
+    s.index(at, &array, index)
+}
+
+/// `a[i,j]`: the cell, and `OutOfRange` outside the array.
+#[cycle(run)]
+#[tactic(auto, unfolding(comet_meaning::specs::Arrays::cell_form))]
+pub(crate) fn evaluate_cell<O: Out>(
+    s: &mut State,
+    out: &mut O,
+    code: &Code<'_>,
+    room: u32,
+    at: Place,
+    grid: &Typed,
+    row: &Typed,
+    column: &Typed,
+) -> Result<Value, Stop>
+    ensures did { Does value_seen result (state_seen s.new (O.taken out.new)) (arrays.cell_form (level (code_seen code.now) room) at (part grid.now) (part row.now) (part column.now) (state_seen s.old (O.taken out.old))) }
+{
+    let grid = value_of(s, out, code, room, grid)?;
+    let row = number_of(s, out, code, room, row)?;
+    let column = number_of(s, out, code, room, column)?;
+    s.cell(at, &grid, row, column)
+}
+
+/// `count(a, e)`: how often a number stands in an array.
+#[cycle(run)]
+#[tactic(auto, unfolding(comet_meaning::specs::Arrays::count_form))]
+fn evaluate_count<O: Out>(
+    s: &mut State,
+    out: &mut O,
+    code: &Code<'_>,
+    room: u32,
+    at: Place,
+    array: &Typed,
+    number: &Typed,
+) -> Result<Value, Stop>
+    ensures did { Does value_seen result (state_seen s.new (O.taken out.new)) (arrays.count_form (level (code_seen code.now) room) at (part array.now) (part number.now) (state_seen s.old (O.taken out.old))) }
+{
+    let place = array.place;
+    let array = value_of(s, out, code, room, array)?;
+    let number = number_of(s, out, code, room, number)?;
+    s.count(at, place, &array, number)
+}
+
+/// A call of a function of the language.
+#[cycle(run)]
+pub(crate) fn evaluate_builtin<O: Out>(
+    s: &mut State,
+    out: &mut O,
+    code: &Code<'_>,
+    room: u32,
+    at: Place,
+    function: Builtin,
+    arguments: &[Typed],
+) -> Result<Value, Stop>
+    ensures did { Does value_seen result (state_seen s.new (O.taken out.new)) (builtins.builtin_form (level (code_seen code.now) room) at function (row arguments.now) (state_seen s.old (O.taken out.old))) }
+{
+    match function {
+        Builtin::Count => evaluate_count_call(s, out, code, room, at, arguments),
+        _ => evaluate_plain(s, out, code, room, at, function, arguments),
+    }
+}
+
+/// A call of `count`, with any number of arguments.
+#[cycle(run)]
+fn evaluate_count_call<O: Out>(
+    s: &mut State,
+    out: &mut O,
+    code: &Code<'_>,
+    room: u32,
+    at: Place,
+    arguments: &[Typed],
+) -> Result<Value, Stop>
+    ensures did { Does value_seen result (state_seen s.new (O.taken out.new)) (builtins.builtin_form (level (code_seen code.now) room) at Count (row arguments.now) (state_seen s.old (O.taken out.old))) }
+{
+    if arguments.len() != 2 {
+        return evaluate_plain(s, out, code, room, at, Builtin::Count, arguments);
+    }
+    evaluate_count(s, out, code, room, at, &arguments[0], &arguments[1])
+}
+
+/// A function of the language whose arguments are all evaluated: a unit for the call, and then its value.
+#[cycle(run)]
+fn evaluate_plain<O: Out>(
+    s: &mut State,
+    out: &mut O,
+    code: &Code<'_>,
+    room: u32,
+    at: Place,
+    function: Builtin,
+    arguments: &[Typed],
+) -> Result<Value, Stop>
+    ensures did { Does value_seen result (state_seen s.new (O.taken out.new)) (plain_builtin (level (code_seen code.now) room) at function (row arguments.now) (state_seen s.old (O.taken out.old))) }
+{
+    let values = values_of(s, out, code, room, arguments)?;
+    s.charge(1, at)?;
+    builtin(s.alloc, at, function, &values)
+}

@@ -1,0 +1,194 @@
+//! Calls of functions and of methods.
+ghost use Rattle.std.specs.Prelude.{◌≡◌, ℕ, List, [], Option, Some, map, slice_get, slice_index_or, false};
+ghost use Rattle.std.specs.Option.{option_copied, option_map};
+ghost use Rattle.checked_tree.specs.Tasks.{function_of};
+ghost use Rattle.comet_meaning.specs.Calls as calls;
+ghost use Rattle.comet_meaning.specs.Methods.{method_form};
+ghost use Rattle.comet_meaning.specs.Program.{level};
+ghost use Rattle.interpreter.specs.Does.{Does};
+ghost use Rattle.interpreter.specs.Parts.{is_handed_itself};
+ghost use Rattle.interpreter.specs.Views.{code_seen, flow_seen, part, row};
+ghost use Rattle.run_state.specs.Views.{state_seen};
+ghost use Rattle.run_values.specs.Views.{value_seen};
+
+use crate::code::{Code, Flow};
+use crate::expressions::{evaluate, value_as, value_of, values_of};
+use crate::statements::execute;
+use cbl_base::Place;
+use checked_tree::{Function, Kind, Method, Typed};
+use run_objects::method as call_method;
+use run_state::{Out, State};
+use run_values::values::{as_kind, first_value};
+use run_values::{Stop, Value};
+use std::alloc::Global;
+use std::mem;
+
+/// A call of a function.
+#[cycle(run)]
+#[tactic(auto, unfolding(comet_meaning::specs::Calls::call_form))]
+pub(crate) fn evaluate_call<O: Out>(
+    s: &mut State,
+    out: &mut O,
+    code: &Code<'_>,
+    room: u32,
+    at: Place,
+    function: usize,
+    arguments: &[Typed],
+) -> Result<Value, Stop>
+    ensures did { Does value_seen result (state_seen s.new (O.taken out.new)) (calls.call_form (code_seen code.now) (level (code_seen code.now) room) at function (row arguments.now) (state_seen s.old (O.taken out.old))) }
+{
+    match function_at(code, function) {
+        Some(callee) => {
+            let pure = is_pure(code, function);
+            call(s, out, code, room, at, pure, callee, arguments)
+        }
+        None => Ok(Value::Nothing),
+    }
+}
+
+/// The function with this number.
+fn function_at<'a>(code: &Code<'a>, function: usize) -> Option<&'a Function>
+    ensures { option_map function_of (option_copied result) ≡ slice_get (code_seen code.now).functions function }
+{
+    code.functions.get(function)
+}
+
+/// Whether a function is known to be pure.
+fn is_pure(code: &Code<'_>, function: usize) -> bool
+    ensures { result ≡ slice_index_or code.now.pure.now function false }
+{
+    match code.pure.get(function) {
+        Some(pure) => *pure,
+        None => false,
+    }
+}
+
+/// The arguments from the left, a unit for the call, and then the body.
+#[cycle(run)]
+fn call<O: Out>(
+    s: &mut State,
+    out: &mut O,
+    code: &Code<'_>,
+    room: u32,
+    at: Place,
+    pure: bool,
+    callee: &Function,
+    arguments: &[Typed],
+) -> Result<Value, Stop>
+    ensures did { Does value_seen result (state_seen s.new (O.taken out.new)) (calls.called (level (code_seen code.now) room) at (row arguments.now) «pure» (Some (function_of callee.now)) (state_seen s.old (O.taken out.old))) }
+{
+    let values = arguments_of(s, out, code, room, &callee.parameters, arguments)?;
+    s.charge(1, at)?;
+    let handed = s.handed(pure, values)?;
+    execute_body(s, out, code, room, callee, handed)
+}
+
+/// The arguments, each as its parameter holds it; those without a parameter are left out.
+#[cycle(run)]
+fn arguments_of<O: Out>(
+    s: &mut State,
+    out: &mut O,
+    code: &Code<'_>,
+    room: u32,
+    parameters: &[Kind],
+    arguments: &[Typed],
+) -> Result<Vec<Value>, Stop>
+    ensures did { Does (λ values. map value_seen values.items) result (state_seen s.new (O.taken out.new)) (calls.arguments_form (level (code_seen code.now) room) parameters.now (row arguments.now) [] (state_seen s.old (O.taken out.old))) }
+{
+    let mut values = Vec::new(s.alloc);
+    for argument in arguments {
+        let Some(kind) = parameter_at(parameters, values.len()) else {
+            return Ok(values);
+        };
+        let value = argument_of(s, out, code, room, kind, argument)?;
+        values.push(value)?;
+    }
+    Ok(values)
+}
+
+/// An argument for a parameter of this kind: a variable itself, and else a value.
+#[cycle(run)]
+fn argument_of<O: Out>(
+    s: &mut State,
+    out: &mut O,
+    code: &Code<'_>,
+    room: u32,
+    kind: Kind,
+    e: &Typed,
+) -> Result<Value, Stop>
+    ensures did { Does value_seen result (state_seen s.new (O.taken out.new)) (calls.argument_form (level (code_seen code.now) room) kind (part e.now) (state_seen s.old (O.taken out.old))) }
+{
+    if is_handed_itself(kind) {
+        evaluate(s, out, code, room, e)
+    } else {
+        value_as(s, out, code, room, kind, e)
+    }
+}
+
+/// The kind of the parameter at this index.
+fn parameter_at(parameters: &[Kind], index: usize) -> Option<Kind>
+    ensures { result ≡ slice_get parameters.now index }
+{
+    match parameters.get(index) {
+        Some(kind) => Some(*kind),
+        None => None,
+    }
+}
+
+/// Whether a parameter of this kind is a variable itself.
+fn is_handed_itself(kind: Kind) -> bool
+    ensures { result ≡ is_handed_itself kind }
+{
+    matches!(kind, Kind::Variable | Kind::SetVariable)
+}
+
+/// The body of a function, in a frame of its own, whose first cells are the arguments.
+#[cycle(run)]
+#[tactic(auto, unfolding(comet_meaning::specs::Calls::body_form, comet_meaning::specs::Cells::in_scope, comet_meaning::specs::Cells::in_frame))]
+fn execute_body<O: Out>(
+    s: &mut State,
+    out: &mut O,
+    code: &Code<'_>,
+    room: u32,
+    callee: &Function,
+    arguments: Vec<Value>,
+) -> Result<Value, Stop>
+    ensures did { Does value_seen result (state_seen s.new (O.taken out.new)) (calls.body_form (level (code_seen code.now) room) (function_of callee.now) (map value_seen arguments.items) (state_seen s.old (O.taken out.old))) }
+{
+    let frame = mem::replace(&mut s.frame, arguments);
+    let flow = execute(s, out, code, room, &callee.body)?;
+    s.frame = frame;
+    Ok(given(s.alloc, callee.result, flow))
+}
+
+/// What a function of this kind gives, as its body ended.
+fn given(alloc: Global, kind: Kind, flow: Flow) -> Value
+    ensures { value_seen result ≡ calls.given kind (flow_seen flow) }
+{
+    match flow {
+        Flow::Returned(Some(value)) => as_kind(kind, value),
+        Flow::Returned(None) => first_value(alloc, kind),
+        Flow::Next => first_value(alloc, kind),
+    }
+}
+
+/// A call of a method: the object, the arguments, a unit for the call, and then what it does.
+#[cycle(run)]
+#[tactic(auto, unfolding(comet_meaning::specs::Methods::method_form))]
+pub(crate) fn evaluate_method<O: Out>(
+    s: &mut State,
+    out: &mut O,
+    code: &Code<'_>,
+    room: u32,
+    at: Place,
+    method: Method,
+    object: &Typed,
+    arguments: &[Typed],
+) -> Result<Value, Stop>
+    ensures did { Does value_seen result (state_seen s.new (O.taken out.new)) (method_form (level (code_seen code.now) room) at method (part object.now) (row arguments.now) (state_seen s.old (O.taken out.old))) }
+{
+    let value = value_of(s, out, code, room, object)?;
+    let values = values_of(s, out, code, room, arguments)?;
+    s.charge(1, at)?;
+    call_method(s, at, method, object, &value, &values)
+}

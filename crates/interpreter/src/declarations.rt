@@ -1,0 +1,173 @@
+//! Declarations of names, variables and objects.
+ghost use Rattle.std.specs.Prelude.{◌≡◌, ℕ, List, Some, option_map};
+ghost use Rattle.checked_tree.specs.Actions.{start_of, variable_of};
+ghost use Rattle.checked_tree.specs.Shape.{seen, whole};
+ghost use Rattle.comet_meaning.specs.Declarations.{object_form, scalar_form};
+ghost use Rattle.comet_meaning.specs.Models.{beginning_form, domain_form, started_form, variable_form};
+ghost use Rattle.comet_meaning.specs.Program.{level};
+ghost use Rattle.interpreter.specs.Does.{Does};
+ghost use Rattle.interpreter.specs.Copies.{is_array};
+ghost use Rattle.interpreter.specs.Views.{code_seen};
+ghost use Rattle.run_models.specs.Views.{beginning_seen};
+ghost use Rattle.run_state.specs.Views.{state_seen};
+ghost use Rattle.run_values.specs.Views.{bounds_seen};
+
+use crate::code::Code;
+use crate::expressions::{bounds_of, number_of, value_of};
+use crate::terms::term_of;
+use cbl_base::Place;
+use checked_tree::{Kind, Slot, Start, Typed, Variable, Way};
+use run_models::Beginning;
+use run_objects::{make_object, new_variable};
+use run_state::{Out, State};
+use run_values::values::{as_kind, first_value};
+use run_values::{Bounds, Stop};
+
+/// A name of one value, or of an array that is copied.
+#[cycle(run)]
+#[tactic(auto, unfolding(comet_meaning::specs::Declarations::scalar_form))]
+pub(crate) fn declare<O: Out>(
+    s: &mut State,
+    out: &mut O,
+    code: &Code<'_>,
+    room: u32,
+    at: Place,
+    slot: Slot,
+    kind: Kind,
+    start: &Option<Typed>,
+) -> Result<(), Stop>
+    ensures did { Does (λ _. tt) result (state_seen s.new (O.taken out.new)) (scalar_form (level (code_seen code.now) room) at slot kind (option_map seen start.now) (state_seen s.old (O.taken out.old))) }
+{
+    match start {
+        None => s.put(slot, first_value(s.alloc, kind)),
+        Some(value) => declare_with(s, out, code, room, at, slot, kind, value),
+    }
+}
+
+#[cycle(run)]
+fn declare_with<O: Out>(
+    s: &mut State,
+    out: &mut O,
+    code: &Code<'_>,
+    room: u32,
+    at: Place,
+    slot: Slot,
+    kind: Kind,
+    value: &Typed,
+) -> Result<(), Stop>
+    ensures did { Does (λ _. tt) result (state_seen s.new (O.taken out.new)) (scalar_form (level (code_seen code.now) room) at slot kind (Some (seen value.now)) (state_seen s.old (O.taken out.old))) }
+{
+    let value = value_of(s, out, code, room, value)?;
+    if is_array(kind) {
+        s.copy_array(at, slot, &value)
+    } else {
+        s.put(slot, as_kind(kind, value))
+    }
+}
+
+/// Whether a name of this kind has an array that is copied at its declaration.
+fn is_array(kind: Kind) -> bool
+    ensures { result ≡ is_array kind }
+{
+    matches!(kind, Kind::Array)
+}
+
+/// A variable: its domain, then its number or its definition.
+#[cycle(run)]
+#[tactic(auto, unfolding(comet_meaning::specs::Models::variable_form))]
+pub(crate) fn declare_variable<O: Out>(
+    s: &mut State,
+    out: &mut O,
+    code: &Code<'_>,
+    room: u32,
+    at: Place,
+    variable: &Variable,
+) -> Result<(), Stop>
+    ensures did { Does (λ _. tt) result (state_seen s.new (O.taken out.new)) (variable_form (level (code_seen code.now) room) at (variable_of variable.now) (state_seen s.old (O.taken out.old))) }
+{
+    let domain = domain_of(s, out, code, room, &variable.domain)?;
+    let beginning = beginning_of(s, out, code, room, &variable.start)?;
+    let solver = s.look(variable.solver)?;
+    let made = new_variable(s, at, &solver, domain, beginning)?;
+    s.put(variable.slot, made)
+}
+
+/// The domain of a variable; all numbers where it is left out.
+#[cycle(run)]
+#[tactic(auto, unfolding(comet_meaning::specs::Models::domain_form))]
+fn domain_of<O: Out>(
+    s: &mut State,
+    out: &mut O,
+    code: &Code<'_>,
+    room: u32,
+    domain: &Option<Typed>,
+) -> Result<Bounds, Stop>
+    ensures did { Does bounds_seen result (state_seen s.new (O.taken out.new)) (domain_form (level (code_seen code.now) room) (option_map seen domain.now) (state_seen s.old (O.taken out.old))) }
+{
+    match domain {
+        None => Ok(Bounds {
+            low: i64::MIN,
+            up: i64::MAX,
+        }),
+        Some(range) => bounds_of(s, out, code, room, range),
+    }
+}
+
+/// How a variable begins; with 0 where that is left out.
+#[cycle(run)]
+#[tactic(auto, unfolding(comet_meaning::specs::Models::beginning_form))]
+fn beginning_of<O: Out>(
+    s: &mut State,
+    out: &mut O,
+    code: &Code<'_>,
+    room: u32,
+    start: &Option<Start>,
+) -> Result<Beginning, Stop>
+    ensures did { Does beginning_seen result (state_seen s.new (O.taken out.new)) (beginning_form (level (code_seen code.now) room) (option_map start_of start.now) (state_seen s.old (O.taken out.old))) }
+{
+    match start {
+        None => Ok(Beginning::Free(0)),
+        Some(start) => begin(s, out, code, room, start.way, &start.value),
+    }
+}
+
+/// The number or the definition that a variable begins with.
+#[cycle(run)]
+#[tactic(auto, unfolding(comet_meaning::specs::Models::started_form))]
+fn begin<O: Out>(
+    s: &mut State,
+    out: &mut O,
+    code: &Code<'_>,
+    room: u32,
+    way: Way,
+    value: &Typed,
+) -> Result<Beginning, Stop>
+    ensures did { Does beginning_seen result (state_seen s.new (O.taken out.new)) (started_form (level (code_seen code.now) room) way (whole (seen value.now)) (state_seen s.old (O.taken out.old))) }
+{
+    match way {
+        Way::Define => {
+            let term = term_of(s, out, code, room, value)?;
+            Ok(Beginning::Defined(term))
+        }
+        Way::Each => {
+            let number = number_of(s, out, code, room, value)?;
+            Ok(Beginning::Free(number))
+        }
+        Way::List => {
+            let number = number_of(s, out, code, room, value)?;
+            Ok(Beginning::Free(number))
+        }
+    }
+}
+
+/// An object that is declared, or that a name is given by `new`.
+pub(crate) fn declare_object<O: Out>(
+    s: &mut State,
+    out: &mut O,
+    slot: Slot,
+    kind: Kind,
+) -> Result<(), Stop>
+    ensures did { Does (λ _. tt) result (state_seen s.new (O.taken out.new)) (object_form slot kind (state_seen s.old (O.taken out.old))) }
+{
+    make_object(s, slot, kind)
+}

@@ -1,0 +1,151 @@
+//! What operators give.
+ghost use Rattle.std.specs.Prelude.{◌≡◌, ℕ, List, []};
+ghost use Rattle.checked_tree.specs.Shape.{shape_of_link};
+ghost use Rattle.comet_meaning.specs.Operators as operators;
+ghost use Rattle.comet_meaning.specs.Program.{level};
+ghost use Rattle.interpreter.specs.Does.{Does};
+ghost use Rattle.interpreter.specs.Views.{code_seen, links_seen, part};
+ghost use Rattle.run_state.specs.Views.{state_seen};
+ghost use Rattle.run_values.specs.Views.{value_seen};
+
+use crate::code::Code;
+use crate::expressions::{number_of, truth_of, value_as, value_of};
+use cbl_base::Place;
+use checked_tree::{Kind, Link, Typed};
+use comet_syntax::tree::{Comparison, UnaryOperator};
+use run_state::{Out, State};
+use run_values::operators::{compare, decides, linked, unary};
+use run_values::{Bounds, Stop, Value};
+
+/// `-e` and `!e`.
+#[cycle(run)]
+#[tactic(auto, unfolding(comet_meaning::specs::Operators::unary_form))]
+pub(crate) fn evaluate_unary<O: Out>(
+    s: &mut State,
+    out: &mut O,
+    code: &Code<'_>,
+    room: u32,
+    at: Place,
+    operator: UnaryOperator,
+    operand: &Typed,
+) -> Result<Value, Stop>
+    ensures did { Does value_seen result (state_seen s.new (O.taken out.new)) (operators.unary_form (level (code_seen code.now) room) at operator (part operand.now) (state_seen s.old (O.taken out.old))) }
+{
+    let value = value_of(s, out, code, room, operand)?;
+    unary(at, operator, &value)
+}
+
+/// `a == b` and its like.
+#[cycle(run)]
+#[tactic(auto, unfolding(comet_meaning::specs::Operators::compare_form))]
+pub(crate) fn evaluate_compare<O: Out>(
+    s: &mut State,
+    out: &mut O,
+    code: &Code<'_>,
+    room: u32,
+    comparison: Comparison,
+    left: &Typed,
+    right: &Typed,
+) -> Result<Value, Stop>
+    ensures did { Does value_seen result (state_seen s.new (O.taken out.new)) (operators.compare_form (level (code_seen code.now) room) comparison (part left.now) (part right.now) (state_seen s.old (O.taken out.old))) }
+{
+    let left = number_of(s, out, code, room, left)?;
+    let right = number_of(s, out, code, room, right)?;
+    Ok(Value::Truth(compare(comparison, left, right)))
+}
+
+/// `a .. b`
+#[cycle(run)]
+#[tactic(auto, unfolding(comet_meaning::specs::Operators::range_form))]
+pub(crate) fn evaluate_range<O: Out>(
+    s: &mut State,
+    out: &mut O,
+    code: &Code<'_>,
+    room: u32,
+    low: &Typed,
+    high: &Typed,
+) -> Result<Value, Stop>
+    ensures did { Does value_seen result (state_seen s.new (O.taken out.new)) (operators.range_form (level (code_seen code.now) room) (part low.now) (part high.now) (state_seen s.old (O.taken out.old))) }
+{
+    let low = number_of(s, out, code, room, low)?;
+    let up = number_of(s, out, code, room, high)?;
+    Ok(Value::Range(Bounds { low, up }))
+}
+
+/// `c ? a : b`, of which one part alone is evaluated.
+#[cycle(run)]
+#[tactic(auto, unfolding(comet_meaning::specs::Operators::conditional_form))]
+pub(crate) fn evaluate_conditional<O: Out>(
+    s: &mut State,
+    out: &mut O,
+    code: &Code<'_>,
+    room: u32,
+    kind: Kind,
+    test: &Typed,
+    then: &Typed,
+    otherwise: &Typed,
+) -> Result<Value, Stop>
+    ensures did { Does value_seen result (state_seen s.new (O.taken out.new)) (operators.conditional_form (level (code_seen code.now) room) kind (part test.now) (part «then».now) (part otherwise.now) (state_seen s.old (O.taken out.old))) }
+{
+    if truth_of(s, out, code, room, test)? {
+        value_as(s, out, code, room, kind, then)
+    } else {
+        value_as(s, out, code, room, kind, otherwise)
+    }
+}
+
+/// Operands joined by operators, from the left.
+#[cycle(run)]
+#[tactic(auto, unfolding(comet_meaning::specs::Operators::chain_form))]
+pub(crate) fn evaluate_chain<O: Out>(
+    s: &mut State,
+    out: &mut O,
+    code: &Code<'_>,
+    room: u32,
+    first: &Typed,
+    links: &[Link],
+) -> Result<Value, Stop>
+    ensures did { Does value_seen result (state_seen s.new (O.taken out.new)) (operators.chain_form (level (code_seen code.now) room) (part first.now) (links_seen links.now) (state_seen s.old (O.taken out.old))) }
+{
+    let value = value_of(s, out, code, room, first)?;
+    evaluate_links(s, out, code, room, links, value)
+}
+
+/// The value of a chain behind its first operand, which has this value.
+#[cycle(run)]
+fn evaluate_links<O: Out>(
+    s: &mut State,
+    out: &mut O,
+    code: &Code<'_>,
+    room: u32,
+    links: &[Link],
+    first: Value,
+) -> Result<Value, Stop>
+    ensures did { Does value_seen result (state_seen s.new (O.taken out.new)) (operators.links_form (level (code_seen code.now) room) (links_seen links.now) (value_seen first) (state_seen s.old (O.taken out.old))) }
+{
+    let mut value = first;
+    for link in links {
+        value = evaluate_link(s, out, code, room, link, value)?;
+    }
+    Ok(value)
+}
+
+/// The value of a chain so far with one more operand, which is evaluated only where it may decide.
+#[cycle(run)]
+#[tactic(auto, unfolding(comet_meaning::specs::Operators::link_form))]
+fn evaluate_link<O: Out>(
+    s: &mut State,
+    out: &mut O,
+    code: &Code<'_>,
+    room: u32,
+    link: &Link,
+    value: Value,
+) -> Result<Value, Stop>
+    ensures did { Does value_seen result (state_seen s.new (O.taken out.new)) (operators.link_form (level (code_seen code.now) room) link.now.place link.now.operator (part link.now.operand) (value_seen value) (state_seen s.old (O.taken out.old))) }
+{
+    if decides(link.operator, &value) {
+        return Ok(value);
+    }
+    let next = value_of(s, out, code, room, &link.operand)?;
+    linked(link.place, link.operator, &value, &next)
+}
