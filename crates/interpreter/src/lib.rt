@@ -6,16 +6,16 @@
 //! the output stops, what was printed is a front of what is meant.
 #![tactic(auto)]
 
-mod array_declarations;
 mod aggregates;
+mod array_declarations;
 mod arrays;
 mod calls;
-mod operators;
 pub mod code;
 mod declarations;
 mod expressions;
 mod for_all;
 mod loops;
+mod operators;
 mod printing;
 pub mod statements;
 mod targets;
