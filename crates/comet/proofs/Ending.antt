@@ -1,34 +1,42 @@
--- A loaded program that ran to its own end ended as meant.
-use Rattle.std.proofs.Common.{◌≡◌, ◌≢◌, ◌⊎◌, ℕ, List, Option, Some, sym, subst, inl, inr}
-use Rattle.std.proofs.lemmas.Bool.Decides.{eqb_tells}
-use Rattle.std.specs.FinMap as map
-use Rattle.cbl_io.specs.Appended.{Appends}
-use Rattle.cbl_io.specs.Held.{Held}
-use Rattle.comet_syntax.specs.declared.program.Declaration.{Declaration}
-use Rattle.comet_syntax.specs.declared.program.Act.{Act}
-use Rattle.stmt_run.specs.Meaning.{meaning_of}
-use Rattle.comet.specs.Loading.{IsLoaded}
-use Rattle.comet.specs.Output.{GivesNamed, GivesHeld, EndsAsMeant, Decides}
-use Rattle.comet.specs.Status.{cause_of}
-use Rattle.comet.specs.Words.{program_named}
-use Rattle.comet.specs.declared.report.Cause.{Cause}
+-- A run that ended as its program means has the cause and the bytes of its meaning.
+use Rattle.std.proofs.Common.{◌≡◌, ◌≢◌, ◌++◌, ℕ, List, [], Option, refl, sym, ◌∙◌, ap, subst, append-nil, append_assoc}
+use Rattle.cbl_io.specs.Appended.{Appends, AppendsFront}
+use Rattle.comet_meaning.specs.Onward.{IsFront}
+use Rattle.comet_meaning.specs.Program.{Meant}
+use Rattle.stmt_run.specs.Ending.{EndsAs}
+use Rattle.stmt_run.specs.declared.execution.RunEnd.{RunEnd}
+use Rattle.stmt_run.specs.declared.execution.RunEnd.TheVariants as ends
+use Rattle.comet.specs.Status.{status_of, cause_of, cause_of_run}
 
-pub ends_as_meant : (words : List (List ℕ)) (held : Held) (before name : List ℕ) (declarations : List Declaration) (acts : List Act) (cause : Cause) (old new : Option (List ℕ)) →
-    Some name ≡ program_named words → IsLoaded name held declarations acts → old ≡ Some before →
-    cause ≡ cause_of (meaning_of declarations acts).end → Appends old new (meaning_of declarations acts).printed →
-    EndsAsMeant words held before cause new
-ends_as_meant words held before name declarations acts cause old new named loaded told ends appended =
-    record {
-      printed = (meaning_of declarations acts).printed;
-      output = subst (λ o. GivesNamed o held cause (meaning_of declarations acts).printed) named
-          (subst (λ how. GivesHeld (map.get held name) how (meaning_of declarations acts).printed) (sym ends) loaded.gives);
-      written = subst (λ o. Appends o new (meaning_of declarations acts).printed) told appended;
-    }
+pub ends_with : (end : RunEnd) (fuel : ℕ) (printed : List ℕ) (m : Meant) → EndsAs end fuel printed m → status_of (cause_of_run end) ≢ 7 → cause_of_run end ≡ cause_of m.end
+ends_with ends.Done fuel printed m e wants = ap (λ n. cause_of n.end) (sym e)
+ends_with (ends.Run place fault) fuel printed m e wants = ap (λ n. cause_of n.end) (sym e)
+ends_with (ends.Spent place) fuel printed m e wants = ap (λ n. cause_of n.end) (sym e)
+ends_with ends.NoMemory fuel printed m e wants = absurd (wants refl)
 
--- want of memory apart, what could fail did not
-pub ends_or_wants : (status : ℕ) {E Risen : Type 0} → status ≢ 8 → (status ≡ 9 → Risen) → ¬ Risen → (Decides status → E) → (status ≡ 7) ⊎ E
-ends_or_wants status {E} {Risen} read write risen decided =
-    elim (eqb_tells status 7) [
-      | inl wants ↦ inl wants.1
-      | inr ends ↦ inr (decided (ends.1, read, λ is_write. risen (write is_write)))
-    ]
+pub prints_with : (end : RunEnd) (fuel : ℕ) (printed : List ℕ) (m : Meant) → EndsAs end fuel printed m → status_of (cause_of_run end) ≢ 7 → printed ≡ m.printed
+prints_with ends.Done fuel printed m e wants = ap (λ n. n.printed) (sym e)
+prints_with (ends.Run place fault) fuel printed m e wants = ap (λ n. n.printed) (sym e)
+prints_with (ends.Spent place) fuel printed m e wants = ap (λ n. n.printed) (sym e)
+prints_with ends.NoMemory fuel printed m e wants = absurd (wants refl)
+
+whole : {printed : List ℕ} (m : Meant) → m.printed ≡ printed → IsFront printed m.printed
+whole {printed = printed} m e = ([], e ∙ sym (append-nil printed))
+
+pub prints_front : (end : RunEnd) (fuel : ℕ) (printed : List ℕ) (m : Meant) → EndsAs end fuel printed m → IsFront printed m.printed
+prints_front ends.Done fuel printed m e = whole m (ap (λ n. n.printed) e)
+prints_front (ends.Run place fault) fuel printed m e = whole m (ap (λ n. n.printed) e)
+prints_front (ends.Spent place) fuel printed m e = whole m (ap (λ n. n.printed) e)
+prints_front ends.NoMemory fuel printed m e = e
+
+-- a front of a front is a front
+pub front_of_front : (old new : Option (List ℕ)) (piece whole : List ℕ) → IsFront piece whole → AppendsFront old new piece → AppendsFront old new whole
+front_of_front old new piece whole (rest, whole_is) (front, left, piece_is, appended) =
+    (front, left ++ rest, whole_is ∙ ap (λ xs. xs ++ rest) piece_is ∙ append_assoc front left rest, appended)
+
+-- a run never ends by its words, nor because a file can't be read
+pub ran : (end : RunEnd) → (status_of (cause_of_run end) ≢ 1) × (status_of (cause_of_run end) ≢ 8) × (status_of (cause_of_run end) ≢ 9)
+ran ends.Done = (λ e. absurd cc, λ e. absurd cc, λ e. absurd cc)
+ran (ends.Run place fault) = (λ e. absurd cc, λ e. absurd cc, λ e. absurd cc)
+ran (ends.Spent place) = (λ e. absurd cc, λ e. absurd cc, λ e. absurd cc)
+ran ends.NoMemory = (λ e. absurd cc, λ e. absurd cc, λ e. absurd cc)

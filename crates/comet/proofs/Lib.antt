@@ -1,5 +1,9 @@
 pub mod Ending
-pub mod Fronts
+pub mod Exits
+pub mod Faulty
+pub mod Headlines
+pub mod Jobs
 pub mod Loaded
 pub mod OneOutput
 pub mod Pieces
+pub mod Stopping

@@ -1,5 +1,6 @@
+pub mod Asking
+pub mod Headline
 pub mod Line
 pub mod Loading
 pub mod Output
 pub mod Status
-pub mod Words

@@ -9,7 +9,7 @@ use Rattle.comet_syntax.specs.declared.stop.FormCause.TheVariants.{Encoding, Too
 use Rattle.comet.specs.declared.report.Cause.{Cause}
 use Rattle.comet.specs.declared.report.Cause.TheVariants as causes
 use Rattle.comet.specs.declared.report.FileRole.{FileRole}
-use Rattle.comet.specs.declared.report.FileRole.TheVariants.{Program}
+use Rattle.comet.specs.declared.report.FileRole.TheVariants.{Program, Data}
 
 abbrev pub form_text : FormCause → List ℕ
 form_text Encoding = codes "not UTF-8"
@@ -40,6 +40,7 @@ type_text code =
 
 abbrev pub role_text : FileRole → List ℕ
 role_text Program = codes "cannot read program"
+role_text Data = codes "cannot read data"
 
 abbrev pub usage_text : List ℕ
 usage_text = codes "usage: comet [--data FILE] [--seed N] [--workers N] [--fuel N] [--journal] [--replay FILE] (PROGRAM | --gen N)"
@@ -75,6 +76,7 @@ line_of causes.Words = plain_line usage_text
 line_of (causes.IllFormed place cause) = placed_line place (form_text cause)
 line_of (causes.IllTyped place code) = type_line place code
 line_of (causes.Run place fault) = fault_line place fault
+line_of (causes.Spent place) = placed_line place (codes "fuel spent")
 line_of causes.NoMemory = plain_line (codes "no memory")
 line_of (causes.Read role) = plain_line (role_text role)
 line_of causes.Write = plain_line (codes "cannot write")

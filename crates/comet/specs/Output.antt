@@ -1,29 +1,46 @@
--- The output of a whole run: the words name a file, its text is at most one small program, and that
--- program's meaning says what is printed and how the run ends. Every other text is refused at one place.
-use Rattle.std.specs.Prelude.{◌≡◌, ◌≢◌, ◌++◌, ℕ, List, [], Option, Some, None}
+-- The output of a whole run: the words ask for files, the program's text is at most one checked program, and that program's
+-- meaning, with the fuel and the data that the words ask for, says what is printed and how the run ends. Every other text is
+-- refused at one place. A rule of this project.
+use Rattle.std.specs.Prelude.{◌≡◌, ◌≢◌, ◌+◌, ℕ, List, [], Option, Some, None, option_map, take}
 use Rattle.std.specs.FinMap as map
-use Rattle.cbl_io.specs.Held.{Held}
 use Rattle.cbl_base.specs.declared.place.Place.{Place}
-use Rattle.comet_syntax.specs.declared.stop.FormCause.{FormCause}
-use Rattle.comet_syntax.specs.declared.program.Declaration.{Declaration}
-use Rattle.comet_syntax.specs.declared.program.Act.{Act}
+use Rattle.cbl_io.specs.Appended.{Appends}
+use Rattle.cbl_io.specs.Held.{Held}
+use Rattle.checked_tree.specs.Tasks.{Whole}
 use Rattle.comet_front.specs.Reading.{HasProgram, IsIllFormed, IsIllTyped}
-use Rattle.stmt_run.specs.Meaning.{meaning_of}
+use Rattle.comet_meaning.specs.Limits.{most_data}
+use Rattle.comet_meaning.specs.Program.{meaning}
+use Rattle.comet_syntax.specs.Place.{first_place}
+use Rattle.comet_syntax.specs.declared.stop.FormCause.{FormCause}
+use Rattle.comet_syntax.specs.declared.stop.FormCause.TheVariants.{NotBuilt}
+use Rattle.comet_words.specs.Asked.{Asked, asked}
+use Rattle.comet.specs.Asking.{program_named}
 use Rattle.comet.specs.Status.{cause_of}
-use Rattle.comet.specs.Words.{program_named}
 use Rattle.comet.specs.declared.report.Cause.{Cause}
 use Rattle.comet.specs.declared.report.Cause.TheVariants as causes
-use Rattle.comet.specs.declared.report.FileRole.TheVariants.{Program}
+use Rattle.comet.specs.declared.report.FileRole.TheVariants.{Program, Data}
 
--- what a text that is a small program gives
-pub record Runs (text : List ℕ) (cause : Cause) (printed : List ℕ) : Type 0 where
-  pub declarations : List Declaration
-  pub acts : List Act
-  pub has : HasProgram text declarations acts
-  pub ends : cause ≡ cause_of (meaning_of declarations acts).end
-  pub prints : printed ≡ (meaning_of declarations acts).printed
+-- the data of a run: none, or the named file's first 16 MiB and one byte more, which tells that there is too much
+abbrev pub data_of : Option (List ℕ) → Held → Option (List ℕ)
+data_of None held = Some []
+data_of (Some name) held = option_map (take (most_data + 1)) (map.get held name)
 
--- what a text that is refused gives
+-- what a program gives with this fuel and this data
+abbrev pub Runs : Whole → ℕ → List ℕ → Cause → List ℕ → Type 0
+Runs program fuel text cause printed = (cause ≡ cause_of (meaning program fuel text).end) × (printed ≡ (meaning program fuel text).printed)
+
+-- the same, where the data may not be there
+abbrev pub RunsWith : Whole → ℕ → Option (List ℕ) → Cause → List ℕ → Type 0
+RunsWith program fuel None cause printed = (cause ≡ causes.Read Data) × (printed ≡ [])
+RunsWith program fuel (Some text) cause printed = Runs program fuel text cause printed
+
+-- what a text gives that is a checked program
+pub record Accepts (text : List ℕ) (fuel : ℕ) (data_text : Option (List ℕ)) (cause : Cause) (printed : List ℕ) : Type 0 where
+  pub program : Whole
+  pub has : HasProgram text program
+  pub runs : RunsWith program fuel data_text cause printed
+
+-- what a text gives that is refused
 pub record Refuses (text : List ℕ) (cause : Cause) (printed : List ℕ) : Type 0 where
   pub place : Place
   pub form : FormCause
@@ -39,32 +56,36 @@ pub record RefusesType (text : List ℕ) (cause : Cause) (printed : List ℕ) : 
   pub ends : cause ≡ causes.IllTyped place code
   pub prints : printed ≡ []
 
-pub data Gives (text : List ℕ) (cause : Cause) (printed : List ℕ) : Type 0 where
-  runs : Runs text cause printed → Gives text cause printed
-  ill_formed : Refuses text cause printed → Gives text cause printed
-  ill_typed : RefusesType text cause printed → Gives text cause printed
+pub data Gives (text : List ℕ) (fuel : ℕ) (data_text : Option (List ℕ)) (cause : Cause) (printed : List ℕ) : Type 0 where
+  accepted : Accepts text fuel data_text cause printed → Gives text fuel data_text cause printed
+  ill_formed : Refuses text cause printed → Gives text fuel data_text cause printed
+  ill_typed : RefusesType text cause printed → Gives text fuel data_text cause printed
 
--- what a name gives, by what it holds
-abbrev pub GivesHeld : Option (List ℕ) → Cause → List ℕ → Type 0
-GivesHeld None cause printed = (cause ≡ causes.Read Program) × (printed ≡ [])
-GivesHeld (Some text) cause printed = Gives text cause printed
+-- what a program's file gives, by what it holds
+abbrev pub GivesHeld : Option (List ℕ) → ℕ → Option (List ℕ) → Cause → List ℕ → Type 0
+GivesHeld None fuel data_text cause printed = (cause ≡ causes.Read Program) × (printed ≡ [])
+GivesHeld (Some text) fuel data_text cause printed = Gives text fuel data_text cause printed
 
--- what words give, by the file that they name
-abbrev pub GivesNamed : Option (List ℕ) → Held → Cause → List ℕ → Type 0
-GivesNamed None held cause printed = (cause ≡ causes.Words) × (printed ≡ [])
-GivesNamed (Some name) held cause printed = GivesHeld (map.get held name) cause printed
+-- what words give, by the program's file, where all that they ask for is built
+abbrev pub GivesNamed : Option (List ℕ) → Asked → Held → Cause → List ℕ → Type 0
+GivesNamed None asks held cause printed = (cause ≡ causes.IllFormed first_place NotBuilt) × (printed ≡ [])
+GivesNamed (Some name) asks held cause printed = GivesHeld (map.get held name) asks.fuel (data_of asks.data_file held) cause printed
+
+-- what words give, by what they ask for, where they are in form
+abbrev pub GivesAsked : Option Asked → Held → Cause → List ℕ → Type 0
+GivesAsked None held cause printed = (cause ≡ causes.Words) × (printed ≡ [])
+GivesAsked (Some asks) held cause printed = GivesNamed (program_named asks) asks held cause printed
 
 -- the output of a whole run
 abbrev pub RunOutput : List (List ℕ) → Held → Cause → List ℕ → Type 0
-RunOutput words = GivesNamed (program_named words)
+RunOutput words = GivesAsked (asked words)
 
--- the statuses that the program and the words alone decide: not want of memory, nor a fault outside
+-- the statuses that the words and the files alone decide: not want of memory, nor a fault outside
 abbrev pub Decides : ℕ → Type 0
 Decides status = (status ≢ 7) × (status ≢ 8) × (status ≢ 9)
 
--- the run ended with this cause, which is that of the meaning, and the sink has its bytes behind those
--- that it had before
-pub record EndsAsMeant (words : List (List ℕ)) (held : Held) (before : List ℕ) (cause : Cause) (bytes : Option (List ℕ)) : Type 0 where
+-- the run ended with a cause that is given, and the sink has the bytes that are given with it behind those that it had
+pub record EndsAsMeant (Given : Cause → List ℕ → Type 0) (cause : Cause) (old new : Option (List ℕ)) : Type 0 where
   pub printed : List ℕ
-  pub output : RunOutput words held cause printed
-  pub written : bytes ≡ Some (before ++ printed)
+  pub given : Given cause printed
+  pub written : Appends old new printed

@@ -58,6 +58,7 @@ fn text_of_role(role: FileRole) -> &'static str
 {
     match role {
         FileRole::Program => "cannot read program",
+        FileRole::Data => "cannot read data",
     }
 }
 
@@ -176,6 +177,7 @@ fn write_line<E: Sink>(cause: &Cause, err: &mut E) -> Result<(), Failed>
         Cause::IllFormed(place, form) => write_placed(err, place, text_of_form(form)),
         Cause::IllTyped(place, code) => write_type(err, place, code),
         Cause::Run(place, fault) => write_fault(err, place, fault),
+        Cause::Spent(place) => write_placed(err, place, "fuel spent"),
         Cause::NoMemory => write_plain(err, "no memory"),
         Cause::Read(role) => write_plain(err, text_of_role(role)),
         Cause::Write => write_plain(err, "cannot write"),

@@ -1,6 +1,6 @@
 //! What a call of `comet_run` reports.
 ghost use Rattle.std.specs.Prelude.{◌≡◌};
-ghost use Rattle.comet.specs.Status.{status_of, cause_of};
+ghost use Rattle.comet.specs.Status.{status_of, cause_of_run};
 
 use cbl_base::{Place, RunFault};
 use comet_syntax::FormCause;
@@ -10,6 +10,8 @@ use stmt_run::RunEnd;
 #[derive(Clone, Copy, PartialEq, Eq, Debug)]
 pub enum FileRole {
     Program,
+    /// What the program reads.
+    Data,
 }
 
 /// Why a run ended as it did.
@@ -25,6 +27,8 @@ pub enum Cause {
     IllTyped(Place, u8),
     /// A fault of the run at this place.
     Run(Place, RunFault),
+    /// The fuel is spent, at this place.
+    Spent(Place),
     NoMemory,
     /// A file can't be read.
     Read(FileRole),
@@ -41,7 +45,7 @@ pub struct Report {
 
 impl Cause {
     /// The status of a run that ends so: 0 done, 1 words, 2 ill formed, 3 ill typed, 5 a run fault,
-    /// 7 no memory, 8 a file can't be read, 9 the output can't be written.
+    /// 6 the fuel is spent, 7 no memory, 8 a file can't be read, 9 the output can't be written.
     pub fn status(self) -> u8
         ensures { result ≡ status_of self }
     {
@@ -51,6 +55,7 @@ impl Cause {
             Cause::IllFormed(..) => 2,
             Cause::IllTyped(..) => 3,
             Cause::Run(..) => 5,
+            Cause::Spent(_) => 6,
             Cause::NoMemory => 7,
             Cause::Read(_) => 8,
             Cause::Write => 9,
@@ -72,12 +77,13 @@ impl Report {
 }
 
 impl From<RunEnd> for Cause {
-    ghost from_gives = { λ end cause. cause ≡ cause_of end };
+    ghost from_gives = { λ end cause. cause ≡ cause_of_run end };
 
     fn from(end: RunEnd) -> Cause {
         match end {
             RunEnd::Done => Cause::Done,
             RunEnd::Run(place, fault) => Cause::Run(place, fault),
+            RunEnd::Spent(place) => Cause::Spent(place),
             RunEnd::NoMemory => Cause::NoMemory,
         }
     }

@@ -21,8 +21,8 @@ struct Left {
     err: MemSink,
 }
 
-/// Runs the file `p`, whose text this is, with these words, over a sink that takes `most` bytes a
-/// call and fails the listed calls.
+/// Runs these words where the file `p` holds this text and the file `d` the number 7, over a sink that takes
+/// `most` bytes a call and fails the listed calls.
 fn run_words(
     alloc: Global,
     words: &[String],
@@ -33,12 +33,28 @@ fn run_words(
     requires { 0 < most }
 {
     let name = String::from_str(alloc, "p")?;
-    let entries = vec![in alloc; (name, text.to_vec(alloc)?)]?;
+    let data_name = String::from_str(alloc, "d")?;
+    let data = b"7".to_vec(alloc)?;
+    let entries = vec![in alloc; (name, text.to_vec(alloc)?), (data_name, data)]?;
     let mut files = MemFiles::new(alloc, entries, Vec::new(alloc));
     let mut sink = MemSink::new(alloc, 4096, most, failing)?;
     let mut err = MemSink::new(alloc, 4096, 4096, Vec::new(alloc))?;
     let report = comet_run(alloc, words, &mut files, &mut sink, &mut err);
     Ok(Left { report, sink, err })
+}
+
+fn words_of(alloc: Global, row: &[&str]) -> Result<Vec<String>, Fail> {
+    let mut words = Vec::new(alloc);
+    for word in row {
+        words.push(String::from_str(alloc, word)?)?;
+    }
+    Ok(words)
+}
+
+/// Runs these words over a sink that takes all.
+fn run_row(alloc: Global, row: &[&str], text: &[u8]) -> Result<Left, Fail> {
+    let words = words_of(alloc, row)?;
+    run_words(alloc, words.as_slice(), text, 4096, Vec::new(alloc))
 }
 
 fn run_text(alloc: Global, text: &[u8]) -> Result<Left, Fail> {
@@ -88,49 +104,61 @@ fn missing_program(rt: HostRuntime) -> Result<(), Fail> {
     Ok(())
 }
 
-// Each program, and what it printed before the overflow.
-const OVERFLOWS: [(&str, &str); 5] = [
+// Each program, what it printed before the overflow, and the column of the operator.
+const OVERFLOWS: [(&str, &str, u32); 5] = [
     // at `close`
     (
         "Solver<LS> m(); var{int} x(m) := 4000000000; var{int} y(m) <- x*x; m.close(); cout << 1;",
         "",
+        64,
     ),
     // in a start value
     (
         "Solver<LS> m(); var{int} x(m) := 4000000000*4000000000; m.close(); cout << 1;",
         "",
+        44,
     ),
     // after an assignment
     (
         "Solver<LS> m(); var{int} x(m); var{int} y(m) <- x*x; m.close(); cout << y; x := 4000000000;",
         "0",
+        50,
     ),
     // in a right side
     (
         "Solver<LS> m(); var{int} x(m); m.close(); cout << 7; x := 9223372036854775807+1;",
         "7",
+        78,
     ),
     // in an item
     (
         "Solver<LS> m(); var{int} x(m) := 4000000000; m.close(); cout << 1 << x*x << endl;",
         "1",
+        71,
     ),
 ];
 
 #[test]
 fn overflow_ends_the_run(rt: HostRuntime) -> Result<(), Fail> {
-    for (program, printed) in OVERFLOWS {
+    for (program, printed, col) in OVERFLOWS {
         let left = run_text(rt.alloc(), program.as_bytes())?;
         assert_eq!(rt; left.report.status, 5, "{program}");
-        assert_eq!(rt; left.report.cause, Cause::Run(PLACE, RunFault::Overflow));
+        assert_eq!(rt;
+            left.report.cause,
+            Cause::Run(Place { line: 1, col }, RunFault::Overflow)
+        );
         assert!(rt; left.sink.bytes() == printed.as_bytes(), "{program}");
     }
     Ok(())
 }
 
 #[test]
-fn what_is_not_small_is_refused(rt: HostRuntime) -> Result<(), Fail> {
-    for text in ["cout << 1;", "Solver<LS> m(); m.close(); int x = 1;"] {
+fn what_is_not_built_is_refused(rt: HostRuntime) -> Result<(), Fail> {
+    for text in [
+        "Solver<LS> m(); Solver<LS> n();",
+        "Solver<LS> m(); var{int} x[1..2](m);",
+        "parall(i in 1..2) cout << i;",
+    ] {
         let left = run_text(rt.alloc(), text.as_bytes())?;
         assert_eq!(rt; left.report.status, 2, "{text}");
         assert_eq!(rt;
@@ -143,7 +171,7 @@ fn what_is_not_small_is_refused(rt: HostRuntime) -> Result<(), Fail> {
 }
 
 /// The refused texts, and the lines that tell why.
-const ILL_FORMED: [(&[u8], u32, u32, FormCause, &str); 9] = [
+const ILL_FORMED: [(&[u8], u32, u32, FormCause, &str); 8] = [
     (
         b"x = 1; /* ",
         1,
@@ -187,7 +215,7 @@ const ILL_FORMED: [(&[u8], u32, u32, FormCause, &str); 9] = [
         "comet: 1:14: unexpected end of text\n",
     ),
     (
-        b"int x = 1;\n\n",
+        b"Solver<LS> m(); Solver<LS> n();",
         1,
         1,
         FormCause::NotBuilt,
@@ -199,13 +227,6 @@ const ILL_FORMED: [(&[u8], u32, u32, FormCause, &str); 9] = [
         1,
         FormCause::Unexpected,
         "comet: 2:1: unexpected token\n",
-    ),
-    (
-        b"cout << 1;",
-        1,
-        1,
-        FormCause::NotBuilt,
-        "comet: 1:1: not built yet\n",
     ),
 ];
 
@@ -276,7 +297,7 @@ fn tells_which_part_is_ill_typed(rt: HostRuntime) -> Result<(), Fail> {
 fn tells_why_a_run_ended(rt: HostRuntime) -> Result<(), Fail> {
     let alloc = rt.alloc();
     let left = run_text(alloc, OVERFLOWS[0].0.as_bytes())?;
-    assert!(rt; left.err.bytes() == b"comet: 1:1: F1 overflow\n".as_slice());
+    assert!(rt; left.err.bytes() == b"comet: 1:64: F1 overflow\n".as_slice());
     let left = run_words(alloc, &[], SQUARE, 4096, Vec::new(alloc))?;
     assert!(rt;
         left.err.bytes()
@@ -302,25 +323,82 @@ fn a_failing_standard_error_has_a_front_of_the_line(rt: HostRuntime) -> Result<(
 
 #[test]
 fn words_out_of_form(rt: HostRuntime) -> Result<(), Fail> {
-    let alloc = rt.alloc();
-    let table: [&[&str]; 6] = [
+    let table: [&[&str]; 8] = [
         &[],
         &[""],
         &["-"],
         &["--help"],
         &["p", "p"],
-        &["--data", "d", "p"],
+        &["--data", "p"],
+        &["--workers", "0", "p"],
+        &["--workers", "65", "p"],
     ];
     for row in table {
-        let mut words = Vec::new(alloc);
-        for word in row {
-            words.push(String::from_str(alloc, word)?)?;
-        }
+        let words = words_of(rt.alloc(), row)?;
         assert!(rt; !words_form(words.as_slice()));
-        let left = run_words(alloc, words.as_slice(), SQUARE, 4096, Vec::new(alloc))?;
+        let left = run_row(rt.alloc(), row, SQUARE)?;
         assert_eq!(rt; left.report.status, 1);
         assert_eq!(rt; left.report.cause, Cause::Words);
         assert!(rt; left.sink.bytes().is_empty());
+    }
+    Ok(())
+}
+
+/// Words with options, the program, what it prints, and the line that tells why it ended.
+const WITH_OPTIONS: [(&[&str], &str, &str, &str); 8] = [
+    (
+        &["--fuel", "10", "p"],
+        "while(true){}",
+        "",
+        "comet: 1:12: fuel spent\n",
+    ),
+    (
+        &["p", "--data=d"],
+        "InputFile d(); cout << d.getInt() << endl; int z = d.getInt();",
+        "7\n",
+        "comet: 1:54: F10 no more data\n",
+    ),
+    (
+        &["p", "--data", "e"],
+        "cout << 1;",
+        "",
+        "comet: cannot read data\n",
+    ),
+    // the program is refused before its data is read
+    (
+        &["p", "--data", "e"],
+        "cout << x;",
+        "",
+        "comet: 1:9: T1 unknown name\n",
+    ),
+    (&["--seed=3", "--workers", "64", "p"], "cout << 1;", "1", ""),
+    // what isn't built is refused before any file is read
+    (
+        &["--journal", "q"],
+        "cout << 1;",
+        "",
+        "comet: 1:1: not built yet\n",
+    ),
+    (
+        &["--replay", "j", "p"],
+        "cout << 1;",
+        "",
+        "comet: 1:1: not built yet\n",
+    ),
+    (
+        &["--gen", "8"],
+        "cout << 1;",
+        "",
+        "comet: 1:1: not built yet\n",
+    ),
+];
+
+#[test]
+fn options_say_what_runs_and_with_what(rt: HostRuntime) -> Result<(), Fail> {
+    for (row, text, printed, said) in WITH_OPTIONS {
+        let left = run_row(rt.alloc(), row, text.as_bytes())?;
+        assert!(rt; left.sink.bytes() == printed.as_bytes(), "{text}");
+        assert!(rt; left.err.bytes() == said.as_bytes(), "{text}");
     }
     Ok(())
 }

@@ -1,10 +1,7 @@
 -- A text has no more tokens than bytes.
-use Rattle.std.specs.Prelude.{◌≡◌, ◌≤◌, ◌<◌, ◌+◌, ◌^◌, ℕ, List, [], ◌∷◌, Some, None, length}
+use Rattle.std.specs.Prelude.{◌≤◌, ◌<◌, ◌+◌, ◌^◌, ℕ, List, Some, None, length}
 use Rattle.std.proofs.Common.{arith}
-use Rattle.comet_syntax.specs.declared.limits.TheConstants.{MOST_BYTES}
 use Rattle.comet_syntax.specs.declared.token.Token.{Token}
-use Rattle.comet_syntax.specs.declared.token.TokenKind.{TokenKind}
-use Rattle.comet_syntax.specs.Tokens.Front.{IsSkipped, IsToken}
 use Rattle.comet_syntax.specs.Tokens.TokenList.{AreCut, nothing, skipped, taken, HasTokens}
 use Rattle.comet_syntax.proofs.Cuts.{part_shorter, front_part}
 

@@ -1,7 +1,8 @@
-//! From a text to the small program that it is, or its refusal: by its form, or by the rules of types and effects.
+//! From a text to the checked program that it is, or its refusal: by its form, by the rules of types and effects, or
+//! because it holds a form that isn't built.
 //!
-//! It knows nothing of files, nor of what a program means. The layers above use that a text is one small
-//! program or is refused at one place for one cause.
+//! It knows nothing of files, nor of what a program means. The layers above use that a text is one checked program or
+//! is refused at one place for one cause.
 #![tactic(auto)]
 
 pub mod laws;

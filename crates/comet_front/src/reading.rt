@@ -1,54 +1,55 @@
-//! The small program of a text.
+//! The program of a text.
 ghost use Rattle.std.specs.Prelude.{◌≡◌, ◌≤◌, List, length, drop, IfOk, IfErr};
+ghost use Rattle.checked_tree.specs.Tasks.{program_of};
 ghost use Rattle.comet_syntax.specs.declared.limits.TheConstants.{MOST_BYTES};
 ghost use Rattle.comet_syntax.specs.Tokens.TokenList.{HasTokens};
 ghost use Rattle.comet_parse.specs.Refusals.{IsRefusal};
-ghost use Rattle.comet_front.specs.Reading.{HasProgram, HasTree, IsSmall, IsSmallStop, IsTextStop, IsTyped, IsTypeStop, place_left};
+ghost use Rattle.comet_front.specs.Reading.{HasProgram, HasTree, IsAccepted, IsBuilt, IsBuiltStop, IsTextStop, IsTypeStop, place_left};
 
 use crate::stop::TextStop;
 use cbl_base::Place;
+use checked_tree::Checked;
 use comet_parse::{ParseStop, parse};
-use comet_small::small_of;
 use comet_syntax::tree::Program;
-use comet_syntax::{FormCause, LexStop, SmallProgram, SmallStop, Token, lex, place_behind};
+use comet_syntax::{FormCause, LexStop, Token, lex, place_behind};
 use comet_types::{CheckStop, check};
+use program_forms::is_built;
 use std::alloc::Global;
 
 /// The place of a text's first byte.
 const FIRST_PLACE: Place = Place { line: 1, col: 1 };
 
-/// The small program that a text is. `Fault` exactly where its form is refused, or where it is well typed and
-/// not small; `IllTyped` exactly where a part of its tree is refused by the rules of types and effects; each at
-/// its place and for its cause. `NoMemory` where there was none.
-pub fn read_program(alloc: Global, text: &[u8]) -> Result<SmallProgram, TextStop>
-    ensures found { IfOk result (λ program. HasProgram text.now program.declarations.items program.acts.items) }
+/// The checked program that a text is. `Fault` exactly where its form is refused, or where it is well typed and
+/// holds a form that isn't built; `IllTyped` exactly where a part of its tree is refused by the rules of types and
+/// effects; each at its place and for its cause. `NoMemory` where there was none.
+pub fn read_program(alloc: Global, text: &[u8]) -> Result<Checked, TextStop>
+    ensures found { IfOk result (λ program. HasProgram text.now (program_of program)) }
     ensures refused { IfErr result (IsTextStop text.now) }
 {
-    let program = read_tree(alloc, text)?;
-    let small = small_in(alloc, &program);
-    check_types(alloc, program)?;
-    small
+    let tree = read_tree(alloc, text)?;
+    let program = check_types(alloc, tree)?;
+    built(program)
 }
 
-/// The small program that a tree is.
-fn small_in(alloc: Global, program: &Program) -> Result<SmallProgram, TextStop>
-    ensures found { IfOk result (λ small. IsSmall program.now small.declarations.items small.acts.items) }
-    ensures refused { IfErr result (IsSmallStop program.now) }
+/// The program, where each of its forms is built.
+fn built(program: Checked) -> Result<Checked, TextStop>
+    ensures found { IfOk result (IsBuilt (program_of program)) }
+    ensures refused { IfErr result (IsBuiltStop (program_of program)) }
 {
-    match small_of(alloc, program) {
-        Ok(small) => Ok(small),
-        Err(SmallStop::NotSmall) => Err(TextStop::Fault(FIRST_PLACE, FormCause::NotBuilt)),
-        Err(SmallStop::NoMemory) => Err(TextStop::NoMemory),
+    if is_built(&program) {
+        Ok(program)
+    } else {
+        Err(TextStop::Fault(FIRST_PLACE, FormCause::NotBuilt))
     }
 }
 
 /// Checks a tree by the rules of types and effects.
-fn check_types(alloc: Global, program: Program) -> Result<(), TextStop>
-    ensures typed { IfOk result (λ _. IsTyped program) }
-    ensures refused { IfErr result (IsTypeStop program) }
+fn check_types(alloc: Global, tree: Program) -> Result<Checked, TextStop>
+    ensures typed { IfOk result (λ program. IsAccepted tree (program_of program)) }
+    ensures refused { IfErr result (IsTypeStop tree) }
 {
-    match check(alloc, program) {
-        Ok(_) => Ok(()),
+    match check(alloc, tree) {
+        Ok(program) => Ok(program),
         Err(CheckStop::Fault(place, code)) => Err(TextStop::IllTyped(place, code)),
         Err(CheckStop::NoMemory) => Err(TextStop::NoMemory),
     }

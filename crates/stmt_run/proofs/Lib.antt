@@ -1,5 +1,1 @@
-pub mod ActSteps
-pub mod ExpressionLaw
-pub mod OverflowLaw
-pub mod Postorder
-pub mod TermSteps
+pub mod Ends

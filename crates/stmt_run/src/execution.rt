@@ -1,18 +1,19 @@
-//! The run of a small program.
-ghost use Rattle.std.specs.Prelude.{◌≡◌, ◌≢◌, ◌++◌, ℕ, List};
-ghost use Rattle.stmt_run.specs.Meaning.{meaning_of, meaning_of_acts};
-ghost use Rattle.stmt_run.specs.Front.{IsFront};
-ghost use Rattle.stmt_run.specs.Ran.{Ran};
+//! The run of a checked program.
+ghost use Rattle.std.specs.Prelude.{◌≡◌};
+ghost use Rattle.checked_tree.specs.Tasks.{program_of};
+ghost use Rattle.comet_meaning.specs.Program as programs;
+ghost use Rattle.interpreter.specs.Does.{Does};
+ghost use Rattle.interpreter.specs.Views.{flow_seen};
+ghost use Rattle.run_state.specs.Views.{state_seen};
+ghost use Rattle.stmt_run.specs.Ending.{EndsAs, end_seen};
 
-use crate::acts::do_act;
-use crate::stop::EvalStop;
-use crate::values::{fresh, start};
 use cbl_base::{Place, RunFault};
-use comet_syntax::{Act, Declaration, SmallProgram};
+use checked_tree::Checked;
+use interpreter::{Code, Flow, run as run_tasks};
+use program_forms::pure_functions;
+use run_state::{Bytes, State};
+use run_values::Stop;
 use std::alloc::Global;
-
-/// The place of every fault, until places are carried.
-const FIRST_PLACE: Place = Place { line: 1, col: 1 };
 
 /// How a run ends.
 #[derive(Clone, Copy, PartialEq, Eq, Debug)]
@@ -21,46 +22,54 @@ pub enum RunEnd {
     Done,
     /// A fault, with its place.
     Run(Place, RunFault),
+    /// The fuel is spent, at this place.
+    Spent(Place),
     NoMemory,
 }
 
-/// Does acts in order, where the variables have these values.
-fn do_acts(
-    alloc: Global,
-    declarations: &[Declaration],
-    mut values: Vec<i64>,
-    acts: &[Act],
-    out: &mut Vec<u8>,
-) -> Result<(), EvalStop>
-    ensures { Ran out.old.items out.new.items result (meaning_of_acts declarations.now values.items acts.now) }
-{
-    for act in acts {
-        do_act(alloc, declarations, act, &mut values, out)?;
-    }
-    Ok(())
+/// What a run leaves: its end, the fuel that it didn't use, and the state.
+#[derive(Drop)]
+pub struct Ended {
+    pub end: RunEnd,
+    pub fuel: u64,
+    pub state: State,
 }
 
-/// Evaluates the start terms, evaluates all afresh, and does the acts.
-fn do_program(alloc: Global, program: &SmallProgram, out: &mut Vec<u8>) -> Result<(), EvalStop>
-    ensures { Ran out.old.items out.new.items result (meaning_of program.now.declarations.items program.now.acts.items) }
+/// Runs a program from this state on, and adds what it prints to `out`. The end, the fuel that is left and all that
+/// `out` then holds are those of the program's meaning; with `NoMemory` what `out` holds is a front of that.
+pub fn run(alloc: Global, program: &Checked, state: State, out: &mut Bytes) -> Ended
+    ensures meant { EndsAs result.end result.fuel out.new.bytes.items (programs.run (program_of program.now) (state_seen state out.old.bytes.items)) }
+    ensures fuel { result.fuel ≡ result.state.fuel }
 {
-    let declarations = program.declarations.as_slice();
-    let given = start(alloc, declarations)?;
-    let values = fresh(alloc, declarations, given.as_slice())?;
-    do_acts(alloc, declarations, values, program.acts.as_slice(), out)
+    let mut state = state;
+    let flow = execute(alloc, program, &mut state, out);
+    Ended {
+        end: end_of(&flow),
+        fuel: state.fuel,
+        state,
+    }
 }
 
-/// Runs a program, and adds what it prints to `out`. Its end and what it adds are those of the
-/// program's meaning; with `NoMemory` what it adds is a front of that.
-pub fn run(alloc: Global, program: &SmallProgram, out: &mut Vec<u8>) -> RunEnd
-    ensures meant { result ≢ RunEnd.NoMemory → (result ≡ (meaning_of program.now.declarations.items program.now.acts.items).end)
-        × (out.new.items ≡ out.old.items ++ (meaning_of program.now.declarations.items program.now.acts.items).printed) }
-    ensures front { (printed : List ℕ) × (out.new.items ≡ out.old.items ++ printed)
-        × IsFront printed (meaning_of program.now.declarations.items program.now.acts.items).printed }
+/// How a run ends whose statements ended so.
+fn end_of(flow: &Result<Flow, Stop>) -> RunEnd
+    ensures { result ≡ end_seen flow.now }
 {
-    match do_program(alloc, program, out) {
-        Ok(()) => RunEnd::Done,
-        Err(EvalStop::Fault(fault)) => RunEnd::Run(FIRST_PLACE, fault),
-        Err(EvalStop::NoMemory) => RunEnd::NoMemory,
+    match flow {
+        Ok(_) => RunEnd::Done,
+        Err(Stop::Fault(place, fault)) => RunEnd::Run(*place, *fault),
+        Err(Stop::Spent(place)) => RunEnd::Spent(*place),
+        Err(Stop::NoMemory | Stop::Output(_)) => RunEnd::NoMemory,
     }
+}
+
+/// Executes the top statements of a program in order.
+fn execute(alloc: Global, program: &Checked, s: &mut State, out: &mut Bytes) -> Result<Flow, Stop>
+    ensures { Does flow_seen result (state_seen s.new out.new.bytes.items) (programs.meaning_of_program (program_of program.now) (state_seen s.old out.old.bytes.items)) }
+{
+    let pure = pure_functions(alloc, program.functions.as_slice())?;
+    let code = Code {
+        functions: program.functions.as_slice(),
+        pure: pure.as_slice(),
+    };
+    run_tasks(s, out, &code, program.tasks.as_slice())
 }

@@ -5,3 +5,6 @@ returns-in-IllTyped-clause-ok g c = rw c.in-IllTyped.is c.write_type.ensures.ok
 
 pub returns-in-IllTyped-clause-err : goal.returns-in-IllTyped-clause-err
 returns-in-IllTyped-clause-err g c = rw c.in-IllTyped.is c.write_type.ensures.err
+
+pub returns-in-Spent-clause-err : goal.returns-in-Spent-clause-err
+returns-in-Spent-clause-err g c = rw c.in-Spent.is c.write_placed-in-Spent.ensures.err

@@ -1,0 +1,38 @@
+-- What a job gives is what the words give that it was made of, and nothing else.
+use Rattle.std.proofs.Common.{◌≡◌, ℕ, List, [], Option, Some, None, refl, sym, ap, subst}
+use Rattle.std.specs.FinMap as map
+use Rattle.cbl_io.specs.Held.{Held}
+use Rattle.checked_tree.specs.Tasks.{Whole}
+use Rattle.comet_front.specs.Reading.{HasProgram}
+use Rattle.comet_front.proofs.OneReading.{one_program, not_both, not_typed_program}
+use Rattle.comet.specs.Loading.{IsJob}
+use Rattle.comet.specs.Output.{Runs, RunsWith, Gives, accepted, ill_formed, ill_typed, GivesHeld, RunOutput, data_of}
+use Rattle.comet.specs.declared.report.Cause.{Cause}
+use Rattle.comet.proofs.Stopping.{gives_words, words_give}
+
+pub job_gives : (words : List (List ℕ)) (held : Held) (program : Whole) (fuel : ℕ) (text : List ℕ) (cause : Cause) (printed : List ℕ) → IsJob words held program fuel text →
+    Runs program fuel text cause printed → RunOutput words held cause printed
+job_gives words held program fuel text cause printed job runs =
+    let with_fuel : Runs program job.asks.fuel text cause printed = subst (λ n. Runs program n text cause printed) job.fuel_is runs in
+    let with_data : RunsWith program job.asks.fuel (data_of job.asks.data_file held) cause printed =
+    subst (λ o. RunsWith program job.asks.fuel o cause printed) (sym job.loaded.data_is) with_fuel in
+    gives_words words job.asks job.name held cause printed (sym job.asked_is) (sym job.named)
+        (subst (λ o. GivesHeld o job.asks.fuel (data_of job.asks.data_file held) cause printed) (sym job.loaded.holds.found)
+            (accepted (record { program = program; has = job.loaded.holds.has; runs = with_data })))
+
+only_runs : (bytes : List ℕ) (program : Whole) (fuel : ℕ) (text : Option (List ℕ)) (cause : Cause) (printed : List ℕ) → HasProgram bytes program → Gives bytes fuel text cause printed →
+    RunsWith program fuel text cause printed
+only_runs bytes program fuel text cause printed has (accepted r) = subst (λ p. RunsWith p fuel text cause printed) (one_program bytes r.program program r.has has) r.runs
+only_runs bytes program fuel text cause printed has (ill_formed r) = absurd (not_both bytes program r.place r.form has r.refused)
+only_runs bytes program fuel text cause printed has (ill_typed r) = absurd (not_typed_program bytes program r.place r.code has r.refused)
+
+pub job_only : (words : List (List ℕ)) (held : Held) (program : Whole) (fuel : ℕ) (text : List ℕ) (cause : Cause) (printed : List ℕ) → IsJob words held program fuel text →
+    RunOutput words held cause printed → Runs program fuel text cause printed
+job_only words held program fuel text cause printed job given =
+    let of_name : GivesHeld (map.get held job.name) job.asks.fuel (data_of job.asks.data_file held) cause printed =
+    words_give words job.asks job.name held cause printed (sym job.asked_is) (sym job.named) given in
+    let of_text : Gives job.loaded.holds.text job.asks.fuel (data_of job.asks.data_file held) cause printed =
+    subst (λ o. GivesHeld o job.asks.fuel (data_of job.asks.data_file held) cause printed) job.loaded.holds.found of_name in
+    let runs : RunsWith program job.asks.fuel (data_of job.asks.data_file held) cause printed =
+    only_runs job.loaded.holds.text program job.asks.fuel _ cause printed job.loaded.holds.has of_text in
+    subst (λ n. Runs program n text cause printed) (sym job.fuel_is) (subst (λ o. RunsWith program job.asks.fuel o cause printed) job.loaded.data_is runs)
