@@ -1,6 +1,6 @@
 -- A run that ended as its program means has the cause and the bytes of its meaning.
-use Rattle.std.proofs.Common.{◌≡◌, ◌≢◌, ◌++◌, ℕ, List, [], Option, refl, sym, ◌∙◌, ap, subst, append-nil, append_assoc}
-use Rattle.cbl_io.specs.Appended.{Appends, AppendsFront}
+use Rattle.std.proofs.Common.{◌≡◌, ◌≢◌, ◌++◌, ℕ, List, [], Option, refl, sym, ◌∙◌, ap, append-nil, append_assoc}
+use Rattle.cbl_io.specs.Appended.{AppendsFront}
 use Rattle.comet_meaning.specs.Onward.{IsFront}
 use Rattle.comet_meaning.specs.Program.{Meant}
 use Rattle.stmt_run.specs.Ending.{EndsAs}

@@ -1,7 +1,7 @@
 -- Counts of faults over several reads.
-use Rattle.std.proofs.Common.{◌≡◌, ◌≢◌, ◌<◌, ◌≤◌, ◌⊎◌, ℕ, Bool, true, false, List, bytes_eq, refl, sym, ◌∙◌, inl, inr, arith}
+use Rattle.std.proofs.Common.{◌≡◌, ◌≢◌, ◌≤◌, ℕ, Bool, true, false, List, bytes_eq, refl, sym, ◌∙◌, inl, inr, arith}
 use Rattle.std.proofs.lemmas.Slice.Eq.{bytes_eq-Decides}
-use Rattle.cbl_io.specs.Faults.{HasRisen, last_count}
+use Rattle.cbl_io.specs.Faults.{HasRisen}
 
 not_both : {t : Bool} → t ≡ true → t ≡ false → ⊥
 not_both a b = let e : true ≡ false = sym a ∙ b in absurd cc

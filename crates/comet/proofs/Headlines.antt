@@ -1,5 +1,5 @@
 -- The headline of a run, from what its parts promise.
-use Rattle.std.proofs.Common.{◌≡◌, ◌≢◌, ◌⊎◌, ◌++◌, ℕ, List, [], Option, Some, None, refl, sym, ◌∙◌, ap, subst, inl, inr, append-nil}
+use Rattle.std.proofs.Common.{◌≡◌, ◌≢◌, ◌⊎◌, ℕ, List, [], Option, Some, None, refl, sym, ◌∙◌, ap, subst, inl, inr}
 use Rattle.std.proofs.lemmas.Bool.Decides.{eqb_tells}
 use Rattle.cbl_io.specs.Appended.{Appends, AppendsFront}
 use Rattle.cbl_io.specs.Faults.{HasRisen}
@@ -14,7 +14,6 @@ use Rattle.comet.specs.Output.{Runs, RunOutput, Decides, EndsAsMeant}
 use Rattle.comet.specs.Status.{status_of, cause_of}
 use Rattle.comet.specs.declared.report.Cause.{Cause}
 use Rattle.comet.specs.declared.report.Cause.TheVariants as causes
-use Rattle.comet.specs.declared.report.FileRole.{FileRole}
 use Rattle.comet.specs.declared.report.Report.{Report}
 use Rattle.comet.proofs.Jobs.{job_gives, job_only}
 use Rattle.comet.proofs.Pieces.{appends_nothing}

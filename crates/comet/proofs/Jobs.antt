@@ -1,5 +1,5 @@
 -- What a job gives is what the words give that it was made of, and nothing else.
-use Rattle.std.proofs.Common.{◌≡◌, ℕ, List, [], Option, Some, None, refl, sym, ap, subst}
+use Rattle.std.proofs.Common.{ℕ, List, Option, sym, subst}
 use Rattle.std.specs.FinMap as map
 use Rattle.cbl_io.specs.Held.{Held}
 use Rattle.checked_tree.specs.Tasks.{Whole}
@@ -17,8 +17,8 @@ job_gives words held program fuel text cause printed job runs =
     let with_data : RunsWith program job.asks.fuel (data_of job.asks.data_file held) cause printed =
     subst (λ o. RunsWith program job.asks.fuel o cause printed) (sym job.loaded.data_is) with_fuel in
     gives_words words job.asks job.name held cause printed (sym job.asked_is) (sym job.named)
-        (subst (λ o. GivesHeld o job.asks.fuel (data_of job.asks.data_file held) cause printed) (sym job.loaded.holds.found)
-            (accepted (record { program = program; has = job.loaded.holds.has; runs = with_data })))
+    (subst (λ o. GivesHeld o job.asks.fuel (data_of job.asks.data_file held) cause printed) (sym job.loaded.holds.found)
+    (accepted (record { program = program; has = job.loaded.holds.has; runs = with_data })))
 
 only_runs : (bytes : List ℕ) (program : Whole) (fuel : ℕ) (text : Option (List ℕ)) (cause : Cause) (printed : List ℕ) → HasProgram bytes program → Gives bytes fuel text cause printed →
     RunsWith program fuel text cause printed

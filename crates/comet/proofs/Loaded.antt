@@ -1,9 +1,8 @@
 -- What is read of a program's file decides what its whole text is, though it is cut behind the limit.
-use Rattle.std.proofs.Common.{◌≡◌, ◌+◌, ◌<◌, ◌≤◌, ◌⊎◌, ℕ, Bool, true, false, List, [], Option, Some, None, length, take, refl, sym, ◌∙◌, ap, subst, inl, inr, arith}
+use Rattle.std.proofs.Common.{◌≡◌, ◌+◌, ◌<◌, ◌≤◌, ◌⊎◌, ℕ, Bool, true, false, List, Option, Some, length, take, refl, ◌∙◌, ap, subst, inl, inr, arith}
 use Rattle.std.specs.Prelude.{nat_le}
 use Rattle.std.proofs.lemmas.List.{take_all, length-take}
 use Rattle.cbl_base.specs.declared.place.Place.{Place}
-use Rattle.cbl_io.specs.Faults.{HasRisen}
 use Rattle.cbl_io.specs.Held.{Held, IsRead}
 use Rattle.checked_tree.specs.Tasks.{Whole}
 use Rattle.comet_front.specs.Reading.{HasProgram, IsIllFormed, IsIllTyped, no_tokens, no_tree, not_built}
@@ -14,7 +13,6 @@ use Rattle.comet.specs.Headline.{IsHeldProgram}
 use Rattle.comet.specs.Loading.{IsTextStop, IsRefused, IsLoadStop, IsReadStop}
 use Rattle.comet.specs.declared.report.Cause.{Cause}
 use Rattle.comet.specs.declared.report.Cause.TheVariants as causes
-use Rattle.comet.specs.declared.report.FileRole.{FileRole}
 use Rattle.comet.specs.declared.report.FileRole.TheVariants as roles
 
 -- what is read of a text that is within the limit is the whole text

@@ -2,11 +2,9 @@
 use Rattle.std.specs.Prelude.{◌≡◌, ℕ, List, Option, Some, None}
 use Rattle.std.proofs.Common.{sym, ◌∙◌, ap, subst}
 use Rattle.std.specs.FinMap as map
-use Rattle.cbl_base.specs.declared.place.Place.{Place}
 use Rattle.cbl_io.specs.Held.{Held}
 use Rattle.checked_tree.specs.Tasks.{Whole}
 use Rattle.comet_front.proofs.OneReading.{one_program, one_refusal_of, not_both, one_typing, not_typed_program, not_formed}
-use Rattle.comet_syntax.specs.declared.stop.FormCause.{FormCause}
 use Rattle.comet_words.specs.Asked.{Asked}
 use Rattle.comet.specs.Asking.{program_named}
 use Rattle.comet.specs.Output.{RunsWith, Accepts, Refuses, RefusesType, Gives, accepted, ill_formed, ill_typed, GivesHeld, GivesNamed, GivesAsked, data_of}

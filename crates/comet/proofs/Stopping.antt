@@ -1,7 +1,6 @@
 -- Why files give no job, and why words give none.
 use Rattle.std.proofs.Common.{◌≡◌, ◌≢◌, ◌≤◌, ◌↔◌, ℕ, List, [], Option, Some, None, option_map, take, ◌+◌, refl, sym, ◌∙◌, ap, subst}
 use Rattle.std.specs.FinMap as map
-use Rattle.cbl_io.specs.Faults.{HasRisen}
 use Rattle.cbl_io.specs.Held.{Held, IsRead}
 use Rattle.checked_tree.specs.Tasks.{Whole}
 use Rattle.comet_meaning.specs.Limits.{most_data}
@@ -9,10 +8,9 @@ use Rattle.comet_syntax.specs.Place.{first_place}
 use Rattle.comet_syntax.specs.declared.stop.FormCause.TheVariants.{NotBuilt}
 use Rattle.comet_words.specs.Asked.{Asked, asked}
 use Rattle.comet.specs.Asking.{program_named}
-use Rattle.comet.specs.Headline.{IsHeldProgram, IsBlamed, HasJobProgram}
-use Rattle.comet.specs.Loading.{IsLoaded, IsJob, IsTextStop, IsRefused, IsLoadStop, IsReadStop, IsDataStop, IsDataBlamed, IsFilesStop, IsFrontStop}
+use Rattle.comet.specs.Headline.{IsHeldProgram, IsBlamed}
+use Rattle.comet.specs.Loading.{IsLoaded, IsJob, IsTextStop, IsRefused, IsLoadStop, IsReadStop, IsDataStop, IsFilesStop, IsFrontStop}
 use Rattle.comet.specs.Output.{GivesAsked, GivesNamed, GivesHeld, Gives, ill_formed, ill_typed, RunOutput, data_of}
-use Rattle.comet.specs.Status.{status_of}
 use Rattle.comet.specs.declared.report.Cause.{Cause}
 use Rattle.comet.specs.declared.report.Cause.TheVariants as causes
 use Rattle.comet.specs.declared.report.FileRole.{FileRole}

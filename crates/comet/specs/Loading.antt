@@ -1,12 +1,10 @@
 -- What is known of a job, and why words and files give none. A rule of this project.
 use Rattle.std.specs.Prelude.{◌≡◌, ◌≢◌, ◌↔◌, ℕ, List, [], Option, Some, None}
 use Rattle.std.specs.FinMap as map
-use Rattle.cbl_base.specs.declared.place.Place.{Place}
 use Rattle.cbl_io.specs.Faults.{HasRisen}
 use Rattle.cbl_io.specs.Held.{Held}
 use Rattle.checked_tree.specs.Tasks.{Whole}
 use Rattle.comet_front.specs.Reading.{IsIllFormed, IsIllTyped}
-use Rattle.comet_syntax.specs.declared.stop.FormCause.{FormCause}
 use Rattle.comet_words.specs.Asked.{Asked, asked}
 use Rattle.comet.specs.Asking.{program_named}
 use Rattle.comet.specs.Headline.{IsHeldProgram, IsBlamed}

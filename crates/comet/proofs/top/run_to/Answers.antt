@@ -1,4 +1,4 @@
-use Rattle.std.proofs.Common.{◌≡◌, ◌∙◌, ap, subst, []}
+use Rattle.std.proofs.Common.{◌≡◌, ◌∙◌, ap, subst}
 use Rattle.checked_tree.specs.Tasks.{program_of}
 use Rattle.comet_meaning.specs.Program.{run}
 use Rattle.comet_meaning.specs.State.{first_state}
