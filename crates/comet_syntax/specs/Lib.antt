@@ -5,10 +5,7 @@ pub mod Name
 pub mod Number
 pub mod Place
 pub mod Refusal
-pub mod Scoped
 pub mod Spells
 pub mod Tokens
-pub mod Tree
-pub mod TreeCode
 pub mod Word
 pub mod Written

@@ -1,4 +1,4 @@
-//! Texts: their tokens, the tree that tokens are spelled by, and what a small program is.
+//! Texts: their tokens, and the tree that tokens are spelled by.
 //!
 //! It knows nothing of what a program means, nor of files or sinks. The layers above use that `lex` gives
 //! the one token list of a text, or its one fault exactly where there is none. The grammar of the whole
@@ -15,16 +15,12 @@ mod lex_tests;
 mod lexeme;
 mod lexer;
 mod limits;
-mod program;
 mod stop;
-mod term;
 mod token;
 pub mod tree;
 mod word;
 
 pub use lexer::{lex, place_behind};
 pub use limits::MOST_BYTES;
-pub use program::{Act, Declaration, SmallProgram};
-pub use stop::{FormCause, LexStop, SmallStop};
-pub use term::{Operation, Step, Term};
+pub use stop::{FormCause, LexStop};
 pub use token::{Token, TokenKind, Word};
