@@ -5,18 +5,19 @@ ghost use Rattle.comet_meaning.specs.Generators.{each_tuple};
 ghost use Rattle.comet_meaning.specs.Outcome.{always};
 ghost use Rattle.comet_meaning.specs.Parts as parts;
 ghost use Rattle.comet_meaning.specs.Program.{level};
-ghost use Rattle.interpreter.specs.Does.{Does};
-ghost use Rattle.interpreter.specs.Views.{code_seen, generators_seen, part, part_or_none};
+ghost use Rattle.run_steps.specs.Does.{Does};
+ghost use Rattle.run_steps.specs.Views.{code_seen, generators_seen, part, part_or_none};
 ghost use Rattle.run_state.specs.Views.{state_seen};
 ghost use Rattle.run_values.specs.Views.{element_seen, value_seen};
 
-use crate::code::Code;
 use crate::expressions::{truth_of, value_of};
-use crate::tuples::{Tuples, next_tuple, pending_of};
+use crate::tuples::next_tuple;
 use cbl_base::Place;
 use checked_tree::{Generator, Typed};
 use comet_syntax::tree::Aggregate;
 use run_state::{Out, State};
+use run_steps::code::Code;
+use run_steps::tuples::{Tuples, pending_of};
 use run_values::aggregates::{Element, aggregate_value, push_element};
 use run_values::{Stop, Value};
 

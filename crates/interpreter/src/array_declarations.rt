@@ -12,29 +12,21 @@ ghost use Rattle.comet_meaning.specs.Outcome.{unless};
 ghost use Rattle.comet_meaning.specs.Program.{level};
 ghost use Rattle.comet_meaning.specs.State as states;
 ghost use Rattle.comet_meaning.specs.Values.{size_of};
-ghost use Rattle.interpreter.specs.Does.{Does};
-ghost use Rattle.interpreter.specs.Extents.{along, at_index, capped, extent_seen};
-ghost use Rattle.interpreter.specs.Views.{code_seen};
+ghost use Rattle.run_steps.specs.Does.{Does};
+ghost use Rattle.run_steps.specs.Extents.{along, at_index, capped, extent_seen};
+ghost use Rattle.run_steps.specs.Views.{code_seen};
 ghost use Rattle.run_state.specs.Views.{state_seen};
 ghost use Rattle.run_values.specs.Did.{Did};
 ghost use Rattle.run_values.specs.Views.{bounds_seen, cells_seen};
 
-use crate::code::Code;
 use crate::expressions::{bounds_of, number_of, value_of};
-use cbl_base::{Limit, Place, RunFault};
+use cbl_base::Place;
 use checked_tree::{Dimension, Slot, Start, Typed, Way};
 use run_state::{Out, State};
-use run_values::{Bounds, Cells, Stop, Value};
-
-/// How many cells an array may have.
-const MOST_CELLS: u128 = 16_777_216;
-
-/// A dimension: its bounds, and the cell of its name where it has one.
-#[derive(Clone, Copy)]
-pub(crate) struct Extent {
-    pub(crate) slot: Option<Slot>,
-    pub(crate) bounds: Bounds,
-}
+use run_steps::cells::{Extent, cell_count, put_named};
+use run_steps::code::Code;
+use run_steps::effects::{make_array, push_number, take_list};
+use run_values::Stop;
 
 /// An array with dimensions: these are evaluated first, and then each cell gets its number.
 #[cycle(run)]
@@ -54,9 +46,8 @@ pub(crate) fn declare_array<O: Out>(
     let extents = extents_of(s, out, code, room, dimensions)?;
     let sides = extents.as_slice();
     let count = cell_count(at, sides)?;
-    let numbers = first_numbers(s, out, code, room, at, count, sides, start)?;
-    let array = s.new_array(array_of(sides, numbers))?;
-    s.put(slot, array)
+    let numbers = first_numbers(s, out, code, room, at, count, sides, start);
+    make_array(s, slot, sides, numbers)
 }
 
 /// The bounds of dimensions, evaluated in order.
@@ -79,43 +70,6 @@ fn extents_of<O: Out>(
         })?;
     }
     Ok(extents)
-}
-
-/// How many cells an array has. `TooMany` cells at this place exactly where they are more than 16,777,216; there is no
-/// other stop.
-fn cell_count(at: Place, extents: &[Extent]) -> Result<u128, Stop>
-    ensures did { (s : states.State) → Did (λ _. tt) result s (unless (nat_le (meaning.cell_count (map extent_seen extents.now)) most_cells) at (TooMany limits.Cells) s) }
-    ensures count { IfOk result (λ count. count ≡ meaning.cell_count (map extent_seen extents.now)) }
-{
-    let mut count: u128 = 1;
-    for extent in extents {
-        count = counted_along(count, extent);
-    }
-    let few = count <= MOST_CELLS;
-    if few {
-        Ok(count)
-    } else {
-        Err(Stop::Fault(at, RunFault::TooMany(Limit::Cells)))
-    }
-}
-
-/// The count along one more dimension, and one more than 16,777,216 for any that is greater.
-fn counted_along(count: u128, extent: &Extent) -> u128
-    requires { count ≤ suc most_cells }
-    ensures { result ≡ capped most_cells (count * size_of (bounds_seen extent.now.bounds)) }
-{
-    capped(count * extent.bounds.size())
-}
-
-/// The count, and one more than 16,777,216 for any that is greater.
-fn capped(count: u128) -> u128
-    ensures { result ≡ capped most_cells count }
-{
-    if count <= MOST_CELLS {
-        count
-    } else {
-        MOST_CELLS + 1
-    }
 }
 
 /// The numbers of all cells.
@@ -159,8 +113,8 @@ fn listed_numbers<O: Out>(
 ) -> Result<Vec<i64>, Stop>
     ensures did { Does (λ numbers. numbers.items) result (state_seen s.new (O.taken out.new)) (listed_form (level (code_seen code.now) room) at count (seen list.now) (state_seen s.old (O.taken out.old))) }
 {
-    let list = value_of(s, out, code, room, list)?;
-    s.listed(at, count, &list)
+    let list = value_of(s, out, code, room, list);
+    take_list(s, at, count, list)
 }
 
 /// Puts the numbers of the cells that these dimensions have behind those so far.
@@ -256,16 +210,6 @@ fn fill_at<O: Out>(
     fill(s, out, code, room, at, value, later, numbers)
 }
 
-/// The name of a dimension, where it has one, gets the index.
-fn put_named(s: &mut State, slot: Option<Slot>, index: i64) -> Result<(), Stop>
-    ensures { (printed : List ℕ) → Did (λ _. tt) result (state_seen s.new printed) (put_named slot index (state_seen s.old printed)) }
-{
-    match slot {
-        None => Ok(()),
-        Some(slot) => s.put(slot, Value::Number(index)),
-    }
-}
-
 /// One more cell: its unit, and then its number.
 #[cycle(run)]
 #[tactic(auto, unfolding(comet_meaning::specs::Declarations::next_cell))]
@@ -281,10 +225,7 @@ fn push_cell<O: Out>(
     ensures did { Does (λ numbers. numbers.items) result (state_seen s.new (O.taken out.new)) (next_cell (level (code_seen code.now) room) at (option_map seen (option_copied value.entry)) numbers.items (state_seen s.old (O.taken out.old))) }
 {
     s.charge(1, at)?;
-    let number = start_number(s, out, code, room, value)?;
-    let mut numbers = numbers;
-    numbers.push(number)?;
-    Ok(numbers)
+    push_number(numbers, start_number(s, out, code, room, value))
 }
 
 /// The number of a cell; without a start it is 0.
@@ -302,29 +243,5 @@ fn start_number<O: Out>(
     match value {
         None => Ok(0),
         Some(value) => number_of(s, out, code, room, value),
-    }
-}
-
-/// An array of one dimension or two with these numbers.
-fn array_of(extents: &[Extent], numbers: Vec<i64>) -> Cells
-    ensures { cells_seen result ≡ meaning.array_of (map extent_seen extents.now) numbers.items }
-{
-    match extents.first() {
-        None => Cells::row(numbers),
-        Some(rows) => Cells {
-            rows: rows.bounds,
-            columns: columns_of(extents),
-            numbers,
-        },
-    }
-}
-
-/// The bounds of the second dimension, where there is one.
-fn columns_of(extents: &[Extent]) -> Option<Bounds>
-    ensures { option_map bounds_seen result ≡ option_map (λ e. bounds_seen e.bounds) (slice_get extents.now 1) }
-{
-    match extents.get(1) {
-        Some(extent) => Some(extent.bounds),
-        None => None,
     }
 }

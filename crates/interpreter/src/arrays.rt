@@ -5,18 +5,18 @@ ghost use Rattle.comet_meaning.specs.Arrays as arrays;
 ghost use Rattle.comet_meaning.specs.Builtins as builtins;
 ghost use Rattle.comet_meaning.specs.Expressions as expressions;
 ghost use Rattle.comet_meaning.specs.Program.{level};
-ghost use Rattle.interpreter.specs.Does.{Does};
-ghost use Rattle.interpreter.specs.Parts.{plain_builtin};
-ghost use Rattle.interpreter.specs.Views.{code_seen, part, row};
+ghost use Rattle.run_steps.specs.Does.{Does};
+ghost use Rattle.run_steps.specs.Parts.{plain_builtin};
+ghost use Rattle.run_steps.specs.Views.{code_seen, part, row};
 ghost use Rattle.run_state.specs.Views.{state_seen};
 ghost use Rattle.run_values.specs.Views.{value_seen};
 
-use crate::code::Code;
 use crate::expressions::{number_of, value_of, values_of};
 use cbl_base::Place;
 use checked_tree::{Builtin, Typed};
 use run_state::{Out, State};
-use run_values::builtins::builtin;
+use run_steps::code::Code;
+use run_steps::operands::{call_builtin, count_in_array, index_array, index_grid};
 use run_values::operators::{row_of_values, set_of_values};
 use run_values::{Stop, Value};
 
@@ -67,8 +67,8 @@ pub(crate) fn evaluate_index<O: Out>(
     ensures did { Does value_seen result (state_seen s.new (O.taken out.new)) (arrays.index_form (level (code_seen code.now) room) at (part array.now) (part index.now) (state_seen s.old (O.taken out.old))) }
 {
     let array = value_of(s, out, code, room, array)?;
-    let index = number_of(s, out, code, room, index)?;
-    s.index(at, &array, index)
+    let index = number_of(s, out, code, room, index);
+    index_array(s, at, &array, index)
 }
 
 /// `a[i,j]`: the cell, and `OutOfRange` outside the array.
@@ -88,8 +88,8 @@ pub(crate) fn evaluate_cell<O: Out>(
 {
     let grid = value_of(s, out, code, room, grid)?;
     let row = number_of(s, out, code, room, row)?;
-    let column = number_of(s, out, code, room, column)?;
-    s.cell(at, &grid, row, column)
+    let column = number_of(s, out, code, room, column);
+    index_grid(s, at, &grid, row, column)
 }
 
 /// `count(a, e)`: how often a number stands in an array.
@@ -108,8 +108,8 @@ fn evaluate_count<O: Out>(
 {
     let place = array.place;
     let array = value_of(s, out, code, room, array)?;
-    let number = number_of(s, out, code, room, number)?;
-    s.count(at, place, &array, number)
+    let number = number_of(s, out, code, room, number);
+    count_in_array(s, at, place, &array, number)
 }
 
 /// A call of a function of the language.
@@ -162,7 +162,6 @@ fn evaluate_plain<O: Out>(
 ) -> Result<Value, Stop>
     ensures did { Does value_seen result (state_seen s.new (O.taken out.new)) (plain_builtin (level (code_seen code.now) room) at function (row arguments.now) (state_seen s.old (O.taken out.old))) }
 {
-    let values = values_of(s, out, code, room, arguments)?;
-    s.charge(1, at)?;
-    builtin(s.alloc, at, function, &values)
+    let values = values_of(s, out, code, room, arguments);
+    call_builtin(s, at, function, values)
 }

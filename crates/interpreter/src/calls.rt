@@ -1,26 +1,22 @@
 //! Calls of functions and of methods.
-ghost use Rattle.std.specs.Prelude.{◌≡◌, ℕ, List, [], Option, Some, map, slice_get, slice_index_or, false};
-ghost use Rattle.std.specs.Option.{option_copied, option_map};
+ghost use Rattle.std.specs.Prelude.{◌≡◌, ℕ, List, [], Option, Some, map};
 ghost use Rattle.checked_tree.specs.Tasks.{function_of};
 ghost use Rattle.comet_meaning.specs.Calls as calls;
 ghost use Rattle.comet_meaning.specs.Methods.{method_form};
 ghost use Rattle.comet_meaning.specs.Program.{level};
-ghost use Rattle.interpreter.specs.Does.{Does};
-ghost use Rattle.interpreter.specs.Parts.{is_handed_itself};
-ghost use Rattle.interpreter.specs.Views.{code_seen, flow_seen, part, row};
+ghost use Rattle.run_steps.specs.Does.{Does};
+ghost use Rattle.run_steps.specs.Views.{code_seen, part, row};
 ghost use Rattle.run_state.specs.Views.{state_seen};
 ghost use Rattle.run_values.specs.Views.{value_seen};
 
-use crate::code::{Code, Flow};
 use crate::expressions::{evaluate, value_as, value_of, values_of};
 use crate::statements::execute;
 use cbl_base::Place;
 use checked_tree::{Function, Kind, Method, Typed};
-use run_objects::method as call_method;
 use run_state::{Out, State};
-use run_values::values::{as_kind, first_value};
+use run_steps::code::{Code, function_at, given, is_handed_itself, is_pure, parameter_at};
+use run_steps::operands::call_on;
 use run_values::{Stop, Value};
-use std::alloc::Global;
 use std::mem;
 
 /// A call of a function.
@@ -43,23 +39,6 @@ pub(crate) fn evaluate_call<O: Out>(
             call(s, out, code, room, at, pure, callee, arguments)
         }
         None => Ok(Value::Nothing),
-    }
-}
-
-/// The function with this number.
-fn function_at<'a>(code: &Code<'a>, function: usize) -> Option<&'a Function>
-    ensures { option_map function_of (option_copied result) ≡ slice_get (code_seen code.now).functions function }
-{
-    code.functions.get(function)
-}
-
-/// Whether a function is known to be pure.
-fn is_pure(code: &Code<'_>, function: usize) -> bool
-    ensures { result ≡ slice_index_or code.now.pure.now function false }
-{
-    match code.pure.get(function) {
-        Some(pure) => *pure,
-        None => false,
     }
 }
 
@@ -125,23 +104,6 @@ fn argument_of<O: Out>(
     }
 }
 
-/// The kind of the parameter at this index.
-fn parameter_at(parameters: &[Kind], index: usize) -> Option<Kind>
-    ensures { result ≡ slice_get parameters.now index }
-{
-    match parameters.get(index) {
-        Some(kind) => Some(*kind),
-        None => None,
-    }
-}
-
-/// Whether a parameter of this kind is a variable itself.
-fn is_handed_itself(kind: Kind) -> bool
-    ensures { result ≡ is_handed_itself kind }
-{
-    matches!(kind, Kind::Variable | Kind::SetVariable)
-}
-
 /// The body of a function, in a frame of its own, whose first cells are the arguments.
 #[cycle(run)]
 #[tactic(auto, unfolding(comet_meaning::specs::Calls::body_form, comet_meaning::specs::Cells::in_scope, comet_meaning::specs::Cells::in_frame))]
@@ -161,17 +123,6 @@ fn execute_body<O: Out>(
     Ok(given(s.alloc, callee.result, flow))
 }
 
-/// What a function of this kind gives, as its body ended.
-fn given(alloc: Global, kind: Kind, flow: Flow) -> Value
-    ensures { value_seen result ≡ calls.given kind (flow_seen flow) }
-{
-    match flow {
-        Flow::Returned(Some(value)) => as_kind(kind, value),
-        Flow::Returned(None) => first_value(alloc, kind),
-        Flow::Next => first_value(alloc, kind),
-    }
-}
-
 /// A call of a method: the object, the arguments, a unit for the call, and then what it does.
 #[cycle(run)]
 #[tactic(auto, unfolding(comet_meaning::specs::Methods::method_form))]
@@ -188,7 +139,6 @@ pub(crate) fn evaluate_method<O: Out>(
     ensures did { Does value_seen result (state_seen s.new (O.taken out.new)) (method_form (level (code_seen code.now) room) at method (part object.now) (row arguments.now) (state_seen s.old (O.taken out.old))) }
 {
     let value = value_of(s, out, code, room, object)?;
-    let values = values_of(s, out, code, room, arguments)?;
-    s.charge(1, at)?;
-    call_method(s, at, method, object, &value, &values)
+    let values = values_of(s, out, code, room, arguments);
+    call_on(s, at, method, object, &value, values)
 }

@@ -2,25 +2,24 @@
 ghost use Rattle.std.specs.Prelude.{◌≡◌, ℕ, List, Some, option_map};
 ghost use Rattle.checked_tree.specs.Actions.{start_of, variable_of};
 ghost use Rattle.checked_tree.specs.Shape.{seen, whole};
-ghost use Rattle.comet_meaning.specs.Declarations.{object_form, scalar_form};
+ghost use Rattle.comet_meaning.specs.Declarations.{scalar_form};
 ghost use Rattle.comet_meaning.specs.Models.{beginning_form, domain_form, started_form, variable_form};
 ghost use Rattle.comet_meaning.specs.Program.{level};
-ghost use Rattle.interpreter.specs.Does.{Does};
-ghost use Rattle.interpreter.specs.Copies.{is_array};
-ghost use Rattle.interpreter.specs.Views.{code_seen};
+ghost use Rattle.run_steps.specs.Does.{Does};
+ghost use Rattle.run_steps.specs.Views.{code_seen};
 ghost use Rattle.run_models.specs.Views.{beginning_seen};
 ghost use Rattle.run_state.specs.Views.{state_seen};
 ghost use Rattle.run_values.specs.Views.{bounds_seen};
 
-use crate::code::Code;
 use crate::expressions::{bounds_of, number_of, value_of};
 use crate::terms::term_of;
 use cbl_base::Place;
 use checked_tree::{Kind, Slot, Start, Typed, Variable, Way};
 use run_models::Beginning;
-use run_objects::{make_object, new_variable};
 use run_state::{Out, State};
-use run_values::values::{as_kind, first_value};
+use run_steps::code::Code;
+use run_steps::effects::{as_defined, as_free, begin_variable, declare_value};
+use run_values::values::first_value;
 use run_values::{Bounds, Stop};
 
 /// A name of one value, or of an array that is copied.
@@ -40,36 +39,11 @@ pub(crate) fn declare<O: Out>(
 {
     match start {
         None => s.put(slot, first_value(s.alloc, kind)),
-        Some(value) => declare_with(s, out, code, room, at, slot, kind, value),
+        Some(value) => {
+            let value = value_of(s, out, code, room, value);
+            declare_value(s, at, slot, kind, value)
+        }
     }
-}
-
-#[cycle(run)]
-fn declare_with<O: Out>(
-    s: &mut State,
-    out: &mut O,
-    code: &Code<'_>,
-    room: u32,
-    at: Place,
-    slot: Slot,
-    kind: Kind,
-    value: &Typed,
-) -> Result<(), Stop>
-    ensures did { Does (λ _. tt) result (state_seen s.new (O.taken out.new)) (scalar_form (level (code_seen code.now) room) at slot kind (Some (seen value.now)) (state_seen s.old (O.taken out.old))) }
-{
-    let value = value_of(s, out, code, room, value)?;
-    if is_array(kind) {
-        s.copy_array(at, slot, &value)
-    } else {
-        s.put(slot, as_kind(kind, value))
-    }
-}
-
-/// Whether a name of this kind has an array that is copied at its declaration.
-fn is_array(kind: Kind) -> bool
-    ensures { result ≡ is_array kind }
-{
-    matches!(kind, Kind::Array)
 }
 
 /// A variable: its domain, then its number or its definition.
@@ -86,10 +60,8 @@ pub(crate) fn declare_variable<O: Out>(
     ensures did { Does (λ _. tt) result (state_seen s.new (O.taken out.new)) (variable_form (level (code_seen code.now) room) at (variable_of variable.now) (state_seen s.old (O.taken out.old))) }
 {
     let domain = domain_of(s, out, code, room, &variable.domain)?;
-    let beginning = beginning_of(s, out, code, room, &variable.start)?;
-    let solver = s.look(variable.solver)?;
-    let made = new_variable(s, at, &solver, domain, beginning)?;
-    s.put(variable.slot, made)
+    let beginning = beginning_of(s, out, code, room, &variable.start);
+    begin_variable(s, at, variable, domain, beginning)
 }
 
 /// The domain of a variable; all numbers where it is left out.
@@ -145,29 +117,8 @@ fn begin<O: Out>(
     ensures did { Does beginning_seen result (state_seen s.new (O.taken out.new)) (started_form (level (code_seen code.now) room) way (whole (seen value.now)) (state_seen s.old (O.taken out.old))) }
 {
     match way {
-        Way::Define => {
-            let term = term_of(s, out, code, room, value)?;
-            Ok(Beginning::Defined(term))
-        }
-        Way::Each => {
-            let number = number_of(s, out, code, room, value)?;
-            Ok(Beginning::Free(number))
-        }
-        Way::List => {
-            let number = number_of(s, out, code, room, value)?;
-            Ok(Beginning::Free(number))
-        }
+        Way::Define => as_defined(term_of(s, out, code, room, value)),
+        Way::Each => as_free(number_of(s, out, code, room, value)),
+        Way::List => as_free(number_of(s, out, code, room, value)),
     }
-}
-
-/// An object that is declared, or that a name is given by `new`.
-pub(crate) fn declare_object<O: Out>(
-    s: &mut State,
-    out: &mut O,
-    slot: Slot,
-    kind: Kind,
-) -> Result<(), Stop>
-    ensures did { Does (λ _. tt) result (state_seen s.new (O.taken out.new)) (object_form slot kind (state_seen s.old (O.taken out.old))) }
-{
-    make_object(s, slot, kind)
 }

@@ -4,24 +4,23 @@ ghost use Rattle.checked_tree.specs.Shape.{optional, shape_of};
 ghost use Rattle.comet_meaning.specs.Expressions.{value_of_form};
 ghost use Rattle.comet_meaning.specs.Parts as parts;
 ghost use Rattle.comet_meaning.specs.Program.{level};
-ghost use Rattle.interpreter.specs.Does.{Does};
-ghost use Rattle.interpreter.specs.Parts.{value_as};
-ghost use Rattle.interpreter.specs.Views.{code_seen, part, part_or_none, row};
+ghost use Rattle.run_steps.specs.Does.{Does};
+ghost use Rattle.run_steps.specs.Parts.{value_as};
+ghost use Rattle.run_steps.specs.Views.{code_seen, part, part_or_none, row};
 ghost use Rattle.run_state.specs.Views.{state_seen};
 ghost use Rattle.run_values.specs.Views.{bounds_seen, value_seen};
 
 use crate::aggregates::evaluate_aggregate;
 use crate::arrays::{evaluate_builtin, evaluate_cell, evaluate_index, evaluate_list, evaluate_set};
 use crate::calls::{evaluate_call, evaluate_method};
-use crate::code::Code;
 use crate::operators::{
     evaluate_chain, evaluate_compare, evaluate_conditional, evaluate_range, evaluate_unary,
 };
 use cbl_base::{Place, RunFault};
 use checked_tree::{Form, Kind, Typed};
-use run_objects::read;
 use run_state::{Out, State};
-use run_values::values::as_kind;
+use run_steps::code::Code;
+use run_steps::operands::{as_bounds, as_held, as_number, as_truth, read_part};
 use run_values::{Bounds, Stop, Value};
 
 /// The value of an expression; of a variable the variable itself. `room` tells how many parts may still be executed
@@ -118,8 +117,8 @@ pub(crate) fn value_of<O: Out>(
 ) -> Result<Value, Stop>
     ensures did { Does value_seen result (state_seen s.new (O.taken out.new)) (parts.value (level (code_seen code.now) room) (part e.now) (state_seen s.old (O.taken out.old))) }
 {
-    let value = evaluate(s, out, code, room, e)?;
-    read(s, read_place(e), value)
+    let value = evaluate(s, out, code, room, e);
+    read_part(s, e, value)
 }
 
 /// The number that a part gives; a truth value stands as 1 or 0.
@@ -134,8 +133,7 @@ pub(crate) fn number_of<O: Out>(
 ) -> Result<i64, Stop>
     ensures did { Does (λ z. z) result (state_seen s.new (O.taken out.new)) (parts.number (level (code_seen code.now) room) (part e.now) (state_seen s.old (O.taken out.old))) }
 {
-    let value = value_of(s, out, code, room, e)?;
-    Ok(value.number())
+    as_number(value_of(s, out, code, room, e))
 }
 
 /// The truth value that a part gives.
@@ -150,8 +148,7 @@ pub(crate) fn truth_of<O: Out>(
 ) -> Result<bool, Stop>
     ensures did { Does (λ b. b) result (state_seen s.new (O.taken out.new)) (parts.truth (level (code_seen code.now) room) (part e.now) (state_seen s.old (O.taken out.old))) }
 {
-    let value = value_of(s, out, code, room, e)?;
-    Ok(value.truth())
+    as_truth(value_of(s, out, code, room, e))
 }
 
 /// The bounds of the range that a part gives.
@@ -166,8 +163,7 @@ pub(crate) fn bounds_of<O: Out>(
 ) -> Result<Bounds, Stop>
     ensures did { Does bounds_seen result (state_seen s.new (O.taken out.new)) (parts.bounds (level (code_seen code.now) room) (part e.now) (state_seen s.old (O.taken out.old))) }
 {
-    let value = value_of(s, out, code, room, e)?;
-    Ok(value.bounds())
+    as_bounds(value_of(s, out, code, room, e))
 }
 
 /// Whether a condition holds, as it does where it is left out.
@@ -200,8 +196,7 @@ pub(crate) fn value_as<O: Out>(
 ) -> Result<Value, Stop>
     ensures did { Does value_seen result (state_seen s.new (O.taken out.new)) (value_as (level (code_seen code.now) room) kind (part e.now) (state_seen s.old (O.taken out.old))) }
 {
-    let value = value_of(s, out, code, room, e)?;
-    Ok(as_kind(kind, value))
+    as_held(kind, value_of(s, out, code, room, e))
 }
 
 /// The values of parts, from the left.
@@ -221,15 +216,4 @@ pub(crate) fn values_of<O: Out>(
         values.push(value)?;
     }
     Ok(values)
-}
-
-/// Where a variable is read: at its name or its index, also in parentheses.
-#[tactic(auto, unfolding(checked_tree::specs::Shape::shape_of))]
-fn read_place(e: &Typed) -> Place
-    ensures { result ≡ parts.read_place (part e.now) }
-{
-    match &e.form {
-        Form::Parentheses(inner) => read_place(inner),
-        _ => e.place,
-    }
 }

@@ -5,17 +5,18 @@ ghost use Rattle.checked_tree.specs.Tasks.{work_of};
 ghost use Rattle.comet_meaning.specs.Levels as levels;
 ghost use Rattle.comet_meaning.specs.Loops.{for_all_form, visited};
 ghost use Rattle.comet_meaning.specs.Program.{level};
-ghost use Rattle.interpreter.specs.Does.{Does};
-ghost use Rattle.interpreter.specs.Views.{code_seen, flow_seen};
+ghost use Rattle.run_steps.specs.Does.{Does};
+ghost use Rattle.run_steps.specs.Views.{code_seen, flow_seen};
 ghost use Rattle.run_state.specs.Views.{state_seen};
 
-use crate::code::{Code, Flow};
 use crate::expressions::{condition, value_of};
 use crate::statements::execute;
-use crate::tuples::{Tuples, next_tuple, pending_of};
+use crate::tuples::next_tuple;
 use cbl_base::Place;
 use checked_tree::{Generator, Task, Typed};
 use run_state::{Out, State};
+use run_steps::code::{Code, Flow};
+use run_steps::tuples::{Tuples, pending_of};
 use run_values::Stop;
 
 /// A `forall`: the body for each tuple, to the first that returns.

@@ -10,7 +10,6 @@ mod aggregates;
 mod array_declarations;
 mod arrays;
 mod calls;
-pub mod code;
 mod declarations;
 mod expressions;
 mod for_all;
@@ -23,5 +22,5 @@ mod terms;
 mod tuples;
 mod writes;
 
-pub use code::{Code, Flow};
+pub use run_steps::code::{Code, Flow};
 pub use statements::run;

@@ -8,17 +8,18 @@ ghost use Rattle.comet_meaning.specs.Loops.{counter_form, for_form, repeated, tu
 ghost use Rattle.comet_meaning.specs.Loops as meaning;
 ghost use Rattle.comet_meaning.specs.Program.{level};
 ghost use Rattle.comet_meaning.specs.Statements.{step_of};
-ghost use Rattle.interpreter.specs.Does.{Does};
-ghost use Rattle.interpreter.specs.Views.{code_seen, flow_seen, part};
+ghost use Rattle.run_steps.specs.Does.{Does};
+ghost use Rattle.run_steps.specs.Views.{code_seen, flow_seen, part};
 ghost use Rattle.run_state.specs.Views.{state_seen};
 
-use crate::code::{Code, Flow};
 use crate::expressions::{condition, number_of};
 use crate::statements::{execute, perform};
 use cbl_base::Place;
 use checked_tree::{Action, Counter, Task, Typed};
 use run_state::{Out, State};
-use run_values::{Stop, Value};
+use run_steps::code::{Code, Flow};
+use run_steps::effects::put_number;
+use run_values::Stop;
 
 #[cycle(run)]
 #[tactic(auto, unfolding(comet_meaning::specs::Loops::while_form))]
@@ -71,8 +72,8 @@ fn start_counter<O: Out>(
     match counter {
         None => Ok(()),
         Some(counter) => {
-            let number = number_of(s, out, code, room, &counter.start)?;
-            s.put(counter.slot, Value::Number(number))
+            let number = number_of(s, out, code, room, &counter.start);
+            put_number(s, counter.slot, number)
         }
     }
 }

@@ -3,18 +3,19 @@ ghost use Rattle.std.specs.Prelude.{◌≡◌, ℕ, List, []};
 ghost use Rattle.checked_tree.specs.Shape.{shape_of_link};
 ghost use Rattle.comet_meaning.specs.Operators as operators;
 ghost use Rattle.comet_meaning.specs.Program.{level};
-ghost use Rattle.interpreter.specs.Does.{Does};
-ghost use Rattle.interpreter.specs.Views.{code_seen, links_seen, part};
+ghost use Rattle.run_steps.specs.Does.{Does};
+ghost use Rattle.run_steps.specs.Views.{code_seen, links_seen, part};
 ghost use Rattle.run_state.specs.Views.{state_seen};
 ghost use Rattle.run_values.specs.Views.{value_seen};
 
-use crate::code::Code;
 use crate::expressions::{number_of, truth_of, value_as, value_of};
 use cbl_base::Place;
 use checked_tree::{Kind, Link, Typed};
 use comet_syntax::tree::{Comparison, UnaryOperator};
 use run_state::{Out, State};
-use run_values::operators::{compare, decides, linked, unary};
+use run_steps::code::Code;
+use run_steps::operands::{apply_unary, join_operand};
+use run_values::operators::{compare, decides};
 use run_values::{Bounds, Stop, Value};
 
 /// `-e` and `!e`.
@@ -31,8 +32,7 @@ pub(crate) fn evaluate_unary<O: Out>(
 ) -> Result<Value, Stop>
     ensures did { Does value_seen result (state_seen s.new (O.taken out.new)) (operators.unary_form (level (code_seen code.now) room) at operator (part operand.now) (state_seen s.old (O.taken out.old))) }
 {
-    let value = value_of(s, out, code, room, operand)?;
-    unary(at, operator, &value)
+    apply_unary(at, operator, value_of(s, out, code, room, operand))
 }
 
 /// `a == b` and its like.
@@ -146,6 +146,6 @@ fn evaluate_link<O: Out>(
     if decides(link.operator, &value) {
         return Ok(value);
     }
-    let next = value_of(s, out, code, room, &link.operand)?;
-    linked(link.place, link.operator, &value, &next)
+    let operand = value_of(s, out, code, room, &link.operand);
+    join_operand(link, &value, operand)
 }

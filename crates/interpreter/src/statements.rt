@@ -1,6 +1,5 @@
 //! What statements do.
 ghost use Rattle.std.specs.Prelude.{◌≡◌, ℕ, List, map, option_map};
-ghost use Rattle.std.specs.Option.{option_copied};
 ghost use Rattle.checked_tree.specs.Actions.{deed_of};
 ghost use Rattle.checked_tree.specs.Shape.{seen};
 ghost use Rattle.checked_tree.specs.Tasks.{work_of, work_of_act};
@@ -8,14 +7,12 @@ ghost use Rattle.comet_meaning.specs.Limits.{most_depth};
 ghost use Rattle.comet_meaning.specs.Loops.{if_form, if_else_form, tasks_form};
 ghost use Rattle.comet_meaning.specs.Program.{level};
 ghost use Rattle.comet_meaning.specs.Statements.{action_form, alone_form, deed_form, meaning_of_form, return_form};
-ghost use Rattle.interpreter.specs.Does.{Does};
-ghost use Rattle.interpreter.specs.Returns.{returned_by};
-ghost use Rattle.interpreter.specs.Views.{code_seen, flow_seen};
+ghost use Rattle.run_steps.specs.Does.{Does};
+ghost use Rattle.run_steps.specs.Views.{code_seen, flow_seen};
 ghost use Rattle.run_state.specs.Views.{state_seen};
 
 use crate::array_declarations::declare_array;
-use crate::code::{Code, Flow};
-use crate::declarations::{declare, declare_object, declare_variable};
+use crate::declarations::{declare, declare_variable};
 use crate::expressions::{truth_of, value_of};
 use crate::for_all::execute_for_all;
 use crate::loops::{execute_for, execute_while};
@@ -24,6 +21,9 @@ use crate::writes::{step_target, write_value};
 use cbl_base::{Place, RunFault};
 use checked_tree::{Act, Action, Task, Typed};
 use run_state::{Out, State};
+use run_steps::code::{Code, Flow};
+use run_steps::effects::{as_done, as_next, as_returned};
+use run_steps::leaves::{declare_object, returned};
 use run_values::Stop;
 
 /// How many statements and expressions may be executed inside each other.
@@ -151,27 +151,6 @@ fn execute_if_else<O: Out>(
     }
 }
 
-/// The value that an action returns, where it is a `return`.
-#[tactic(auto, unfolding(checked_tree::specs::Actions::deed_of))]
-fn returned(action: &Action) -> Option<&Option<Typed>>
-    ensures { option_map (option_map seen) (option_copied result) ≡ returned_by (deed_of action.now) }
-{
-    match action {
-        Action::Return(value) => Some(value),
-        Action::Empty => None,
-        Action::Declare { .. } => None,
-        Action::DeclareArray { .. } => None,
-        Action::DeclareVariable(_) => None,
-        Action::Make { .. } => None,
-        Action::Write { .. } => None,
-        Action::Swap { .. } => None,
-        Action::Step { .. } => None,
-        Action::Do(_) => None,
-        Action::Choose(_) => None,
-        Action::Print(_) => None,
-    }
-}
-
 /// A statement at a place that holds no statement.
 #[cycle(run)]
 fn execute_action<O: Out>(
@@ -186,10 +165,7 @@ fn execute_action<O: Out>(
 {
     match returned(action) {
         Some(value) => execute_return(s, out, code, room, value),
-        None => {
-            perform(s, out, code, room, at, action)?;
-            Ok(Flow::Next)
-        }
+        None => as_next(perform(s, out, code, room, at, action)),
     }
 }
 
@@ -206,10 +182,7 @@ fn execute_return<O: Out>(
 {
     match value {
         None => Ok(Flow::Returned(None)),
-        Some(value) => {
-            let value = value_of(s, out, code, room, value)?;
-            Ok(Flow::Returned(Some(value)))
-        }
+        Some(value) => as_returned(value_of(s, out, code, room, value)),
     }
 }
 
@@ -246,26 +219,11 @@ pub(crate) fn perform<O: Out>(
         } => write_value(s, out, code, room, at, *operator, target, value),
         Action::Swap { .. } => Ok(()),
         Action::Step { target, step } => step_target(s, out, code, room, at, *step, target),
-        Action::Do(e) => evaluate_alone(s, out, code, room, e),
+        Action::Do(e) => as_done(value_of(s, out, code, room, e)),
         Action::Choose(_) => Ok(()),
         Action::Print(items) => print_all(s, out, code, room, items),
         Action::Return(_) => Ok(()),
     }
-}
-
-#[cycle(run)]
-#[tactic(auto, unfolding(comet_meaning::specs::Statements::alone_form))]
-fn evaluate_alone<O: Out>(
-    s: &mut State,
-    out: &mut O,
-    code: &Code<'_>,
-    room: u32,
-    e: &Typed,
-) -> Result<(), Stop>
-    ensures did { Does (λ _. tt) result (state_seen s.new (O.taken out.new)) (alone_form (level (code_seen code.now) room) (seen e.now) (state_seen s.old (O.taken out.old))) }
-{
-    let _value = value_of(s, out, code, room, e)?;
-    Ok(())
 }
 
 /// What statements do in order, from this state on, with room for 1000 parts inside each other. The state and what was

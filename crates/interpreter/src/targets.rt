@@ -3,16 +3,17 @@ ghost use Rattle.std.specs.Prelude.{◌≡◌, ℕ, List, []};
 ghost use Rattle.checked_tree.specs.Shape.{shape_of};
 ghost use Rattle.comet_meaning.specs.Program.{level};
 ghost use Rattle.comet_meaning.specs.Writes as writes;
-ghost use Rattle.interpreter.specs.Does.{Does};
-ghost use Rattle.interpreter.specs.Views.{code_seen, part};
+ghost use Rattle.run_steps.specs.Does.{Does};
+ghost use Rattle.run_steps.specs.Views.{code_seen, part};
 ghost use Rattle.run_state.specs.Targets.{target_seen};
 ghost use Rattle.run_state.specs.Views.{state_seen};
 
-use crate::code::Code;
 use crate::expressions::{number_of, value_of};
 use cbl_base::{Place, RunFault};
 use checked_tree::{Form, Kind, Typed};
 use run_state::{Out, State, Target};
+use run_steps::code::Code;
+use run_steps::operands::{target_in_array, target_in_grid};
 use run_values::Stop;
 
 /// What an expression stands for where it is written. `Depth` comes at the place of an expression for which there is no
@@ -73,8 +74,8 @@ fn target_of_index<O: Out>(
     ensures did { Does target_seen result (state_seen s.new (O.taken out.new)) (writes.index_target (level (code_seen code.now) room) at (part array.now) (part index.now) (state_seen s.old (O.taken out.old))) }
 {
     let array = value_of(s, out, code, room, array)?;
-    let index = number_of(s, out, code, room, index)?;
-    s.index_target(at, &array, index)
+    let index = number_of(s, out, code, room, index);
+    target_in_array(s, at, &array, index)
 }
 
 /// `a[i,j]`, and `OutOfRange` outside the array.
@@ -94,6 +95,6 @@ fn target_of_cell<O: Out>(
 {
     let grid = value_of(s, out, code, room, grid)?;
     let row = number_of(s, out, code, room, row)?;
-    let column = number_of(s, out, code, room, column)?;
-    s.cell_target(at, &grid, row, column)
+    let column = number_of(s, out, code, room, column);
+    target_in_grid(s, at, &grid, row, column)
 }

@@ -1,25 +1,24 @@
 //! Terms: what expressions stand for where a variable is defined.
-ghost use Rattle.std.specs.Prelude.{◌≡◌, ℕ, pos, List, [], IfOk, IfErr};
+ghost use Rattle.std.specs.Prelude.{◌≡◌, ℕ, List, []};
 ghost use Rattle.checked_tree.specs.Shape.{shape_of};
 ghost use Rattle.comet_meaning.specs.Expressions.{value_of_form};
 ghost use Rattle.comet_meaning.specs.Program.{level};
 ghost use Rattle.comet_meaning.specs.TermForms as terms;
-ghost use Rattle.comet_meaning.specs.Terms.{constant};
-ghost use Rattle.interpreter.specs.Does.{Does};
-ghost use Rattle.interpreter.specs.Parts.{constant_form, joined_from};
-ghost use Rattle.interpreter.specs.Views.{code_seen, links_seen, part};
+ghost use Rattle.run_steps.specs.Does.{Does};
+ghost use Rattle.run_steps.specs.Parts.{constant_form, joined_from};
+ghost use Rattle.run_steps.specs.Views.{code_seen, links_seen, part};
 ghost use Rattle.run_state.specs.Views.{state_seen};
 ghost use Rattle.run_values.specs.Views.{value_seen};
-ghost use Rattle.run_values.specs.declared.stop.Stop.TheVariants.{NoMemory};
 
-use crate::code::Code;
 use crate::expressions::evaluate_form;
 use cbl_base::{Place, RunFault};
 use checked_tree::{Form, Kind, Link, Typed};
 use run_models::Term;
 use run_state::{Out, State};
+use run_steps::code::Code;
+use run_steps::leaves::constant_zero;
+use run_steps::operands::{as_constant, name_term};
 use run_values::{Stop, Value};
-use std::alloc::Global;
 
 /// The term of an expression: a part without incremental variables is its value now. `Depth` comes at the place of an
 /// expression for which there is no room.
@@ -56,9 +55,7 @@ fn constant_term<O: Out>(
 ) -> Result<Term, Stop>
     ensures did { Does (λ t. t) result (state_seen s.new (O.taken out.new)) (constant_form (code_seen code.now) (level (code_seen code.now) room) at kind (shape_of form.now) (state_seen s.old (O.taken out.old))) }
 {
-    let value = evaluate_form(s, out, code, room, at, kind, form)?;
-    let term = Term::number(s.alloc, value.number())?;
-    Ok(term)
+    as_constant(s.alloc, evaluate_form(s, out, code, room, at, kind, form))
 }
 
 /// The term of an expression with incremental variables, by its form.
@@ -74,35 +71,11 @@ fn moving_term<O: Out>(
     ensures did { Does (λ t. t) result (state_seen s.new (O.taken out.new)) (terms.moving_term (level (code_seen code.now) room) (shape_of form.now) (state_seen s.old (O.taken out.old))) }
 {
     match form {
-        Form::Name(slot) => {
-            let value = s.look(*slot)?;
-            term_of_value(s.alloc, &value)
-        }
+        Form::Name(slot) => name_term(s, *slot),
         Form::Parentheses(inner) => term_of(s, out, code, room, inner),
         Form::Chain { first, links } => joined_term(s, out, code, room, first, links),
         _ => constant_zero(s.alloc),
     }
-}
-
-/// The term of a value: a variable is itself. `NoMemory` where there is none for it; there is no other stop.
-fn term_of_value(alloc: Global, value: &Value) -> Result<Term, Stop>
-    ensures term { IfOk result (λ t. t ≡ terms.term_of_value (value_seen value.now)) }
-    ensures memory { IfErr result (λ stop. stop ≡ NoMemory) }
-{
-    let term = match value {
-        Value::Variable(variable) => Term::variable(alloc, *variable)?,
-        _ => Term::number(alloc, value.number())?,
-    };
-    Ok(term)
-}
-
-/// The term of 0. `NoMemory` where there is none for it; there is no other stop.
-fn constant_zero(alloc: Global) -> Result<Term, Stop>
-    ensures term { IfOk result (λ t. t ≡ constant (pos 0)) }
-    ensures memory { IfErr result (λ stop. stop ≡ NoMemory) }
-{
-    let term = Term::number(alloc, 0)?;
-    Ok(term)
 }
 
 /// Operands joined by operators, as one term.

@@ -3,20 +3,19 @@ ghost use Rattle.std.specs.Prelude.{◌≡◌, ◌+ℤ◌, ◌-ℤ◌, ℕ, List
 ghost use Rattle.checked_tree.specs.Shape.{seen};
 ghost use Rattle.comet_meaning.specs.Program.{level};
 ghost use Rattle.comet_meaning.specs.Writes.{add_form, assign_form, step_form, write_form};
-ghost use Rattle.interpreter.specs.Does.{Does};
-ghost use Rattle.interpreter.specs.Views.{code_seen};
+ghost use Rattle.run_steps.specs.Does.{Does};
+ghost use Rattle.run_steps.specs.Views.{code_seen};
 ghost use Rattle.run_state.specs.Views.{state_seen};
 
-use crate::code::Code;
 use crate::expressions::{number_of, value_of};
 use crate::targets::target_of;
 use cbl_base::Place;
 use checked_tree::Typed;
 use comet_syntax::tree::{Step, WriteOperator};
-use run_objects::{added, stepped, subtracted, write};
 use run_state::{Out, State};
+use run_steps::code::Code;
+use run_steps::effects::{add_part, assign_part, step_part, subtract_part};
 use run_values::Stop;
-use run_values::values::as_kind;
 
 /// `target = value` and its like, at a place.
 #[cycle(run)]
@@ -58,8 +57,8 @@ fn assign<O: Out>(
 {
     let kind = target.kind;
     let target = target_of(s, out, code, room, target)?;
-    let value = value_of(s, out, code, room, value)?;
-    write(s, at, &target, as_kind(kind, value))
+    let value = value_of(s, out, code, room, value);
+    assign_part(s, at, kind, &target, value)
 }
 
 /// `target += value`
@@ -78,8 +77,8 @@ fn add_value<O: Out>(
 {
     let target = target_of(s, out, code, room, target)?;
     let old = s.old_value(&target)?;
-    let number = number_of(s, out, code, room, value)?;
-    added(s, at, &target, old.number(), number)
+    let number = number_of(s, out, code, room, value);
+    add_part(s, at, &target, &old, number)
 }
 
 /// `target -= value`
@@ -98,8 +97,8 @@ fn subtract_value<O: Out>(
 {
     let target = target_of(s, out, code, room, target)?;
     let old = s.old_value(&target)?;
-    let number = number_of(s, out, code, room, value)?;
-    subtracted(s, at, &target, old.number(), number)
+    let number = number_of(s, out, code, room, value);
+    subtract_part(s, at, &target, &old, number)
 }
 
 /// `target++` and `target--`
@@ -116,7 +115,6 @@ pub(crate) fn step_target<O: Out>(
 ) -> Result<(), Stop>
     ensures did { Does (λ _. tt) result (state_seen s.new (O.taken out.new)) (step_form (level (code_seen code.now) room) at step (seen target.now) (state_seen s.old (O.taken out.old))) }
 {
-    let target = target_of(s, out, code, room, target)?;
-    let old = s.old_value(&target)?;
-    stepped(s, at, &target, step, old.number())
+    let target = target_of(s, out, code, room, target);
+    step_part(s, at, step, target)
 }

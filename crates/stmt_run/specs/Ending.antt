@@ -5,7 +5,7 @@ use Rattle.comet_meaning.specs.Outcome.{Faulted, SpentAt}
 use Rattle.comet_meaning.specs.Onward.{IsFront}
 use Rattle.comet_meaning.specs.Program.{End, Meant}
 use Rattle.comet_meaning.specs.Program as programs
-use Rattle.interpreter.specs.declared.code.Flow.{Flow}
+use Rattle.run_steps.specs.declared.code.Flow.{Flow}
 use Rattle.run_values.specs.declared.stop.Stop.{Stop}
 use Rattle.run_values.specs.declared.stop.Stop.TheVariants as stops
 use Rattle.stmt_run.specs.declared.execution.RunEnd.{RunEnd}

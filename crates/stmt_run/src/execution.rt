@@ -2,8 +2,8 @@
 ghost use Rattle.std.specs.Prelude.{◌≡◌};
 ghost use Rattle.checked_tree.specs.Tasks.{program_of};
 ghost use Rattle.comet_meaning.specs.Program as programs;
-ghost use Rattle.interpreter.specs.Does.{Does};
-ghost use Rattle.interpreter.specs.Views.{flow_seen};
+ghost use Rattle.run_steps.specs.Does.{Does};
+ghost use Rattle.run_steps.specs.Views.{flow_seen};
 ghost use Rattle.run_state.specs.Views.{state_seen};
 ghost use Rattle.stmt_run.specs.Ending.{EndsAs, end_seen};
 

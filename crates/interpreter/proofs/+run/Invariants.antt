@@ -1,9 +1,9 @@
-use Rattle.interpreter.proofs.AggregateLaws.{gathers}
-use Rattle.interpreter.specs.Views.{part_or_none, code_seen, part, row, links_seen, generators_seen}
+use Rattle.run_steps.proofs.AggregateLaws.{gathers}
+use Rattle.run_steps.specs.Views.{part_or_none, code_seen, part, row, links_seen, generators_seen}
 use Rattle.comet_meaning.specs.Aggregates.{element_form}
 use Rattle.comet_meaning.specs.Generators.{each_tuple}
 use Rattle.comet_meaning.specs.Outcome.{always}
-use Rattle.interpreter.specs.OpenTuples.{Visits, Remains, bounds_of, stack_seen}
+use Rattle.run_steps.specs.OpenTuples.{Visits, Remains, bounds_of, stack_seen}
 use Rattle.std.proofs.Common.{◌≤◌, ◌<◌, ◌≡◌, ◌+◌, ◌*◌, [], map, length, Bor, ◌-ℤ◌, ◌≤ℤ◌, option_map}
 use Rattle.checked_tree.specs.Shape.{shape_of_link, optional, seen, shape_of_generator, whole}
 use Rattle.comet_meaning.specs.Calls.{arguments_form}
@@ -23,11 +23,11 @@ use Rattle.comet_meaning.specs.Declarations.{dimensions_form, next_cell}
 use Rattle.comet_meaning.specs.Loops.{repeated, tasks_form, turn_form, for_all_form}
 use Rattle.comet_meaning.specs.Printing.{print_form}
 use Rattle.comet_meaning.specs.Statements.{step_of}
-use Rattle.interpreter.proofs.Steps.{TurnsLeft}
+use Rattle.run_steps.proofs.Steps.{TurnsLeft}
 use Rattle.comet_meaning.proofs.GoingStatements.{goes_level}
-use Rattle.interpreter.proofs.Visiting.{visits}
-use Rattle.interpreter.specs.Extents.{along, extent_seen}
-use Rattle.interpreter.proofs.Filling.{AlongLeft}
+use Rattle.run_steps.proofs.Visiting.{visits}
+use Rattle.run_steps.specs.Extents.{along, extent_seen}
+use Rattle.run_steps.proofs.Filling.{AlongLeft}
 use Rattle.interpreter.proofs.+run.Given as goal
 
 -- how many parts may still be executed inside each other, and how far a function of the same part is from them
@@ -206,9 +206,6 @@ decreases-statements::execute_if_else g l = 73786976294838206464 * l.room + 10
 abbrev pub decreases-statements::execute_return : goal.decreases-statements::execute_return
 decreases-statements::execute_return g l = 73786976294838206464 * l.room + 10
 
-abbrev pub decreases-statements::evaluate_alone : goal.decreases-statements::evaluate_alone
-decreases-statements::evaluate_alone g l = 73786976294838206464 * l.room + 10
-
 abbrev pub decreases-statements::perform : goal.decreases-statements::perform
 decreases-statements::perform g l = 73786976294838206464 * l.room + 36893488147419103263
 
@@ -217,9 +214,6 @@ decreases-statements::execute_action g l = 73786976294838206464 * l.room + 36893
 
 abbrev pub decreases-statements::execute_act : goal.decreases-statements::execute_act
 decreases-statements::execute_act g l = 73786976294838206464 * l.room + 36893488147419103270
-
-abbrev pub decreases-printing::show_value : goal.decreases-printing::show_value
-decreases-printing::show_value g l = 73786976294838206464 * l.room + 10
 
 abbrev pub decreases-printing::show : goal.decreases-printing::show
 decreases-printing::show g l = 73786976294838206464 * l.room + 11
@@ -241,9 +235,6 @@ decreases-writes::step_target g l = 73786976294838206464 * l.room + 10
 
 abbrev pub decreases-writes::write_value : goal.decreases-writes::write_value
 decreases-writes::write_value g l = 73786976294838206464 * l.room + 11
-
-abbrev pub decreases-declarations::declare_with : goal.decreases-declarations::declare_with
-decreases-declarations::declare_with g l = 73786976294838206464 * l.room + 10
 
 abbrev pub decreases-declarations::declare : goal.decreases-declarations::declare
 decreases-declarations::declare g l = 73786976294838206464 * l.room + 11

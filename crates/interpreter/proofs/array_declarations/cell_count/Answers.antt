@@ -1,9 +1,0 @@
-use Rattle.std.proofs.Common.{arith, refl, rules}
-use Rattle.interpreter.proofs.Filling.{count_ends, count_over, count_starts, count_step, product_fits}
-use Rattle.interpreter.proofs.array_declarations.cell_count.Goals as goal
-
-pub loop-extent-init : goal.loop-extent-init
-loop-extent-init c = count_starts _
-
-pub loop-extent-preserved : goal.loop-extent-preserved
-loop-extent-preserved c = rw c.counted_along-count.ensures (count_step _ _ _ _ c.loop-extent.invariant c.loop-extent-test.true)

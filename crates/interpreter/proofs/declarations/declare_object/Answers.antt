@@ -1,7 +1,0 @@
-use Rattle.std.proofs.Common.{refl}
-use Rattle.comet_meaning.proofs.GoingStatements.{goes_object}
-use Rattle.interpreter.proofs.Stops.{does}
-use Rattle.interpreter.proofs.declarations.declare_object.Goals as goal
-
-pub returns : goal.returns
-returns g c = record { did = does _ _ _ _ (goes_object _ _) refl (c.make_object.ensures.did _) }

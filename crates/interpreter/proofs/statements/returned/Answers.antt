@@ -1,7 +1,0 @@
-use Rattle.std.proofs.Common.{refl}
-use Rattle.checked_tree.specs.Actions.{deed_of}
-use Rattle.interpreter.proofs.statements.returned.Goals as goal
-
-pub returns-in-Return : goal.returns-in-Return
-unfolding deed_of
-returns-in-Return c = rw c.in-Return.is refl

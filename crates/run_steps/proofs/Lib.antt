@@ -1,0 +1,16 @@
+pub mod Exits
+pub mod Levels
+pub mod Goes
+pub mod Forms
+pub mod Words
+pub mod Shapes
+pub mod PendingLaws
+pub mod BeginLaws
+pub mod TupleLaws
+pub mod AggregateLaws
+pub mod Stops
+pub mod Trees
+pub mod Steps
+pub mod Filling
+pub mod Visiting
+pub mod Behind

@@ -1,0 +1,9 @@
+use Rattle.std.proofs.Common.{arith, refl, rules}
+use Rattle.run_steps.proofs.Filling.{count_ends, count_over, count_starts, count_step, product_fits}
+use Rattle.run_steps.proofs.cells.cell_count.Goals as goal
+
+pub loop-extent-init : goal.loop-extent-init
+loop-extent-init c = count_starts _
+
+pub loop-extent-preserved : goal.loop-extent-preserved
+loop-extent-preserved c = rw c.counted_along-count.ensures (count_step _ _ _ _ c.loop-extent.invariant c.loop-extent-test.true)

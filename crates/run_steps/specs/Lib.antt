@@ -1,0 +1,9 @@
+pub mod Views
+pub mod Does
+pub mod OpenTuples
+pub mod Parts
+pub mod Returns
+pub mod Copies
+pub mod Extents
+pub mod Following
+pub mod Operands

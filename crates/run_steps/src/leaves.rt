@@ -1,0 +1,96 @@
+//! What forms ask of their parts and of values, where nothing is evaluated.
+ghost use Rattle.std.specs.Prelude.{◌≡◌, ℕ, pos, IfOk, IfErr, option_map};
+ghost use Rattle.std.specs.Option.{option_copied};
+ghost use Rattle.checked_tree.specs.Actions.{deed_of};
+ghost use Rattle.checked_tree.specs.Shape.{seen};
+ghost use Rattle.comet_meaning.specs.Declarations.{object_form};
+ghost use Rattle.comet_meaning.specs.Parts as parts;
+ghost use Rattle.comet_meaning.specs.TermForms as terms;
+ghost use Rattle.comet_meaning.specs.Terms.{constant};
+ghost use Rattle.run_state.specs.Views.{state_seen};
+ghost use Rattle.run_steps.specs.Copies.{is_array};
+ghost use Rattle.run_steps.specs.Does.{Does};
+ghost use Rattle.run_steps.specs.Returns.{returned_by};
+ghost use Rattle.run_steps.specs.Views.{part};
+ghost use Rattle.run_values.specs.Views.{value_seen};
+ghost use Rattle.run_values.specs.declared.stop.Stop.TheVariants.{NoMemory};
+
+use cbl_base::Place;
+use checked_tree::{Action, Form, Kind, Slot, Typed};
+use run_models::Term;
+use run_objects::make_object;
+use run_state::{Out, State};
+use run_values::{Stop, Value};
+use std::alloc::Global;
+
+/// Where a variable is read: at its name or its index, also in parentheses.
+#[tactic(auto, unfolding(checked_tree::specs::Shape::shape_of))]
+pub fn read_place(e: &Typed) -> Place
+    ensures { result ≡ parts.read_place (part e.now) }
+{
+    match &e.form {
+        Form::Parentheses(inner) => read_place(inner),
+        _ => e.place,
+    }
+}
+
+/// The value that an action returns, where it is a `return`.
+#[tactic(auto, unfolding(checked_tree::specs::Actions::deed_of))]
+pub fn returned(action: &Action) -> Option<&Option<Typed>>
+    ensures { option_map (option_map seen) (option_copied result) ≡ returned_by (deed_of action.now) }
+{
+    match action {
+        Action::Return(value) => Some(value),
+        Action::Empty => None,
+        Action::Declare { .. } => None,
+        Action::DeclareArray { .. } => None,
+        Action::DeclareVariable(_) => None,
+        Action::Make { .. } => None,
+        Action::Write { .. } => None,
+        Action::Swap { .. } => None,
+        Action::Step { .. } => None,
+        Action::Do(_) => None,
+        Action::Choose(_) => None,
+        Action::Print(_) => None,
+    }
+}
+
+/// Whether a name of this kind has an array that is copied at its declaration.
+pub fn is_array(kind: Kind) -> bool
+    ensures { result ≡ is_array kind }
+{
+    matches!(kind, Kind::Array)
+}
+
+/// An object that is declared, or that a name is given by `new`.
+pub fn declare_object<O: Out>(
+    s: &mut State,
+    out: &mut O,
+    slot: Slot,
+    kind: Kind,
+) -> Result<(), Stop>
+    ensures did { Does (λ _. tt) result (state_seen s.new (O.taken out.new)) (object_form slot kind (state_seen s.old (O.taken out.old))) }
+{
+    make_object(s, slot, kind)
+}
+
+/// The term of a value: a variable is itself. `NoMemory` where there is none for it; there is no other stop.
+pub fn term_of_value(alloc: Global, value: &Value) -> Result<Term, Stop>
+    ensures term { IfOk result (λ t. t ≡ terms.term_of_value (value_seen value.now)) }
+    ensures memory { IfErr result (λ stop. stop ≡ NoMemory) }
+{
+    let term = match value {
+        Value::Variable(variable) => Term::variable(alloc, *variable)?,
+        _ => Term::number(alloc, value.number())?,
+    };
+    Ok(term)
+}
+
+/// The term of 0. `NoMemory` where there is none for it; there is no other stop.
+pub fn constant_zero(alloc: Global) -> Result<Term, Stop>
+    ensures term { IfOk result (λ t. t ≡ constant (pos 0)) }
+    ensures memory { IfErr result (λ stop. stop ≡ NoMemory) }
+{
+    let term = Term::number(alloc, 0)?;
+    Ok(term)
+}

@@ -1,0 +1,13 @@
+//! The steps of a run that evaluate nothing: open generators, the cells of an array before it is filled, and what forms
+//! ask of their parts.
+//!
+//! It knows nothing of how expressions are evaluated or statements executed. The layers above use that each function
+//! does what the meaning of programs says, and the views of functions and flows.
+#![tactic(auto)]
+
+pub mod cells;
+pub mod code;
+pub mod effects;
+pub mod leaves;
+pub mod operands;
+pub mod tuples;

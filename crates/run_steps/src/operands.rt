@@ -1,0 +1,255 @@
+//! What is done with the last operand of a form. Each function takes the operand's answer as it is, and an end of the
+//! run passes on: so the evaluation has no exit of its own for it.
+ghost use Rattle.std.specs.Prelude.{◌≡◌, ℕ, ℤ, List, [], ◌∷◌, ◌++◌, IfOk, IfErr, map};
+ghost use Rattle.checked_tree.specs.Shape.{seen, whole};
+ghost use Rattle.comet_meaning.specs.Operators as operators;
+ghost use Rattle.comet_meaning.specs.Outcome.{give};
+ghost use Rattle.comet_meaning.specs.Parts as parts;
+ghost use Rattle.comet_meaning.specs.State as states;
+ghost use Rattle.comet_meaning.specs.Terms.{constant};
+ghost use Rattle.comet_meaning.specs.Values.{as_kind, bounds_of, number_of, truth_of};
+ghost use Rattle.run_state.specs.Acts.{cell_written, counted, index_written, indexed, indexed_twice};
+ghost use Rattle.run_state.specs.Targets.{target_seen};
+ghost use Rattle.run_state.specs.Views.{state_seen};
+ghost use Rattle.run_steps.specs.Does.{Does};
+ghost use Rattle.run_steps.specs.Following.{Follows};
+ghost use Rattle.run_steps.specs.Operands.{called_builtin, called_method, named_term};
+ghost use Rattle.run_steps.specs.Views.{part};
+ghost use Rattle.run_values.specs.Views.{bounds_seen, value_seen};
+ghost use Rattle.run_values.specs.declared.stop.Stop.TheVariants.{NoMemory};
+
+use crate::leaves::{read_place, term_of_value};
+use cbl_base::Place;
+use checked_tree::{Builtin, Kind, Link, Method, Slot, Typed};
+use comet_syntax::tree::UnaryOperator;
+use run_models::Term;
+use run_objects::{method as call_method, read};
+use run_state::{State, Target};
+use run_values::builtins::builtin;
+use run_values::operators::{linked, unary};
+use run_values::values::as_kind;
+use run_values::{Bounds, Stop, Value};
+use std::alloc::Global;
+
+/// The value of a part that was evaluated: a variable is read.
+pub fn read_part(s: &State, e: &Typed, value: Result<Value, Stop>) -> Result<Value, Stop>
+    ensures did { (printed : List ℕ) → Follows value_seen value_seen value result (state_seen s.now printed) (state_seen s.now printed) (parts.read (parts.read_place (part e.now))) }
+{
+    match value {
+        Err(stop) => Err(stop),
+        Ok(value) => read(s, read_place(e), value),
+    }
+}
+
+/// A value as a number.
+pub fn as_number(value: Result<Value, Stop>) -> Result<i64, Stop>
+    ensures did { (s : states.State) → Follows value_seen (λ z. z) value result s s (λ v. give (number_of v)) }
+{
+    match value {
+        Err(stop) => Err(stop),
+        Ok(value) => Ok(value.number()),
+    }
+}
+
+/// A value as a truth value.
+pub fn as_truth(value: Result<Value, Stop>) -> Result<bool, Stop>
+    ensures did { (s : states.State) → Follows value_seen (λ b. b) value result s s (λ v. give (truth_of v)) }
+{
+    match value {
+        Err(stop) => Err(stop),
+        Ok(value) => Ok(value.truth()),
+    }
+}
+
+/// A value as the bounds of a range.
+pub fn as_bounds(value: Result<Value, Stop>) -> Result<Bounds, Stop>
+    ensures did { (s : states.State) → Follows value_seen bounds_seen value result s s (λ v. give (bounds_of v)) }
+{
+    match value {
+        Err(stop) => Err(stop),
+        Ok(value) => Ok(value.bounds()),
+    }
+}
+
+/// A value as a name of this kind holds it.
+pub fn as_held(kind: Kind, value: Result<Value, Stop>) -> Result<Value, Stop>
+    ensures did { (s : states.State) → Follows value_seen value_seen value result s s (λ v. give (as_kind kind v)) }
+{
+    match value {
+        Err(stop) => Err(stop),
+        Ok(value) => Ok(as_kind(kind, value)),
+    }
+}
+
+/// `-e` and `!e`
+pub fn apply_unary(
+    at: Place,
+    operator: UnaryOperator,
+    operand: Result<Value, Stop>,
+) -> Result<Value, Stop>
+    ensures did { (s : states.State) → Follows value_seen value_seen operand result s s (operators.unary_result at operator) }
+{
+    match operand {
+        Err(stop) => Err(stop),
+        Ok(value) => unary(at, operator, &value),
+    }
+}
+
+/// The value of a chain so far with one more operand.
+pub fn join_operand(
+    link: &Link,
+    so_far: &Value,
+    operand: Result<Value, Stop>,
+) -> Result<Value, Stop>
+    ensures did { (s : states.State) → Follows value_seen value_seen operand result s s (operators.linked link.now.place link.now.operator (value_seen so_far.now)) }
+{
+    match operand {
+        Err(stop) => Err(stop),
+        Ok(next) => linked(link.place, link.operator, so_far, &next),
+    }
+}
+
+/// `a[i]`, of the array and the index.
+pub fn index_array(
+    s: &State,
+    at: Place,
+    array: &Value,
+    index: Result<i64, Stop>,
+) -> Result<Value, Stop>
+    ensures did { (printed : List ℕ) → Follows (λ z. z) value_seen index result (state_seen s.now printed) (state_seen s.now printed) (indexed at (value_seen array.now)) }
+{
+    match index {
+        Err(stop) => Err(stop),
+        Ok(index) => s.index(at, array, index),
+    }
+}
+
+/// `a[i,j]`, of the array and the indices.
+pub fn index_grid(
+    s: &State,
+    at: Place,
+    grid: &Value,
+    row: i64,
+    column: Result<i64, Stop>,
+) -> Result<Value, Stop>
+    ensures did { (printed : List ℕ) → Follows (λ z. z) value_seen column result (state_seen s.now printed) (state_seen s.now printed) (indexed_twice at (value_seen grid.now) row) }
+{
+    match column {
+        Err(stop) => Err(stop),
+        Ok(column) => s.cell(at, grid, row, column),
+    }
+}
+
+/// `a[i]` where it is written.
+pub fn target_in_array(
+    s: &State,
+    at: Place,
+    array: &Value,
+    index: Result<i64, Stop>,
+) -> Result<Target, Stop>
+    ensures did { (printed : List ℕ) → Follows (λ z. z) target_seen index result (state_seen s.now printed) (state_seen s.now printed) (index_written at (value_seen array.now)) }
+{
+    match index {
+        Err(stop) => Err(stop),
+        Ok(index) => s.index_target(at, array, index),
+    }
+}
+
+/// `a[i,j]` where it is written.
+pub fn target_in_grid(
+    s: &State,
+    at: Place,
+    grid: &Value,
+    row: i64,
+    column: Result<i64, Stop>,
+) -> Result<Target, Stop>
+    ensures did { (printed : List ℕ) → Follows (λ z. z) target_seen column result (state_seen s.now printed) (state_seen s.now printed) (cell_written at (value_seen grid.now) row) }
+{
+    match column {
+        Err(stop) => Err(stop),
+        Ok(column) => s.cell_target(at, grid, row, column),
+    }
+}
+
+/// `count(a, e)`, of the array, which stands at the second place, and the number.
+pub fn count_in_array(
+    s: &mut State,
+    at: Place,
+    place: Place,
+    array: &Value,
+    number: Result<i64, Stop>,
+) -> Result<Value, Stop>
+    ensures did { (printed : List ℕ) → Follows (λ z. z) value_seen number result (state_seen s.old printed) (state_seen s.new printed) (counted at place (value_seen array.now)) }
+{
+    match number {
+        Err(stop) => Err(stop),
+        Ok(number) => s.count(at, place, array, number),
+    }
+}
+
+/// A function of the language: a unit for the call, and then its value.
+pub fn call_builtin(
+    s: &mut State,
+    at: Place,
+    function: Builtin,
+    arguments: Result<Vec<Value>, Stop>,
+) -> Result<Value, Stop>
+    ensures did { (printed : List ℕ) → Follows (λ values. map value_seen values.items) value_seen arguments result (state_seen s.old printed) (state_seen s.new printed) (called_builtin at function) }
+{
+    match arguments {
+        Err(stop) => Err(stop),
+        Ok(values) => {
+            s.charge(1, at)?;
+            builtin(s.alloc, at, function, &values)
+        }
+    }
+}
+
+/// A method: a unit for the call, and then what it does.
+pub fn call_on(
+    s: &mut State,
+    at: Place,
+    method: Method,
+    object: &Typed,
+    value: &Value,
+    arguments: Result<Vec<Value>, Stop>,
+) -> Result<Value, Stop>
+    ensures did { (printed : List ℕ) → Follows (λ values. map value_seen values.items) value_seen arguments result (state_seen s.old printed) (state_seen s.new printed) (called_method at method (whole (seen object.now)) (value_seen value.now)) }
+{
+    match arguments {
+        Err(stop) => Err(stop),
+        Ok(values) => {
+            s.charge(1, at)?;
+            call_method(s, at, method, object, value, &values)
+        }
+    }
+}
+
+/// The term of a number. `NoMemory` where there is none for it; there is no other stop.
+fn number_term(alloc: Global, number: i64) -> Result<Term, Stop>
+    ensures term { IfOk result (λ t. t ≡ constant number) }
+    ensures memory { IfErr result (λ stop. stop ≡ NoMemory) }
+{
+    let term = Term::number(alloc, number)?;
+    Ok(term)
+}
+
+/// A value without incremental variables, as a term.
+pub fn as_constant(alloc: Global, value: Result<Value, Stop>) -> Result<Term, Stop>
+    ensures did { (s : states.State) → Follows value_seen (λ t. t) value result s s (λ v. give (constant (number_of v))) }
+{
+    match value {
+        Err(stop) => Err(stop),
+        Ok(value) => number_term(alloc, value.number()),
+    }
+}
+
+/// The term of a name: of a variable the variable itself.
+pub fn name_term(s: &State, slot: Slot) -> Result<Term, Stop>
+    ensures did { (printed : List ℕ) → Does (λ t. t) result (state_seen s.now printed) (named_term slot (state_seen s.now printed)) }
+{
+    match s.look(slot) {
+        Err(stop) => Err(stop),
+        Ok(value) => term_of_value(s.alloc, &value),
+    }
+}
