@@ -1,4 +1,5 @@
--- What only spends fuel, and what binds names besides: giving, halting, charging, one part after another.
+-- What only spends fuel, and what binds names besides, and sees nothing outside: giving, halting, charging, one part after
+-- another.
 use Rattle.std.proofs.Common.{◌≡◌, refl, ap, ◌∙◌, ℕ, zero, suc, ◌-◌, ℤ, pos, ◌+ℤ◌, Bool, true, false, List, [], ◌∷◌, nat_le, Option, Some, None, Result, Ok, Err, if◌then◌else◌}
 use Rattle.cbl_base.specs.declared.place.Place.{Place}
 use Rattle.cbl_base.specs.declared.faults.RunFault.{RunFault}
@@ -7,8 +8,8 @@ use Rattle.comet_meaning.specs.Values.{Value, Range, Set}
 use Rattle.comet_meaning.specs.Terms.{Failure}
 use Rattle.comet_meaning.specs.State.{State, left}
 use Rattle.comet_meaning.specs.Outcome.{Outcome, Went, Halted, SpentAt, Act, then_do, ◌>>=◌, give, fault, give_or, give_or_met, unless, charge, each_of, each_from, each_in}
-use Rattle.comet_meaning.specs.Cells.{look, put, back_in, in_scope, in_frame, cells, found_at}
-use Rattle.comet_meaning.specs.Spending.{IsSpent, IsBound, OnlySpends, OnlyBinds}
+use Rattle.comet_meaning.specs.Cells.{held, look, put, back_in, in_scope, in_frame, cells_of, cells, found_at}
+use Rattle.comet_meaning.specs.Spending.{IsSpent, IsBound, Outside, with_outside, leaving, SeesInside, OnlySpends, OnlyBinds}
 
 -- steps
 
@@ -26,6 +27,14 @@ bound_then {B = B} s (Went x t) f h k = behind (f x t) ((k x).from t) where
   behind (Halted b u) e = e ∙ ap {A = State} (λ v. v.printed) h
 bound_then s (Halted b t) f h k = h
 
+inside_then : {A B : Type 0} (o : Outside) (p : Outcome A) (f : A → Act B) → ((x : A) → SeesInside (f x)) → then_do (leaving o p) f ≡ leaving o (then_do p f)
+inside_then o (Went x t) f k = k x o t
+inside_then o (Halted b t) f k = refl
+
+-- one part after another
+sees_then : {A B : Type 0} (m : Act A) (f : A → Act B) → SeesInside m → ((x : A) → SeesInside (f x)) → SeesInside (m >>= f)
+sees_then m f h k = λ o s. ap (λ p. then_do p f) (h o s) ∙ inside_then o (m s) f k
+
 bound_of_spent : {A : Type 0} (s : State) (o : Outcome A) → IsSpent s o → IsBound s o
 bound_of_spent s (Went x t) h = h ∙ ap (λ v. record s { fuel = t.fuel; frame = v }) (framed (ap (λ v. v.frame) h)) where
   framed : t.frame ≡ s.frame → s.frame ≡ t.frame
@@ -33,19 +42,19 @@ bound_of_spent s (Went x t) h = h ∙ ap (λ v. record s { fuel = t.fuel; frame 
 bound_of_spent s (Halted b t) h = h
 
 pub binds : {A : Type 0} {m : Act A} → OnlySpends m → OnlyBinds m
-binds {m = m} h = record { from = λ s. bound_of_spent s (m s) (h.from s) }
+binds {m = m} h = record { from = λ s. bound_of_spent s (m s) (h.from s); inside = h.inside }
 
 pub spends_then : {A B : Type 0} {m : Act A} {f : A → Act B} → OnlySpends m → ((x : A) → OnlySpends (f x)) → OnlySpends (m >>= f)
-spends_then {m = m} {f = f} h k = record { from = λ s. spent_then s (m s) f (h.from s) k }
+spends_then {m = m} {f = f} h k = record { from = λ s. spent_then s (m s) f (h.from s) k; inside = sees_then m f h.inside (λ x. (k x).inside) }
 
 pub binds_then : {A B : Type 0} {m : Act A} {f : A → Act B} → OnlyBinds m → ((x : A) → OnlyBinds (f x)) → OnlyBinds (m >>= f)
-binds_then {m = m} {f = f} h k = record { from = λ s. bound_then s (m s) f (h.from s) k }
+binds_then {m = m} {f = f} h k = record { from = λ s. bound_then s (m s) f (h.from s) k; inside = sees_then m f h.inside (λ x. (k x).inside) }
 
 pub spends_give : {A : Type 0} {x : A} → OnlySpends (give x)
-spends_give = record { from = λ s. refl }
+spends_give = record { from = λ s. refl; inside = λ o s. refl }
 
 pub spends_fault : {A : Type 0} {at : Place} {f : RunFault} → OnlySpends {A = A} (fault at f)
-spends_fault = record { from = λ s. refl }
+spends_fault = record { from = λ s. refl; inside = λ o s. refl }
 
 pub spends_if : {A : Type 0} {m n : Act A} (b : Bool) → OnlySpends m → OnlySpends n → OnlySpends (if b then m else n)
 spends_if true h k = h
@@ -71,12 +80,19 @@ charged : (b : Bool) (units : ℕ) (at : Place) (s : State) → IsSpent {A = Uni
 charged true units at s = refl
 charged false units at s = refl
 
+abbrev charged_outcome : Bool → ℕ → Place → State → Outcome (Unit {0})
+charged_outcome b units at s = if b then Went tt (record s { fuel = s.fuel - units }) else Halted (SpentAt at) (left s)
+
+charged_inside : (b : Bool) (units : ℕ) (at : Place) (o : Outside) (s : State) → charged_outcome b units at (with_outside o s) ≡ leaving o (charged_outcome b units at s)
+charged_inside true units at o s = refl
+charged_inside false units at o s = refl
+
 pub spends_charge : (units : ℕ) (at : Place) → OnlySpends (charge units at)
 unfolding charge
-spends_charge units at = record { from = λ s. charged (nat_le units s.fuel) units at s }
+spends_charge units at = record { from = λ s. charged (nat_le units s.fuel) units at s; inside = λ o s. charged_inside (nat_le units s.fuel) units at o s }
 
-pub spends_at : {A : Type 0} {f : State → Act A} → ((s : State) → OnlySpends (f s)) → OnlySpends (λ s. f s s)
-spends_at k = record { from = λ s. (k s).from s }
+pub spends_at : {A : Type 0} {f : State → Act A} → ((o : Outside) (s : State) → f (with_outside o s) ≡ f s) → ((s : State) → OnlySpends (f s)) → OnlySpends (λ s. f s s)
+spends_at {f = f} e k = record { from = λ s. (k s).from s; inside = λ o s. ap (λ m. m (with_outside o s)) (e o s) ∙ (k s).inside o s }
 
 -- loops
 
@@ -98,19 +114,26 @@ binds_each_in more f v x k = binds spends_give
 
 pub spends_look : (slot : Slot) → OnlySpends (look slot)
 unfolding look
-spends_look slot = record { from = λ s. refl }
+spends_look slot = record { from = λ s. refl; inside = λ o s. looked slot o s } where
+  looked : (slot : Slot) (o : Outside) (s : State) → Went (held (with_outside o s) slot) (with_outside o s) ≡ Went (held s slot) (with_outside o s)
+  looked (Slot.Global i) o s = refl
+  looked (Slot.Local i) o s = refl
 
 pub binds_put : (i : ℕ) (v : Value) → OnlyBinds (put (Slot.Local i) v)
 unfolding put
-binds_put i v = record { from = λ s. refl }
+binds_put i v = record { from = λ s. refl; inside = λ o s. refl }
 
 scoped : {A : Type 0} (s : State) (o : Outcome A) → IsBound s o → IsSpent s (then_do o (back_in s.frame))
 scoped s (Went x t) h = ap {A = State} (λ v. record v { frame = s.frame }) h
 scoped s (Halted b t) h = h
 
+scoped_inside : {A : Type 0} (frame : List Value) (o : Outside) (p : Outcome A) → then_do (leaving o p) (back_in frame) ≡ leaving o (then_do p (back_in frame))
+scoped_inside frame o (Went x t) = refl
+scoped_inside frame o (Halted b t) = refl
+
 pub spends_in_scope : {A : Type 0} {m : Act A} → OnlyBinds m → OnlySpends (in_scope m)
 unfolding in_scope
-spends_in_scope {m = m} h = record { from = λ s. scoped s (m s) (h.from s) }
+spends_in_scope {m = m} h = record { from = λ s. scoped s (m s) (h.from s); inside = λ o s. ap (λ p. then_do p (back_in s.frame)) (h.inside o s) ∙ scoped_inside s.frame o (m s) }
 
 framed_bound : {A : Type 0} (frame : List Value) (s : State) (o : Outcome A) → IsBound (record s { frame = frame }) o → IsBound s o
 framed_bound frame s (Went x t) h = h
@@ -118,11 +141,15 @@ framed_bound frame s (Halted b t) h = h
 
 pub binds_in_frame : {A : Type 0} (frame : List Value) {m : Act A} → OnlyBinds m → OnlyBinds (in_frame frame m)
 unfolding in_frame
-binds_in_frame frame {m = m} h = record { from = λ s. framed_bound frame s (m (record s { frame = frame })) (h.from (record s { frame = frame })) }
+binds_in_frame frame {m = m} h = record { from = λ s. framed_bound frame s (m (record s { frame = frame })) (h.from (record s { frame = frame })); inside = λ o s. h.inside o (record s { frame = frame }) }
 
 pub spends_cells : (v : Value) → OnlySpends (cells v)
 unfolding cells
-spends_cells v = record { from = λ s. refl }
+spends_cells v = record { from = λ s. refl; inside = λ o s. taken v o s } where
+  taken : (v : Value) (o : Outside) (s : State) → Went (cells_of (with_outside o s) v) (with_outside o s) ≡ Went (cells_of s v) (with_outside o s)
+  taken (Value.Array n) o s = refl
+  taken (Value.Row xs) o s = refl
+  taken v o s = refl
 
 pub spends_found_at : (at : Place) (k : Option ℕ) → OnlySpends (found_at at k)
 spends_found_at at None = spends_fault

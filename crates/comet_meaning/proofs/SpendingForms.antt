@@ -28,7 +28,7 @@ use Rattle.comet_meaning.specs.Solvers.{SolverState}
 use Rattle.comet_meaning.specs.Outcome.{Act, always}
 use Rattle.comet_meaning.specs.Cells.{put}
 use Rattle.comet_meaning.specs.Levels.{Code, Level}
-use Rattle.comet_meaning.specs.Parts.{items, variable_value, read, value, number, truth, condition, values, is_defined}
+use Rattle.comet_meaning.specs.Parts.{items, solver_at, variable_value, read, value, number, truth, condition, values, is_defined}
 use Rattle.comet_meaning.specs.Operators.{unary_result, unary_form, compare_form, decides, linked, link_form, links_form, chain_form, range_form, conditional_form}
 use Rattle.comet_meaning.specs.Arrays.{list_form, index_form, cell_form, taken_whole, count_form}
 use Rattle.comet_meaning.specs.Generators.{Bound, with_bound, bind, generated, each_tuple}
@@ -74,7 +74,7 @@ spends_variable_value at x m = spends_if m.closed (spends_give_or_met _) (spends
 
 spends_read : (at : Place) (v : Value) → OnlySpends (read at v)
 unfolding read
-spends_read at (Value.Variable x) = spends_at (λ s. spends_variable_value at x.index _)
+spends_read at (Value.Variable x) = spends_at {f = λ s. variable_value at x.index (solver_at s x.solver)} (λ o s. refl) (λ s. spends_variable_value at x.index _)
 spends_read at v = spends_give
 
 spends_value : (k : List Bool) (l : Level) → LevelSpends k l → (e : Shape) → is_pure k e ≡ true → OnlySpends (value l e)

@@ -11,7 +11,7 @@ ghost use Rattle.comet_meaning.specs.Program.{level, code_of, run, meaning, Done
 ghost use Rattle.comet_meaning.specs.Purity.{is_pure, pure_functions};
 ghost use Rattle.comet_meaning.specs.OneEnd.{HasOneEnd};
 ghost use Rattle.comet_meaning.specs.Onward.{IsFront};
-ghost use Rattle.comet_meaning.specs.Spending.{IsSpent};
+ghost use Rattle.comet_meaning.specs.Spending.{IsSpent, Outside, with_outside, leaving};
 ghost use Rattle.comet_meaning.specs.Examples as examples;
 
 /// From each state a program has exactly one end.
@@ -28,6 +28,11 @@ pub fn runs_go_onward()
 /// A pure expression changes nothing of the state but the fuel, however much room is left for parts inside each other.
 pub fn pure_expressions_only_spend_fuel()
     ensures { (functions : List Coded) (room : ℕ) (e : Shape) (s : State) → is_pure (pure_functions functions) e ≡ true → IsSpent s ((level (code_of functions) room).expr e s) }
+{}
+
+/// A pure expression does the same whatever the data is, what each input has read of it, and what was printed.
+pub fn pure_expressions_see_no_data()
+    ensures { (functions : List Coded) (room : ℕ) (e : Shape) (outside : Outside) (s : State) → is_pure (pure_functions functions) e ≡ true → (level (code_of functions) room).expr e (with_outside outside s) ≡ leaving outside ((level (code_of functions) room).expr e s) }
 {}
 
 /// A `while` is its first turn and then, where that doesn't end it, the same `while` again: that its turns are counted
