@@ -8,12 +8,14 @@
 
 mod additions;
 mod changes;
+mod copies;
 mod evaluation;
 mod laws;
 mod solver;
 mod stack;
 mod term;
 
+pub use copies::copied_solvers;
 pub use evaluation::evaluate;
 pub use laws::{adds_to_one_solver, assigns_in_one_solver, closes_one_solver};
 pub use solver::{Beginning, Solver};

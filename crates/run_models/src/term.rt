@@ -57,6 +57,14 @@ impl Term {
         Ok(Term { steps })
     }
 
+    /// A copy. `Err` only where there is no memory.
+    pub fn copied(&self, alloc: Global) -> Result<Term, NoMemory>
+        ensures { IfOk result (λ t. t ≡ self.now) }
+    {
+        let steps = Vec::from_slice(alloc, self.steps.as_slice())?;
+        Ok(Term { steps })
+    }
+
     /// This term and the right one behind it, joined by an operator that stands at a place. `Err` only where there is
     /// no memory.
     pub fn join(self, operator: ChainOperator, place: Place, right: Term) -> Result<Term, NoMemory>

@@ -1,4 +1,5 @@
 pub mod Acts
+pub mod Copies
 pub mod Numbers
 pub mod Shares
 pub mod Stops

@@ -7,6 +7,7 @@
 
 pub mod arrays;
 pub mod cells;
+pub mod copies;
 pub mod data;
 pub mod fuel;
 pub mod names;

@@ -1,9 +1,11 @@
 //! Cells of an array.
-ghost use Rattle.std.specs.Prelude.{◌≡◌, pos, Some, slice_index_or};
+ghost use Rattle.std.specs.Prelude.{◌≡◌, pos, IfErr, IfOk, Some, map, slice_index_or};
 ghost use Rattle.comet_meaning.specs.Cells.{no_cells, row_of, at_index, at_column, at_indices, number_at, with_number};
 ghost use Rattle.comet_meaning.specs.Values.{Number};
 ghost use Rattle.run_values.specs.Views.{bounds_seen, cells_seen};
+ghost use Rattle.run_values.specs.declared.stop.Stop.TheVariants.{NoMemory};
 
+use crate::stop::Stop;
 use crate::values::{Bounds, Cells};
 use std::alloc::Global;
 
@@ -28,6 +30,19 @@ impl Cells {
             columns: None,
             numbers,
         }
+    }
+
+    /// A copy. `NoMemory` where there is none for it; there is no other stop.
+    pub fn copied(&self, alloc: Global) -> Result<Cells, Stop>
+        ensures same { IfOk result (λ cells. cells_seen cells ≡ cells_seen self.now) }
+        ensures memory { IfErr result (λ stop. stop ≡ NoMemory) }
+    {
+        let numbers = Vec::from_slice(alloc, &self.numbers)?;
+        Ok(Cells {
+            rows: self.rows,
+            columns: self.columns,
+            numbers,
+        })
     }
 
     /// Where the cell of an index stands; `None` exactly for an index outside the bounds.
@@ -70,6 +85,18 @@ impl Cells {
             self.numbers[cell as usize] = number;
         }
     }
+}
+
+/// A copy of each array's cells. `NoMemory` where there is none for them; there is no other stop.
+pub fn copied_arrays(alloc: Global, arrays: &[Cells]) -> Result<Vec<Cells>, Stop>
+    ensures same { IfOk result (λ copies. map cells_seen copies.items ≡ map cells_seen arrays.now) }
+    ensures memory { IfErr result (λ stop. stop ≡ NoMemory) }
+{
+    let mut copies = Vec::new(alloc);
+    for cells in arrays {
+        copies.push(cells.copied(alloc)?)?;
+    }
+    Ok(copies)
 }
 
 /// Where the cell of a row's index and a column's stands; `None` exactly where one of them is outside its bounds.

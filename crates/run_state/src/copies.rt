@@ -1,0 +1,36 @@
+//! Copies of a state.
+ghost use Rattle.std.specs.Prelude.{◌≡◌, ℕ, List, IfErr, IfOk};
+ghost use Rattle.run_state.specs.Copies.{without_data};
+ghost use Rattle.run_state.specs.Views.{state_seen};
+ghost use Rattle.run_values.specs.declared.stop.Stop.TheVariants.{NoMemory};
+
+use crate::state::State;
+use run_models::copied_solvers;
+use run_values::Stop;
+use run_values::cells::copied_arrays;
+use run_values::values::copied_values;
+
+impl State {
+    /// A copy with this fuel, and without the data and its inputs. `NoMemory` where there is none for it; there is no
+    /// other stop.
+    pub fn without_data(&self, fuel: u64) -> Result<State, Stop>
+        ensures same { (printed : List ℕ) → IfOk result (λ copy. state_seen copy printed ≡ without_data fuel (state_seen self.now printed)) }
+        ensures memory { IfErr result (λ stop. stop ≡ NoMemory) }
+    {
+        let alloc = self.alloc;
+        let globals = copied_values(alloc, &self.globals)?;
+        let frame = copied_values(alloc, &self.frame)?;
+        let arrays = copied_arrays(alloc, &self.arrays)?;
+        let solvers = copied_solvers(alloc, &self.solvers)?;
+        Ok(State {
+            globals,
+            frame,
+            arrays,
+            solvers,
+            inputs: Vec::new(alloc),
+            data: Vec::new(alloc),
+            fuel,
+            alloc,
+        })
+    }
+}
