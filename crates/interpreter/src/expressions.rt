@@ -26,7 +26,7 @@ use run_values::{Bounds, Stop, Value};
 /// The value of an expression; of a variable the variable itself. `room` tells how many parts may still be executed
 /// inside each other: the fault `Depth` comes at the place of an expression for which there is none.
 #[cycle(run)]
-pub(crate) fn evaluate<O: Out>(
+pub fn evaluate<O: Out>(
     s: &mut State,
     out: &mut O,
     code: &Code<'_>,

@@ -22,5 +22,6 @@ mod terms;
 mod tuples;
 mod writes;
 
+pub use expressions::evaluate;
 pub use run_steps::code::{Code, Flow};
 pub use statements::run;

@@ -27,7 +27,7 @@ fn is_pure_function(known: &[bool], function: usize) -> bool
 
 /// Whether an expression is pure, where it is known which functions are.
 #[cycle(purity)]
-pub(crate) fn is_pure(known: &[bool], part: &Typed) -> bool
+pub fn is_pure(known: &[bool], part: &Typed) -> bool
     ensures { result ≡ purity.is_pure known.now (whole (seen part.now)) }
 {
     is_pure_form(known, &part.form)
