@@ -1,6 +1,7 @@
 pub mod Acts
 pub mod Copies
 pub mod Numbers
+pub mod Plain
 pub mod Shares
 pub mod Stops
 pub mod Targets

@@ -1,10 +1,11 @@
 //! The cells of names.
 ghost use Rattle.std.specs.Prelude.{◌≡◌, ℕ, List, IfOk, IfErr, OnOk, ◌≤◌, length, slice_index_or, map};
-ghost use Rattle.comet_meaning.specs.Cells.{with_cell, look, put};
+ghost use Rattle.comet_meaning.specs.Cells.{with_cell, held, look, put};
 ghost use Rattle.comet_meaning.specs.Values.{Nothing};
 ghost use Rattle.run_values.specs.Did.{Did};
 ghost use Rattle.run_values.specs.Views.{value_seen};
 ghost use Rattle.run_values.specs.declared.stop.Stop.TheVariants.{NoMemory};
+ghost use Rattle.run_state.specs.Plain.{IsHeld, IsHeldNumber};
 ghost use Rattle.run_state.specs.Views.{state_seen};
 
 use crate::state::State;
@@ -24,6 +25,26 @@ impl State {
         match slot {
             Slot::Global(index) => copied_cell(self.alloc, &self.globals, index),
             Slot::Local(index) => copied_cell(self.alloc, &self.frame, index),
+        }
+    }
+
+    /// What a name's cell holds, where it is a number, a truth value, a range or an array.
+    pub fn plain_value(&self, slot: Slot) -> Option<Value>
+        ensures { (printed : List ℕ) → IsHeld result (held (state_seen self.now printed) slot) }
+    {
+        match slot {
+            Slot::Global(index) => plain_cell(&self.globals, index),
+            Slot::Local(index) => plain_cell(&self.frame, index),
+        }
+    }
+
+    /// The number that a name's cell holds, where it holds one.
+    pub fn plain_number(&self, slot: Slot) -> Option<i64>
+        ensures { (printed : List ℕ) → IsHeldNumber result (held (state_seen self.now printed) slot) }
+    {
+        match slot {
+            Slot::Global(index) => number_in_cell(&self.globals, index),
+            Slot::Local(index) => number_in_cell(&self.frame, index),
         }
     }
 
@@ -58,6 +79,29 @@ fn copied_cell(alloc: Global, cells: &[Value], index: usize) -> Result<Value, St
     match cells.get(index) {
         Some(value) => value.copied(alloc),
         None => Ok(Value::Nothing),
+    }
+}
+
+/// What a cell holds, where it is a number, a truth value, a range or an array.
+fn plain_cell(cells: &[Value], index: usize) -> Option<Value>
+    ensures { IsHeld result (slice_index_or (map value_seen cells.now) index Nothing) }
+{
+    match cells.get(index) {
+        Some(Value::Number(number)) => Some(Value::Number(*number)),
+        Some(Value::Truth(truth)) => Some(Value::Truth(*truth)),
+        Some(Value::Range(bounds)) => Some(Value::Range(*bounds)),
+        Some(Value::Array(array)) => Some(Value::Array(*array)),
+        _ => None,
+    }
+}
+
+/// The number that a cell holds, where it holds one.
+fn number_in_cell(cells: &[Value], index: usize) -> Option<i64>
+    ensures { IsHeldNumber result (slice_index_or (map value_seen cells.now) index Nothing) }
+{
+    match cells.get(index) {
+        Some(Value::Number(number)) => Some(*number),
+        _ => None,
     }
 }
 
