@@ -21,6 +21,7 @@ use checked_tree::{Form, Kind, Typed};
 use run_state::{Out, State};
 use run_steps::code::Code;
 use run_steps::operands::{as_bounds, as_held, as_number, as_truth, read_part};
+use run_steps::plain::{plain_number, plain_truth, plain_value};
 use run_values::{Bounds, Stop, Value};
 
 /// The value of an expression; of a variable the variable itself. `room` tells how many parts may still be executed
@@ -117,8 +118,13 @@ pub(crate) fn value_of<O: Out>(
 ) -> Result<Value, Stop>
     ensures did { Does value_seen result (state_seen s.new (O.taken out.new)) (parts.value (level (code_seen code.now) room) (part e.now) (state_seen s.old (O.taken out.old))) }
 {
-    let value = evaluate(s, out, code, room, e);
-    read_part(s, e, value)
+    match plain_value(s, room, e) {
+        Some(value) => Ok(value),
+        None => {
+            let value = evaluate(s, out, code, room, e);
+            read_part(s, e, value)
+        }
+    }
 }
 
 /// The number that a part gives; a truth value stands as 1 or 0.
@@ -133,7 +139,10 @@ pub(crate) fn number_of<O: Out>(
 ) -> Result<i64, Stop>
     ensures did { Does (λ z. z) result (state_seen s.new (O.taken out.new)) (parts.number (level (code_seen code.now) room) (part e.now) (state_seen s.old (O.taken out.old))) }
 {
-    as_number(value_of(s, out, code, room, e))
+    match plain_number(s, room, e) {
+        Some(number) => Ok(number),
+        None => as_number(value_of(s, out, code, room, e)),
+    }
 }
 
 /// The truth value that a part gives.
@@ -148,7 +157,10 @@ pub(crate) fn truth_of<O: Out>(
 ) -> Result<bool, Stop>
     ensures did { Does (λ b. b) result (state_seen s.new (O.taken out.new)) (parts.truth (level (code_seen code.now) room) (part e.now) (state_seen s.old (O.taken out.old))) }
 {
-    as_truth(value_of(s, out, code, room, e))
+    match plain_truth(s, room, e) {
+        Some(truth) => Ok(truth),
+        None => as_truth(value_of(s, out, code, room, e)),
+    }
 }
 
 /// The bounds of the range that a part gives.

@@ -14,3 +14,4 @@ pub mod Steps
 pub mod Filling
 pub mod Visiting
 pub mod Behind
+pub mod PlainLaws

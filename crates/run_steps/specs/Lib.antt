@@ -7,3 +7,4 @@ pub mod Copies
 pub mod Extents
 pub mod Following
 pub mod Operands
+pub mod Plainly

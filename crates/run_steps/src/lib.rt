@@ -10,4 +10,5 @@ pub mod code;
 pub mod effects;
 pub mod leaves;
 pub mod operands;
+pub mod plain;
 pub mod tuples;

@@ -25,8 +25,11 @@ use Rattle.interpreter.proofs.+run.Answers.Declarations as declarations
 use Rattle.interpreter.proofs.+run.Answers.Arrangements as arrangements
 use Rattle.interpreter.proofs.+run.Goals as goal
 
-pub expressions::value_of-returns : goal.expressions::value_of-returns
-expressions::value_of-returns = expressions.expressions::value_of-returns
+pub expressions::value_of-returns-in-None : goal.expressions::value_of-returns-in-None
+expressions::value_of-returns-in-None = expressions.expressions::value_of-returns-in-None
+
+pub expressions::value_of-returns-in-Some : goal.expressions::value_of-returns-in-Some
+expressions::value_of-returns-in-Some = expressions.expressions::value_of-returns-in-Some
 
 pub expressions::evaluate-returns-then-room-eq0 : goal.expressions::evaluate-returns-then-room-eq0
 expressions::evaluate-returns-then-room-eq0 = expressions.expressions::evaluate-returns-then-room-eq0
@@ -73,11 +76,17 @@ expressions::evaluate_form-returns-in-Call = expressions.expressions::evaluate_f
 pub expressions::evaluate_form-returns-in-Method : goal.expressions::evaluate_form-returns-in-Method
 expressions::evaluate_form-returns-in-Method = expressions.expressions::evaluate_form-returns-in-Method
 
-pub expressions::number_of-returns : goal.expressions::number_of-returns
-expressions::number_of-returns = expressions.expressions::number_of-returns
+pub expressions::number_of-returns-in-None : goal.expressions::number_of-returns-in-None
+expressions::number_of-returns-in-None = expressions.expressions::number_of-returns-in-None
 
-pub expressions::truth_of-returns : goal.expressions::truth_of-returns
-expressions::truth_of-returns = expressions.expressions::truth_of-returns
+pub expressions::number_of-returns-in-Some : goal.expressions::number_of-returns-in-Some
+expressions::number_of-returns-in-Some = expressions.expressions::number_of-returns-in-Some
+
+pub expressions::truth_of-returns-in-None : goal.expressions::truth_of-returns-in-None
+expressions::truth_of-returns-in-None = expressions.expressions::truth_of-returns-in-None
+
+pub expressions::truth_of-returns-in-Some : goal.expressions::truth_of-returns-in-Some
+expressions::truth_of-returns-in-Some = expressions.expressions::truth_of-returns-in-Some
 
 pub expressions::bounds_of-returns : goal.expressions::bounds_of-returns
 expressions::bounds_of-returns = expressions.expressions::bounds_of-returns

@@ -1,5 +1,6 @@
 -- What is proved of expressions and their values.
-use Rattle.std.proofs.Common.{sym, subst}
+use Rattle.std.proofs.Common.{rules, sym, subst, FitsSigned, w64}
+use Rattle.std.proofs.lemmas.Int.{to_z-of_z}
 use Rattle.comet_meaning.specs.Parts.{value, bounds, number, truth}
 use Rattle.comet_meaning.specs.Expressions.{value_of_form, value_of_expression}
 use Rattle.run_steps.specs.Does.{Does}
@@ -13,9 +14,9 @@ use Rattle.run_steps.proofs.Shapes.{form_name, form_chain, form_list, form_set, 
 use Rattle.run_steps.proofs.Forms.{values_pushed}
 use Rattle.interpreter.proofs.+run.Goals as goal
 
-pub expressions::value_of-returns : goal.expressions::value_of-returns
+pub expressions::value_of-returns-in-None : goal.expressions::value_of-returns-in-None
 unfolding value
-expressions::value_of-returns g t c = record { did = c.read_part.ensures.did _ _ c.evaluate-value.ensures.did }
+expressions::value_of-returns-in-None g t c = record { did = c.read_part.ensures.did _ _ c.evaluate-value.ensures.did }
 
 pub expressions::evaluate-returns-then-room-eq0 : goal.expressions::evaluate-returns-then-room-eq0
 expressions::evaluate-returns-then-room-eq0 g t c = record { did = expr_at_zero _ _ _ _ c.if-room-eq0.true }
@@ -71,13 +72,13 @@ pub expressions::evaluate_form-returns-in-Method : goal.expressions::evaluate_fo
 unfolding value_of_form
 expressions::evaluate_form-returns-in-Method g t c = record { did = rw (c.in-Method.is, form_method _ _ _) (rw (c.deref-in-Method.ensures, c.deref-in-Method-2.ensures.value) at c.evaluate_method.ensures.did) }
 
-pub expressions::number_of-returns : goal.expressions::number_of-returns
+pub expressions::number_of-returns-in-None : goal.expressions::number_of-returns-in-None
 unfolding number
-expressions::number_of-returns g t c = record { did = c.as_number.ensures.did _ _ c.value_of.ensures.did }
+expressions::number_of-returns-in-None g t c = record { did = c.as_number.ensures.did _ _ c.value_of.ensures.did }
 
-pub expressions::truth_of-returns : goal.expressions::truth_of-returns
+pub expressions::truth_of-returns-in-None : goal.expressions::truth_of-returns-in-None
 unfolding truth
-expressions::truth_of-returns g t c = record { did = c.as_truth.ensures.did _ _ c.value_of.ensures.did }
+expressions::truth_of-returns-in-None g t c = record { did = c.as_truth.ensures.did _ _ c.value_of.ensures.did }
 
 pub expressions::bounds_of-returns : goal.expressions::bounds_of-returns
 unfolding bounds
@@ -85,3 +86,12 @@ expressions::bounds_of-returns g t c = record { did = c.as_bounds.ensures.did _ 
 
 pub expressions::value_as-returns : goal.expressions::value_as-returns
 expressions::value_as-returns g t c = record { did = c.as_held.ensures.did _ _ c.value_of.ensures.did }
+
+pub expressions::value_of-returns-in-Some : goal.expressions::value_of-returns-in-Some
+expressions::value_of-returns-in-Some g t c = record { did = c.in-Some.ensures.given _ _ }
+
+pub expressions::number_of-returns-in-Some : goal.expressions::number_of-returns-in-Some
+expressions::number_of-returns-in-Some g t c = let f : FitsSigned w64 c.in-Some.number = search rules in record { did = rw (to_z-of_z w64 c.in-Some.number f) (c.in-Some.ensures.given _ _) }
+
+pub expressions::truth_of-returns-in-Some : goal.expressions::truth_of-returns-in-Some
+expressions::truth_of-returns-in-Some g t c = record { did = c.in-Some.ensures.given _ _ }

@@ -1,0 +1,119 @@
+//! Parts that are evaluated without a change of the state: numbers, names whose cells hold a value that is read as it is,
+//! chains of these with arithmetic operators, and relations of these. They cost no fuel. What is answered is the part's
+//! value; where anything else stands in a part, or an operation fails, nothing is answered.
+ghost use Rattle.std.specs.Prelude.{◌≡◌, ℕ, List};
+ghost use Rattle.comet_meaning.specs.Levels as levels;
+ghost use Rattle.comet_meaning.specs.Operators as operators;
+ghost use Rattle.comet_meaning.specs.Parts as parts;
+ghost use Rattle.comet_meaning.specs.Program.{level};
+ghost use Rattle.run_state.specs.Views.{state_seen};
+ghost use Rattle.run_steps.specs.Plainly.{GivesNumber, GivesTruth, GivesValue, GivesWhole, ResultsIn};
+ghost use Rattle.run_steps.specs.Views.{links_seen, part};
+
+use cbl_base::{add, div, mul, rem, sub};
+use checked_tree::{Form, Link, Typed};
+use comet_syntax::tree::ChainOperator;
+use run_state::State;
+use run_values::Value;
+use run_values::operators::compare;
+
+/// How many chains inside each other are looked at: a part in which something else stands deeper is evaluated otherwise.
+const MOST_CHAINS: u32 = 4;
+
+/// The value of a part, where it is plain and there is room for it.
+pub fn plain_value(s: &State, room: u32, e: &Typed) -> Option<Value>
+    ensures given { (code : levels.Code) (printed : List ℕ) → GivesValue result (state_seen s.now printed) (parts.value (level code room) (part e.now) (state_seen s.now printed)) }
+{
+    match number_within(s, room, MOST_CHAINS, e) {
+        Some(number) => Some(Value::Number(number)),
+        None => plain_name(s, room, e),
+    }
+}
+
+/// What a name's cell holds, where it is a value that is read as it is.
+fn plain_name(s: &State, room: u32, e: &Typed) -> Option<Value>
+    ensures given { (code : levels.Code) (printed : List ℕ) → GivesValue result (state_seen s.now printed) (parts.value (level code room) (part e.now) (state_seen s.now printed)) }
+{
+    if room == 0 {
+        return None;
+    }
+    match &e.form {
+        Form::Name(slot) => s.plain_value(*slot),
+        _ => None,
+    }
+}
+
+/// The number that a part gives, where it is plain and there is room for it.
+pub fn plain_number(s: &State, room: u32, e: &Typed) -> Option<i64>
+    ensures given { (code : levels.Code) (printed : List ℕ) → GivesWhole result (state_seen s.now printed) (parts.number (level code room) (part e.now) (state_seen s.now printed)) }
+{
+    number_within(s, room, MOST_CHAINS, e)
+}
+
+/// The truth value of a relation of plain numbers, where there is room for it.
+pub fn plain_truth(s: &State, room: u32, e: &Typed) -> Option<bool>
+    ensures given { (code : levels.Code) (printed : List ℕ) → GivesTruth result (state_seen s.now printed) (parts.truth (level code room) (part e.now) (state_seen s.now printed)) }
+{
+    if room == 0 {
+        return None;
+    }
+    match &e.form {
+        Form::Compare {
+            comparison,
+            left,
+            right,
+        } => {
+            let left = number_within(s, room - 1, MOST_CHAINS, left)?;
+            let right = number_within(s, room - 1, MOST_CHAINS, right)?;
+            Some(compare(*comparison, left, right))
+        }
+        _ => None,
+    }
+}
+
+/// The number of a part, where it is plain and there is room for it, with at most so many chains inside each other.
+#[cycle(plain)]
+fn number_within(s: &State, room: u32, chains: u32, e: &Typed) -> Option<i64>
+    ensures given { (code : levels.Code) (printed : List ℕ) → GivesNumber result (state_seen s.now printed) (parts.value (level code room) (part e.now) (state_seen s.now printed)) }
+{
+    if room == 0 {
+        return None;
+    }
+    match &e.form {
+        Form::Number(number) => Some(*number),
+        Form::Name(slot) => s.plain_number(*slot),
+        Form::Chain { first, links } => chain_within(s, room - 1, chains, first, links),
+        _ => None,
+    }
+}
+
+/// The number of a chain of plain numbers.
+#[cycle(plain)]
+fn chain_within(s: &State, room: u32, chains: u32, first: &Typed, links: &[Link]) -> Option<i64>
+    ensures given { (code : levels.Code) (printed : List ℕ) → GivesNumber result (state_seen s.now printed) (operators.chain_form (level code room) (part first.now) (links_seen links.now) (state_seen s.now printed)) }
+{
+    if chains == 0 {
+        return None;
+    }
+    let mut number = number_within(s, room, chains - 1, first)?;
+    for link in links {
+        let next = number_within(s, room, chains - 1, &link.operand)?;
+        number = result_of(link.operator, number, next)?;
+    }
+    Some(number)
+}
+
+/// The result of an arithmetic operator, where it fits and no divisor is 0.
+fn result_of(operator: ChainOperator, a: i64, b: i64) -> Option<i64>
+    ensures { ResultsIn operator a b result }
+{
+    match operator {
+        ChainOperator::Or => None,
+        ChainOperator::And => None,
+        ChainOperator::Add => add(a, b).ok(),
+        ChainOperator::Subtract => sub(a, b).ok(),
+        ChainOperator::Multiply => mul(a, b).ok(),
+        ChainOperator::Divide => div(a, b).ok(),
+        ChainOperator::Remainder => rem(a, b).ok(),
+    }
+}
