@@ -1,0 +1,62 @@
+//! The value of a pure expression.
+ghost use Rattle.std.specs.Prelude.{◌≡◌, ℕ, List, true};
+ghost use Rattle.comet_meaning.specs.Program.{level};
+ghost use Rattle.comet_meaning.specs.Purity.{is_pure, pure_functions};
+ghost use Rattle.run_steps.specs.Views.{code_seen, part};
+ghost use Rattle.run_state.specs.Views.{state_seen};
+ghost use Rattle.stmt_expr.specs.Evaluation.{Evaluates, answer_seen};
+
+use cbl_base::{Fuel, Place, RunFault};
+use checked_tree::Typed;
+use interpreter::{Code, evaluate};
+use run_state::{Bytes, State};
+use run_values::{Stop, Value};
+
+/// Why an expression has no value.
+#[derive(Clone, Copy, PartialEq, Eq, Debug)]
+pub enum EvalStop {
+    /// A fault, with its place.
+    Fault(Place, RunFault),
+    /// The fuel is spent, at this place.
+    Spent(Place),
+    NoMemory,
+}
+
+/// The value of a pure expression in a state, whose own fuel isn't looked at; of a variable the variable itself. A value
+/// that names an array, a variable or an object names that of this state. `room` tells how many parts may be executed
+/// inside each other. The value, or the fault or the end of the fuel with its place, and the fuel that is left are those
+/// of the expression's meaning. With `NoMemory` nothing is told of the fuel.
+pub fn eval(
+    s: &State,
+    code: &Code<'_>,
+    room: u32,
+    e: &Typed,
+    fuel: &mut Fuel,
+) -> Result<Value, EvalStop>
+    requires known { code.now.pure.now ≡ pure_functions (code_seen code.now).functions }
+    requires pure { is_pure code.now.pure.now (part e.now) ≡ true }
+    ensures { (printed : List ℕ) → Evaluates ((level (code_seen code.now) room).expr (part e.now)) (state_seen s.now printed) fuel.old.left result fuel.new.left }
+{
+    let mut copy = match s.without_data(fuel.left) {
+        Ok(copy) => copy,
+        Err(_) => return Err(EvalStop::NoMemory),
+    };
+    let mut out = Bytes {
+        bytes: Vec::new(s.alloc),
+    };
+    let answer = evaluate(&mut copy, &mut out, code, room, e);
+    fuel.left = copy.fuel;
+    handed_on(answer)
+}
+
+/// The answer of an evaluation over memory, as it is handed on.
+fn handed_on(answer: Result<Value, Stop>) -> Result<Value, EvalStop>
+    ensures { result ≡ answer_seen answer }
+{
+    match answer {
+        Ok(value) => Ok(value),
+        Err(Stop::Fault(place, fault)) => Err(EvalStop::Fault(place, fault)),
+        Err(Stop::Spent(place)) => Err(EvalStop::Spent(place)),
+        Err(Stop::NoMemory | Stop::Output(_)) => Err(EvalStop::NoMemory),
+    }
+}
