@@ -4,10 +4,10 @@ use Rattle.cbl_base.specs.declared.place.Place.{Place}
 use Rattle.cbl_base.specs.declared.faults.RunFault.{RunFault}
 use Rattle.checked_tree.specs.declared.expressions.Slot.{Slot}
 use Rattle.comet_meaning.specs.Values.{Value, Range, Set}
-use Rattle.comet_meaning.specs.Terms.{Failure}
+use Rattle.model_values.specs.declared.failure.Failure.{Failure}
 use Rattle.comet_meaning.specs.State.{State, left}
 use Rattle.comet_meaning.specs.Outcome.{Outcome, Went, Halted, SpentAt, Act, then_do, ◌>>=◌, give, fault, give_or, give_or_met, unless, charge, each_of, each_from, each_in}
-use Rattle.comet_meaning.specs.Cells.{look, put, back_in, in_scope, in_frame, cells, found_at}
+use Rattle.comet_meaning.specs.Cells.{look, put, back_in, in_scope, in_frame, cells, variables, extent, count_cells, cell, found_at}
 use Rattle.comet_meaning.specs.Spending.{IsSpent, IsBound, OnlySpends, OnlyBinds}
 
 -- steps
@@ -123,6 +123,22 @@ binds_in_frame frame {m = m} h = record { from = λ s. framed_bound frame s (m (
 pub spends_cells : (v : Value) → OnlySpends (cells v)
 unfolding cells
 spends_cells v = record { from = λ s. refl }
+
+pub spends_variables : (v : Value) → OnlySpends (variables v)
+unfolding variables
+spends_variables v = record { from = λ s. refl }
+
+pub spends_extent : (v : Value) → OnlySpends (extent v)
+unfolding extent
+spends_extent v = record { from = λ s. refl }
+
+pub spends_count_cells : (v : Value) → OnlySpends (count_cells v)
+unfolding count_cells
+spends_count_cells v = record { from = λ s. refl }
+
+pub spends_cell_of : (v : Value) (k : ℕ) → OnlySpends (cell v k)
+unfolding cell
+spends_cell_of v k = record { from = λ s. refl }
 
 pub spends_found_at : (at : Place) (k : Option ℕ) → OnlySpends (found_at at k)
 spends_found_at at None = spends_fault
