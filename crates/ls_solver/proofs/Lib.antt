@@ -1,0 +1,11 @@
+pub mod ListLaws
+pub mod TermLaws
+pub mod KindLaws
+pub mod ModelLaws
+pub mod DefinitionLaws
+pub mod KeptLaws
+pub mod MarkLaws
+pub mod PlanLaws
+pub mod FreshLaws
+pub mod ChangeLaws
+pub mod ReadLaws
