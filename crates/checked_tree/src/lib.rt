@@ -5,6 +5,7 @@
 //! pointers, and that each form is made of its parts.
 #![tactic(auto)]
 
+mod boxes;
 pub mod expressions;
 pub mod kind;
 pub mod make_actions;

@@ -4,6 +4,7 @@ ghost use Rattle.checked_tree.specs.Makes.{Makes};
 ghost use Rattle.checked_tree.specs.Shape as shapes;
 ghost use Rattle.checked_tree.specs.Shape.{shape_of, shape_of_link, shape_of_generator, optional, seen, whole, wholes, rows};
 
+use crate::boxes::{box_beside, box_both, box_three, list_both};
 use crate::expressions::{Builtin, Form, Generator, Link, Method, Slot, Typed};
 use crate::stop::Stop;
 use cbl_base::{Place, Text};
@@ -35,8 +36,7 @@ pub fn make_compare(
 ) -> Result<Form, Stop>
     ensures { Makes shape_of result (shapes.compare comparison (whole (seen left)) (whole (seen right))) }
 {
-    let left = Box::new(alloc, left)?;
-    let right = Box::new(alloc, right)?;
+    let (left, right) = box_both(alloc, left, right)?;
     Ok(Form::Compare {
         comparison,
         left,
@@ -48,8 +48,7 @@ pub fn make_compare(
 pub fn make_range(alloc: Global, low: Typed, high: Typed) -> Result<Form, Stop>
     ensures { Makes shape_of result (shapes.range (whole (seen low)) (whole (seen high))) }
 {
-    let low = Box::new(alloc, low)?;
-    let high = Box::new(alloc, high)?;
+    let (low, high) = box_both(alloc, low, high)?;
     Ok(Form::Range { low, high })
 }
 
@@ -62,9 +61,7 @@ pub fn make_conditional(
 ) -> Result<Form, Stop>
     ensures { Makes shape_of result (shapes.conditional (whole (seen test)) (whole (seen «then»)) (whole (seen otherwise))) }
 {
-    let test = Box::new(alloc, test)?;
-    let then = Box::new(alloc, then)?;
-    let otherwise = Box::new(alloc, otherwise)?;
+    let (test, then, otherwise) = box_three(alloc, test, then, otherwise)?;
     Ok(Form::Conditional {
         test,
         then,
@@ -76,8 +73,7 @@ pub fn make_conditional(
 pub fn make_index(alloc: Global, array: Typed, index: Typed) -> Result<Form, Stop>
     ensures { Makes shape_of result (shapes.index (whole (seen array)) (whole (seen index))) }
 {
-    let array = Box::new(alloc, array)?;
-    let index = Box::new(alloc, index)?;
+    let (array, index) = box_both(alloc, array, index)?;
     Ok(Form::Index { array, index })
 }
 
@@ -85,9 +81,7 @@ pub fn make_index(alloc: Global, array: Typed, index: Typed) -> Result<Form, Sto
 pub fn make_cell(alloc: Global, grid: Typed, row: Typed, column: Typed) -> Result<Form, Stop>
     ensures { Makes shape_of result (shapes.cell (whole (seen grid)) (whole (seen row)) (whole (seen column))) }
 {
-    let grid = Box::new(alloc, grid)?;
-    let row = Box::new(alloc, row)?;
-    let column = Box::new(alloc, column)?;
+    let (grid, row, column) = box_three(alloc, grid, row, column)?;
     Ok(Form::Cell { grid, row, column })
 }
 
@@ -100,9 +94,7 @@ pub fn make_builtin(
 ) -> Result<Form, Stop>
     ensures { Makes shape_of result (shapes.builtin builtin (wholes (seen left ∷ seen right ∷ []))) }
 {
-    let mut arguments = Vec::new(alloc);
-    arguments.push(left)?;
-    arguments.push(right)?;
+    let arguments = list_both(alloc, left, right)?;
     Ok(Form::Builtin { builtin, arguments })
 }
 
@@ -234,8 +226,8 @@ pub fn make_aggregate(
 ) -> Result<Form, Stop>
     ensures { Makes shape_of result (shapes.aggregate aggregate (rows (map shape_of_generator generators.items)) (optional whole (option_map seen condition)) (whole (seen body))) }
 {
+    let (condition, body) = box_beside(alloc, condition, body)?;
     let condition = boxed(alloc, condition)?;
-    let body = Box::new(alloc, body)?;
     Ok(Form::Aggregate {
         aggregate,
         generators,

@@ -6,6 +6,7 @@ ghost use Rattle.checked_tree.specs.Actions.{deed_of};
 ghost use Rattle.checked_tree.specs.Tasks as works;
 ghost use Rattle.checked_tree.specs.Tasks.{row_of, work_of, counter_of};
 
+use crate::boxes::box_beside;
 use crate::expressions::{Generator, Slot, Typed};
 use crate::statements::{Act, Action, Counter, EventSlots, Task};
 use crate::stop::Stop;
@@ -37,7 +38,7 @@ pub fn make_block(place: Place, tasks: Vec<Task>) -> Task
 pub fn make_if(alloc: Global, place: Place, test: Typed, then: Task) -> Result<Task, Stop>
     ensures { Makes work_of result (works.task place (works.when (seen test) (work_of «then»))) }
 {
-    let then = Box::new(alloc, then)?;
+    let (test, then) = box_beside(alloc, test, then)?;
     Ok(Task {
         place,
         act: Act::If { test, then },
@@ -54,8 +55,8 @@ pub fn make_if_else(
 ) -> Result<Task, Stop>
     ensures { Makes work_of result (works.task place (works.when_else (seen test) (work_of «then») (work_of otherwise))) }
 {
-    let then = Box::new(alloc, then)?;
-    let otherwise = Box::new(alloc, otherwise)?;
+    let ((test, otherwise), then) = box_beside(alloc, (test, otherwise), then)?;
+    let (test, otherwise) = box_beside(alloc, test, otherwise)?;
     Ok(Task {
         place,
         act: Act::IfElse {
@@ -70,7 +71,7 @@ pub fn make_if_else(
 pub fn make_while(alloc: Global, place: Place, test: Typed, body: Task) -> Result<Task, Stop>
     ensures { Makes work_of result (works.task place (works.loop (seen test) (work_of body))) }
 {
-    let body = Box::new(alloc, body)?;
+    let (test, body) = box_beside(alloc, test, body)?;
     Ok(Task {
         place,
         act: Act::While { test, body },
@@ -88,7 +89,7 @@ pub fn make_for(
 ) -> Result<Task, Stop>
     ensures { Makes work_of result (works.task place (works.counting (option_map counter_of counter) (option_map seen test) (option_map deed_of step) (work_of body))) }
 {
-    let body = Box::new(alloc, body)?;
+    let ((counter, test, step), body) = box_beside(alloc, (counter, test, step), body)?;
     Ok(Task {
         place,
         act: Act::For {
@@ -110,7 +111,7 @@ pub fn make_for_all(
 ) -> Result<Task, Stop>
     ensures { Makes work_of result (works.task place (works.for_all (map shape_of_generator generators.items) (option_map seen condition) (work_of body))) }
 {
-    let body = Box::new(alloc, body)?;
+    let ((generators, condition), body) = box_beside(alloc, (generators, condition), body)?;
     Ok(Task {
         place,
         act: Act::ForAll {
@@ -131,7 +132,7 @@ pub fn make_select(
 ) -> Result<Task, Stop>
     ensures { Makes work_of result (works.task place (works.selecting (map shape_of_generator generators.items) (option_map seen condition) (work_of body))) }
 {
-    let body = Box::new(alloc, body)?;
+    let ((generators, condition), body) = box_beside(alloc, (generators, condition), body)?;
     Ok(Task {
         place,
         act: Act::Select {
@@ -154,7 +155,11 @@ pub fn make_select_by(
 ) -> Result<Task, Stop>
     ensures { Makes work_of result (works.task place (works.selecting_by extreme (map shape_of_generator generators.items) (option_map seen condition) (seen key) (work_of body))) }
 {
-    let body = Box::new(alloc, body)?;
+    let ((generators, condition, key), body) = box_beside(
+        alloc,
+        (generators, condition, key),
+        body,
+    )?;
     Ok(Task {
         place,
         act: Act::SelectBy {
@@ -177,7 +182,7 @@ pub fn make_neighbor(
 ) -> Result<Task, Stop>
     ensures { Makes work_of result (works.task place (works.submitting (seen key) selector (work_of body))) }
 {
-    let body = Box::new(alloc, body)?;
+    let (key, body) = box_beside(alloc, key, body)?;
     Ok(Task {
         place,
         act: Act::Neighbor {
@@ -198,7 +203,7 @@ pub fn make_whenever(
 ) -> Result<Task, Stop>
     ensures { Makes work_of result (works.task place (works.watching (seen variable) names (work_of body))) }
 {
-    let body = Box::new(alloc, body)?;
+    let (variable, body) = box_beside(alloc, variable, body)?;
     Ok(Task {
         place,
         act: Act::Whenever {
@@ -236,7 +241,7 @@ pub fn make_parall(
 ) -> Result<Task, Stop>
     ensures { Makes work_of result (works.task place (works.in_threads slot (seen domain) (work_of body))) }
 {
-    let body = Box::new(alloc, body)?;
+    let (domain, body) = box_beside(alloc, domain, body)?;
     Ok(Task {
         place,
         act: Act::Parall { slot, domain, body },
