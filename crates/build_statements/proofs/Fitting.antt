@@ -35,7 +35,7 @@ use Rattle.parse_stacks.specs.Values.{Value}
 use Rattle.parse_stacks.proofs.GoingOn.{Suffixed, suffixed_goes, Named, named_goes}
 use Rattle.parse_stacks.proofs.Undone.{fits_there}
 use Rattle.build_expressions.proofs.Generators.{condition_fit, generator_fit, generators_fit, more_generators_fit}
-use Rattle.build_statements.specs.MadeSimples.{done_text, named_text}
+use Rattle.build_simples.specs.MadeSimples.{done_text, named_text}
 use Rattle.build_statements.specs.MadeStatements.{Made}
 
 -- a target that may be set: where it is set by a form that isn't for a bare name, it is no bare name

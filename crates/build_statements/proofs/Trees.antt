@@ -85,7 +85,7 @@ written_return p None = ap written_statement (sym (trees.rolls-Return p None)) �
 written_return p (Some e) = ap written_statement (sym (trees.rolls-Return p (Some e))) ∙ fold-roll-Statement Grows Grows statement_text block_layer (layers.Return p (Some e))
 
 pub written_if : (p : Place) (e : Box Expression Global) (s : Box Statement Global) (o : Option (Box Statement Global)) → written_statement (trees.If p e s o)
-    ≡ if_text p (whole_text e.value) (written_statement s.value) (option_text (λ b. written_statement b.value) o)
+    ≡ if_text p (whole_text e.value) (written_statement s.value) (option_text written_statement (unboxed o))
 unfolding written_statement written_block
 written_if p e s None = ap written_statement (sym (trees.rolls-If p e s None)) ∙ fold-roll-Statement Grows Grows statement_text block_layer (layers.If p e s None)
 written_if p e s (Some o) = ap written_statement (sym (trees.rolls-If p e s (Some o))) ∙ fold-roll-Statement Grows Grows statement_text block_layer (layers.If p e s (Some o))

@@ -1,2 +1,1 @@
-pub mod MadeSimples
 pub mod MadeStatements

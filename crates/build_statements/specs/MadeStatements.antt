@@ -24,7 +24,7 @@ use Rattle.parse_stacks.specs.Raised.{with_suffixes}
 use Rattle.parse_stacks.specs.Undoing.{Values, Ready, Undone}
 use Rattle.parse_stacks.specs.Values.{Value}
 use Rattle.build_expressions.specs.MadeGenerators.{ConditionMade, GeneratorMade, GeneratorsMade, MoreGeneratorsMade}
-use Rattle.build_statements.specs.MadeSimples.{done_text, named_text}
+use Rattle.build_simples.specs.MadeSimples.{done_text, named_text}
 
 abbrev pub Made : (f : StatementForm) → Values (body_in_statement f) → Value (part_in_statement f) → Type 0
 Made forms.BlockLeftBrace v x = written_block x ≡ block_text v.0 (map written_statement (reverse v.1.0.items))

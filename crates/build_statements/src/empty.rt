@@ -64,12 +64,3 @@ pub fn undo_no_generators(alloc: Global, stacks: &mut Stacks) -> Result<(), NoMe
     put(&mut stacks.generator_lists, none)?;
     Ok(())
 }
-
-/// No more items.
-pub fn undo_no_items(alloc: Global, stacks: &mut Stacks) -> Result<(), NoMemory>
-    ensures { IfOk result (λ _. IsUndone forms.ItemsTailNone stacks.old stacks.new) }
-{
-    let none = Vec::new(alloc);
-    put(&mut stacks.item_lists, none)?;
-    Ok(())
-}

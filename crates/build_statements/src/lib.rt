@@ -7,12 +7,9 @@
 
 mod empty;
 mod heads;
-mod items;
 mod laws;
 mod nodes;
-mod simples;
 mod statements;
-mod targets;
 mod undoing;
 
 pub use laws::statement_forms_fit;

@@ -13,6 +13,7 @@ use comet_syntax::tree::{
     Block, Declaration, Events, Expression, Extreme, ForHead, ForStart, Generators, Name, Simple,
     Statement, Watched, WithMode,
 };
+use parse_stacks::{box_branches, box_some, box_three, box_two};
 use std::alloc::Global;
 
 /// `{ statements }`
@@ -51,19 +52,6 @@ pub fn make_simple_alone(simple: Simple) -> Statement
     Statement::Simple(simple)
 }
 
-// A value, if there is one, on the heap.
-fn box_value(alloc: Global, value: Option<Expression>) -> Result<Option<Box<Expression>>, NoMemory>
-    ensures { IfOk result (λ b. unboxed b ≡ value) }
-{
-    match value {
-        None => Ok(None),
-        Some(value) => {
-            let value = Box::new(alloc, value)?;
-            Ok(Some(value))
-        }
-    }
-}
-
 /// `return value;`
 pub fn make_return(
     alloc: Global,
@@ -72,24 +60,8 @@ pub fn make_return(
 ) -> Result<Statement, NoMemory>
     ensures { IfOk result (λ s. written_statement s ≡ (λ behind. statement_by statement_return words.Return place (value_text value (word words.Semicolon behind)))) }
 {
-    let value = box_value(alloc, value)?;
+    let value = box_some(alloc, value)?;
     Ok(Statement::Return { place, value })
-}
-
-// What stands behind `else`, if there is something, on the heap.
-fn box_otherwise(
-    alloc: Global,
-    otherwise: Option<Statement>,
-) -> Result<Option<Box<Statement>>, NoMemory>
-    ensures { IfOk result (λ b. option_text (λ s. written_statement s.value) b ≡ option_text written_statement otherwise) }
-{
-    match otherwise {
-        None => Ok(None),
-        Some(otherwise) => {
-            let otherwise = Box::new(alloc, otherwise)?;
-            Ok(Some(otherwise))
-        }
-    }
 }
 
 /// `if (test) then otherwise`
@@ -102,9 +74,7 @@ pub fn make_if(
 ) -> Result<Statement, NoMemory>
     ensures { IfOk result (λ s. written_statement s ≡ if_text place (whole_text test) (written_statement then) (option_text written_statement otherwise)) }
 {
-    let test = Box::new(alloc, test)?;
-    let then = Box::new(alloc, then)?;
-    let otherwise = box_otherwise(alloc, otherwise)?;
+    let (test, then, otherwise) = box_branches(alloc, test, then, otherwise)?;
     Ok(Statement::If {
         place,
         test,
@@ -122,8 +92,7 @@ pub fn make_while(
 ) -> Result<Statement, NoMemory>
     ensures { IfOk result (λ s. written_statement s ≡ while_text place (whole_text test) (written_statement body)) }
 {
-    let test = Box::new(alloc, test)?;
-    let body = Box::new(alloc, body)?;
+    let (test, body) = box_two(alloc, test, body)?;
     Ok(Statement::While { place, test, body })
 }
 
@@ -138,8 +107,8 @@ pub fn make_for(
 ) -> Result<Statement, NoMemory>
     ensures { IfOk result (λ s. written_statement s ≡ for_text place (for_start_text start) (value_text test) (for_step_text step) (written_statement body)) }
 {
-    let head = Box::new(alloc, ForHead { start, test, step })?;
-    let body = Box::new(alloc, body)?;
+    let head = ForHead { start, test, step };
+    let (head, body) = box_two(alloc, head, body)?;
     Ok(Statement::For { place, head, body })
 }
 
@@ -152,8 +121,7 @@ pub fn make_for_all(
 ) -> Result<Statement, NoMemory>
     ensures { IfOk result (λ s. written_statement s ≡ over_text statement_for_all words.ForAll place (generators_text (written_generators generators)) (written_statement body)) }
 {
-    let generators = Box::new(alloc, generators)?;
-    let body = Box::new(alloc, body)?;
+    let (generators, body) = box_two(alloc, generators, body)?;
     Ok(Statement::ForAll {
         place,
         generators,
@@ -170,8 +138,7 @@ pub fn make_select(
 ) -> Result<Statement, NoMemory>
     ensures { IfOk result (λ s. written_statement s ≡ over_text statement_select words.Select place (generators_text (written_generators generators)) (written_statement body)) }
 {
-    let generators = Box::new(alloc, generators)?;
-    let body = Box::new(alloc, body)?;
+    let (generators, body) = box_two(alloc, generators, body)?;
     Ok(Statement::Select {
         place,
         generators,
@@ -190,9 +157,7 @@ pub fn make_select_by(
 ) -> Result<Statement, NoMemory>
     ensures { IfOk result (λ s. written_statement s ≡ select_by_text extreme place (generators_text (written_generators generators)) (whole_text key) (written_statement body)) }
 {
-    let generators = Box::new(alloc, generators)?;
-    let key = Box::new(alloc, key)?;
-    let body = Box::new(alloc, body)?;
+    let (generators, key, body) = box_three(alloc, generators, key, body)?;
     Ok(Statement::SelectBy {
         place,
         extreme,
@@ -212,8 +177,7 @@ pub fn make_neighbor(
 ) -> Result<Statement, NoMemory>
     ensures { IfOk result (λ s. written_statement s ≡ neighbor_text place (whole_text key) selector (written_statement body)) }
 {
-    let key = Box::new(alloc, key)?;
-    let body = Box::new(alloc, body)?;
+    let (key, body) = box_two(alloc, key, body)?;
     Ok(Statement::Neighbor {
         place,
         key,
@@ -238,8 +202,7 @@ pub fn make_whenever(
         event,
         names,
     };
-    let watched = Box::new(alloc, watched)?;
-    let body = Box::new(alloc, body)?;
+    let (watched, body) = box_two(alloc, watched, body)?;
     Ok(Statement::Whenever {
         place,
         watched,
@@ -276,8 +239,7 @@ pub fn make_parall(
 ) -> Result<Statement, NoMemory>
     ensures { IfOk result (λ s. written_statement s ≡ parall_text place name (whole_text domain) (written_statement body)) }
 {
-    let domain = Box::new(alloc, domain)?;
-    let body = Box::new(alloc, body)?;
+    let (domain, body) = box_two(alloc, domain, body)?;
     Ok(Statement::Parall {
         place,
         name,

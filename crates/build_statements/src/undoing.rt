@@ -3,16 +3,11 @@ ghost use Rattle.std.specs.Prelude.{IfOk};
 ghost use Rattle.build_statements.specs.MadeStatements.{IsReady, IsUndone};
 
 use crate::empty::{
-    undo_no_events, undo_no_for_start, undo_no_for_step, undo_no_generators, undo_no_items,
-    undo_no_otherwise, undo_no_statements, undo_no_value,
+    undo_no_events, undo_no_for_start, undo_no_for_step, undo_no_generators, undo_no_otherwise,
+    undo_no_statements, undo_no_value,
 };
 use crate::heads::{
     undo_events, undo_for_start, undo_for_step, undo_otherwise, undo_value, undo_with_mode,
-};
-use crate::items::{undo_end_line, undo_item, undo_more_items, undo_string};
-use crate::simples::{
-    undo_call, undo_first_name, undo_named, undo_named_rest, undo_new, undo_no_write, undo_print,
-    undo_set, undo_set_value, undo_step, undo_swap, undo_unnamed, undo_write,
 };
 use crate::statements::{
     undo_block, undo_block_alone, undo_declared, undo_empty, undo_for, undo_for_all, undo_if,
@@ -21,6 +16,11 @@ use crate::statements::{
 };
 use build_expressions::{
     undo_condition, undo_generator, undo_generators_form, undo_generators_more,
+};
+use build_simples::{
+    undo_call, undo_end_line, undo_first_name, undo_item, undo_more_items, undo_named,
+    undo_named_rest, undo_new, undo_no_items, undo_no_write, undo_print, undo_set, undo_set_value,
+    undo_step, undo_string, undo_swap, undo_unnamed, undo_write,
 };
 use cbl_base::NoMemory;
 use comet_syntax::tree::{Extreme, Step, WithMode, WriteOperator};

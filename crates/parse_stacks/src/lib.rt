@@ -4,10 +4,12 @@
 //! listing (`Stands`).
 #![tactic(auto)]
 
+mod boxes;
 mod raising;
 mod stacks;
 mod tails;
 
+pub use boxes::{box_branches, box_some, box_three, box_two};
 pub use raising::{
     link, name_operand, raise, raise_to_comparison, raise_to_conjunction, raise_to_range,
     raise_to_total, suffix,

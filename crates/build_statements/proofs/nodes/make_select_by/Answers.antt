@@ -6,7 +6,7 @@ use Rattle.build_statements.proofs.Trees.{written_select_by}
 use Rattle.build_statements.proofs.nodes.make_select_by.Goals as goal
 
 pub returns : goal.returns
-returns c = written_select_by c.args.place c.args.extreme c.in_ok-generators.generators c.in_ok-key.key c.in_ok-body.body
-    ∙ ap (λ x. select_by_text c.args.extreme c.args.place (generators_text (written_generators x)) (whole_text c.in_ok-key.key.value) (written_statement c.in_ok-body.body.value)) c.in_ok-generators.ensures.ok
-    ∙ ap (λ x. select_by_text c.args.extreme c.args.place (generators_text (written_generators c.args.generators)) (whole_text x) (written_statement c.in_ok-body.body.value)) c.in_ok-key.ensures.ok
-    ∙ ap (λ x. select_by_text c.args.extreme c.args.place (generators_text (written_generators c.args.generators)) (whole_text c.args.key) (written_statement x)) c.in_ok-body.ensures.ok
+returns c = written_select_by c.args.place c.args.extreme c.in_ok-generators.generators c.in_ok-generators.key c.in_ok-generators.body
+    ∙ ap (λ x. select_by_text c.args.extreme c.args.place (generators_text (written_generators x)) (whole_text c.in_ok-generators.key.value) (written_statement c.in_ok-generators.body.value)) c.in_ok-generators.ensures.0
+    ∙ ap (λ x. select_by_text c.args.extreme c.args.place (generators_text (written_generators c.args.generators)) (whole_text x) (written_statement c.in_ok-generators.body.value)) c.in_ok-generators.ensures.1
+    ∙ ap (λ x. select_by_text c.args.extreme c.args.place (generators_text (written_generators c.args.generators)) (whole_text c.args.key) (written_statement x)) c.in_ok-generators.ensures.2

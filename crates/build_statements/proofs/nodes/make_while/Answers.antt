@@ -5,6 +5,6 @@ use Rattle.build_statements.proofs.Trees.{written_while}
 use Rattle.build_statements.proofs.nodes.make_while.Goals as goal
 
 pub returns : goal.returns
-returns c = written_while c.args.place c.in_ok-test.test c.in_ok-body.body
-    ∙ ap (λ x. while_text c.args.place (whole_text x) (written_statement c.in_ok-body.body.value)) c.in_ok-test.ensures.ok
-    ∙ ap (λ x. while_text c.args.place (whole_text c.args.test) (written_statement x)) c.in_ok-body.ensures.ok
+returns c = written_while c.args.place c.in_ok-test.test c.in_ok-test.body
+    ∙ ap (λ x. while_text c.args.place (whole_text x) (written_statement c.in_ok-test.body.value)) c.in_ok-test.ensures.0
+    ∙ ap (λ x. while_text c.args.place (whole_text c.args.test) (written_statement x)) c.in_ok-test.ensures.1

@@ -1,6 +1,6 @@
 use Rattle.std.specs.Prelude.{refl}
 use Rattle.parse_stacks.specs.declared.tails.NamedRest.TheVariants as named_rests
-use Rattle.build_statements.proofs.simples.undo_named_rest.Goals as goal
+use Rattle.build_simples.proofs.simples.undo_named_rest.Goals as goal
 
 pub returns : goal.returns
 returns c = (c.take-called.result, _, c.take-called.ensures, (c.take-suffixes.result, _, c.take-suffixes.ensures, (c.take-write.result, _, c.take-write.ensures, (named_rests.Rest c.take-called.result c.take-suffixes.result c.take-write.result, refl, (c.in_ok-put.ensures, refl)))))

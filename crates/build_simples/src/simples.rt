@@ -1,15 +1,18 @@
 //! The forms of simple statements are undone.
-ghost use Rattle.std.specs.Prelude.{◌≡◌, IfOk, [], ◌∷◌};
+ghost use Rattle.std.specs.Prelude.{◌≡◌, IfOk, [], ◌∷◌, reverse};
 ghost use Rattle.comet_syntax.specs.declared.token.Word.TheVariants as words;
-ghost use Rattle.comet_syntax.specs.Grammar.Statements.{simple_literal, simple_cout, simple_call, write_equal, write_plus_plus};
-ghost use Rattle.comet_syntax.specs.Grammar.Symbols.{simple, write};
+ghost use Rattle.comet_syntax.specs.Grammar.Statements.{first_name_name, named_simple_called, named_simple_equal, new_value_expression, new_value_new, simple_call, simple_cout, simple_first_name, simple_literal, write_equal, write_plus_plus, write_swap};
+ghost use Rattle.comet_syntax.specs.Grammar.Symbols.{first_name, named_simple, new_value, simple, write};
 ghost use Rattle.comet_syntax.specs.Written.Shown.{form, word, mark};
+ghost use Rattle.comet_syntax.specs.Written.Expressions.{written};
 ghost use Rattle.comet_syntax.specs.Written.Declarations.{whole_text};
 ghost use Rattle.comet_syntax.specs.Written.Statements.{written_simple, items_text};
-ghost use Rattle.parse_machine.specs.declared.form.StatementForm.TheVariants as forms;
+ghost use Rattle.parse_stacks.specs.declared.tails.NamedRest.TheVariants as named_rests;
+ghost use Rattle.parse_stacks.specs.declared.tails.NewValue.TheVariants as new_values;
 ghost use Rattle.parse_stacks.specs.declared.tails.WriteRest.TheVariants as write_rests;
+ghost use Rattle.parse_stacks.specs.Raised.{with_suffixes};
 ghost use Rattle.parse_stacks.specs.Undoing.{Ready, Undone};
-ghost use Rattle.build_statements.specs.MadeStatements.{IsReady, IsUndone};
+ghost use Rattle.build_simples.specs.MadeSimples.{done_text, named_text};
 
 use crate::targets::{finish_name, finish_target};
 use cbl_base::{NoMemory, Place};
@@ -19,8 +22,8 @@ use std::alloc::Global;
 
 /// A simple statement that begins with a name.
 pub fn undo_named(alloc: Global, stacks: &mut Stacks) -> Result<(), NoMemory>
-    requires { IsReady forms.SimpleFirstName stacks.old }
-    ensures { IfOk result (λ _. IsUndone forms.SimpleFirstName stacks.old stacks.new) }
+    requires { Ready simple_first_name stacks.old }
+    ensures { IfOk result (λ _. Undone simple simple_first_name (λ v x. written_simple x ≡ named_text v.0 v.1.0) stacks.old stacks.new) }
 {
     let name = take(&mut stacks.names);
     let rest = take(&mut stacks.named_rests);
@@ -31,13 +34,13 @@ pub fn undo_named(alloc: Global, stacks: &mut Stacks) -> Result<(), NoMemory>
 
 /// A simple statement that begins with a literal, or with `min` or `max`.
 pub fn undo_unnamed(alloc: Global, stacks: &mut Stacks) -> Result<(), NoMemory>
-    requires { IsReady forms.SimpleLiteral stacks.old }
-    ensures { IfOk result (λ _. IsUndone forms.SimpleLiteral stacks.old stacks.new) }
+    requires { Ready simple_literal stacks.old }
+    ensures { IfOk result (λ _. Undone simple simple_literal (λ v x. written_simple x ≡ done_text (with_suffixes (written v.0) v.1.0) v.1.1.0) stacks.old stacks.new) }
 {
     let primary = take(&mut stacks.expressions);
     let suffixes = take(&mut stacks.suffixes);
-    let rest = take(&mut stacks.writes);
     let target = suffix(alloc, primary, suffixes)?;
+    let rest = take(&mut stacks.writes);
     let made = finish_target(alloc, target, rest)?;
     put(&mut stacks.simples, made)?;
     Ok(())
@@ -52,8 +55,8 @@ fn make_print(place: Place, items: Vec<Item>) -> Simple
 
 /// `cout << item` and more items
 pub fn undo_print(stacks: &mut Stacks) -> Result<(), NoMemory>
-    requires { IsReady forms.SimpleCout stacks.old }
-    ensures { IfOk result (λ _. IsUndone forms.SimpleCout stacks.old stacks.new) }
+    requires { Ready simple_cout stacks.old }
+    ensures { IfOk result (λ _. Undone simple simple_cout (λ v x. written_simple x ≡ (λ behind. form simple simple_cout ∷ mark words.Cout v.0 (items_text (v.1.1.0 ∷ reverse v.1.1.1.0.items) behind))) stacks.old stacks.new) }
 {
     let place = take(&mut stacks.places);
     let first = take(&mut stacks.items);
@@ -75,8 +78,8 @@ fn make_call(alloc: Global, place: Place, chosen: Expression) -> Result<Simple, 
 
 /// `call(chosen)`
 pub fn undo_call(alloc: Global, stacks: &mut Stacks) -> Result<(), NoMemory>
-    requires { IsReady forms.SimpleCall stacks.old }
-    ensures { IfOk result (λ _. IsUndone forms.SimpleCall stacks.old stacks.new) }
+    requires { Ready simple_call stacks.old }
+    ensures { IfOk result (λ _. Undone simple simple_call (λ v x. written_simple x ≡ (λ behind. form simple simple_call ∷ mark words.Call v.0 (word words.LeftParenthesis (whole_text v.1.1.0 (word words.RightParenthesis behind))))) stacks.old stacks.new) }
 {
     let place = take(&mut stacks.places);
     let chosen = take(&mut stacks.expressions);
@@ -87,8 +90,8 @@ pub fn undo_call(alloc: Global, stacks: &mut Stacks) -> Result<(), NoMemory>
 
 /// `= value` behind a name
 pub fn undo_set(stacks: &mut Stacks) -> Result<(), NoMemory>
-    requires { IsReady forms.NamedSimpleEqual stacks.old }
-    ensures { IfOk result (λ _. IsUndone forms.NamedSimpleEqual stacks.old stacks.new) }
+    requires { Ready named_simple_equal stacks.old }
+    ensures { IfOk result (λ _. Undone named_simple named_simple_equal (λ v x. x ≡ named_rests.Set v.1.0) stacks.old stacks.new) }
 {
     let value = take(&mut stacks.new_values);
     put(&mut stacks.named_rests, NamedRest::Set(value))?;
@@ -97,8 +100,8 @@ pub fn undo_set(stacks: &mut Stacks) -> Result<(), NoMemory>
 
 /// What a target that begins with a name goes on with, and what is done with it.
 pub fn undo_named_rest(stacks: &mut Stacks) -> Result<(), NoMemory>
-    requires { IsReady forms.NamedSimpleCalled stacks.old }
-    ensures { IfOk result (λ _. IsUndone forms.NamedSimpleCalled stacks.old stacks.new) }
+    requires { Ready named_simple_called stacks.old }
+    ensures { IfOk result (λ _. Undone named_simple named_simple_called (λ v x. x ≡ named_rests.Rest v.0 v.1.0 v.1.1.0) stacks.old stacks.new) }
 {
     let called = take(&mut stacks.called);
     let suffixes = take(&mut stacks.suffixes);
@@ -114,8 +117,8 @@ pub fn undo_named_rest(stacks: &mut Stacks) -> Result<(), NoMemory>
 
 /// `new class(arguments)`
 pub fn undo_new(stacks: &mut Stacks) -> Result<(), NoMemory>
-    requires { IsReady forms.NewValueNew stacks.old }
-    ensures { IfOk result (λ _. IsUndone forms.NewValueNew stacks.old stacks.new) }
+    requires { Ready new_value_new stacks.old }
+    ensures { IfOk result (λ _. Undone new_value new_value_new (λ v x. x ≡ new_values.New v.1.0 v.1.1.1.0) stacks.old stacks.new) }
 {
     let class = take(&mut stacks.classes);
     let arguments = take(&mut stacks.lists);
@@ -125,8 +128,8 @@ pub fn undo_new(stacks: &mut Stacks) -> Result<(), NoMemory>
 
 /// A value that a name is set to.
 pub fn undo_set_value(stacks: &mut Stacks) -> Result<(), NoMemory>
-    requires { IsReady forms.NewValueExpression stacks.old }
-    ensures { IfOk result (λ _. IsUndone forms.NewValueExpression stacks.old stacks.new) }
+    requires { Ready new_value_expression stacks.old }
+    ensures { IfOk result (λ _. Undone new_value new_value_expression (λ v x. x ≡ new_values.Value v.0) stacks.old stacks.new) }
 {
     let value = take(&mut stacks.expressions);
     put(&mut stacks.new_values, NewValue::Value(value))?;
@@ -135,7 +138,7 @@ pub fn undo_set_value(stacks: &mut Stacks) -> Result<(), NoMemory>
 
 /// Nothing is done with a target.
 pub fn undo_no_write(stacks: &mut Stacks) -> Result<(), NoMemory>
-    ensures { IfOk result (λ _. IsUndone forms.WriteNone stacks.old stacks.new) }
+    ensures { IfOk result (λ _. Undone write [] (λ v x. x ≡ write_rests.Nothing) stacks.old stacks.new) }
 {
     put(&mut stacks.writes, WriteRest::Nothing)?;
     Ok(())
@@ -143,7 +146,7 @@ pub fn undo_no_write(stacks: &mut Stacks) -> Result<(), NoMemory>
 
 /// `= value` and its like
 pub fn undo_write(stacks: &mut Stacks, operator: WriteOperator) -> Result<(), NoMemory>
-    requires { IsReady forms.WriteEqual stacks.old }
+    requires { Ready write_equal stacks.old }
     ensures { IfOk result (λ _. Undone write write_equal (λ v x. x ≡ write_rests.Value operator v.1.0) stacks.old stacks.new) }
 {
     let value = take(&mut stacks.expressions);
@@ -153,8 +156,8 @@ pub fn undo_write(stacks: &mut Stacks, operator: WriteOperator) -> Result<(), No
 
 /// `:=: right`
 pub fn undo_swap(stacks: &mut Stacks) -> Result<(), NoMemory>
-    requires { IsReady forms.WriteSwap stacks.old }
-    ensures { IfOk result (λ _. IsUndone forms.WriteSwap stacks.old stacks.new) }
+    requires { Ready write_swap stacks.old }
+    ensures { IfOk result (λ _. Undone write write_swap (λ v x. x ≡ write_rests.Swap v.1.0) stacks.old stacks.new) }
 {
     let right = take(&mut stacks.expressions);
     put(&mut stacks.writes, WriteRest::Swap(right))?;
@@ -171,8 +174,8 @@ pub fn undo_step(stacks: &mut Stacks, step: Step) -> Result<(), NoMemory>
 
 /// The name that a simple statement or a pair begins with.
 pub fn undo_first_name(stacks: &mut Stacks) -> Result<(), NoMemory>
-    requires { IsReady forms.FirstNameName stacks.old }
-    ensures { IfOk result (λ _. IsUndone forms.FirstNameName stacks.old stacks.new) }
+    requires { Ready first_name_name stacks.old }
+    ensures { IfOk result (λ _. Undone first_name first_name_name (λ v x. x ≡ v.0) stacks.old stacks.new) }
 {
     let name = take(&mut stacks.names);
     put(&mut stacks.names, name)?;

@@ -1,18 +1,18 @@
 //! What a simple statement does with its target.
-ghost use Rattle.std.specs.Prelude.{◌≡◌, IfOk};
+ghost use Rattle.std.specs.Prelude.{◌≡◌, IfOk, Ok};
 ghost use Rattle.parse_stacks.specs.declared.tails.WriteRest.TheVariants as write_rests;
 ghost use Rattle.comet_syntax.specs.Written.Expressions.{written, name_alone, by_name};
 ghost use Rattle.comet_syntax.specs.Written.Declarations.{whole_text};
 ghost use Rattle.comet_syntax.specs.Written.Statements.{written_simple, write_text, step_text};
 ghost use Rattle.parse_stacks.specs.declared.tails.NewValue.TheVariants as new_values;
 ghost use Rattle.parse_stacks.specs.declared.tails.NamedRest.TheVariants as named_rests;
-ghost use Rattle.build_statements.specs.MadeSimples.{done_text, named_text};
+ghost use Rattle.build_simples.specs.MadeSimples.{done_text, named_text};
 
 use cbl_base::NoMemory;
 use comet_syntax::tree::{
     Argument, Class, Expression, Name, NewObject, Simple, Step, WriteOperator,
 };
-use parse_stacks::{NamedRest, NewValue, WriteRest, name_operand};
+use parse_stacks::{NamedRest, NewValue, WriteRest, box_two, name_operand};
 use std::alloc::Global;
 
 // `target = value` and its like
@@ -24,8 +24,7 @@ fn make_write(
 ) -> Result<Simple, NoMemory>
     ensures { IfOk result (λ s. written_simple s ≡ write_text operator (written target) (whole_text value)) }
 {
-    let target = Box::new(alloc, target)?;
-    let value = Box::new(alloc, value)?;
+    let (target, value) = box_two(alloc, target, value)?;
     Ok(Simple::Write {
         target,
         operator,
@@ -37,8 +36,7 @@ fn make_write(
 fn make_swap(alloc: Global, left: Expression, right: Expression) -> Result<Simple, NoMemory>
     ensures { IfOk result (λ s. written_simple s ≡ done_text (written left) (write_rests.Swap right)) }
 {
-    let left = Box::new(alloc, left)?;
-    let right = Box::new(alloc, right)?;
+    let (left, right) = box_two(alloc, left, right)?;
     Ok(Simple::Swap { left, right })
 }
 
@@ -107,6 +105,14 @@ fn set_name(alloc: Global, name: Name, value: NewValue) -> Result<Simple, NoMemo
     }
 }
 
+// What was made, with what stands beside it.
+fn beside<A: Drop, B: Drop>(made: Result<A, NoMemory>, other: B) -> Result<(A, B), NoMemory>
+    ensures { IfOk result (λ both. (made ≡ Ok both.0) × (both.1 ≡ other)) }
+{
+    let made = made?;
+    Ok((made, other))
+}
+
 /// A name, and what stands behind it.
 pub fn finish_name(alloc: Global, name: Name, rest: NamedRest) -> Result<Simple, NoMemory>
     ensures { IfOk result (λ s. written_simple s ≡ named_text name rest) }
@@ -121,7 +127,7 @@ pub fn finish_name(alloc: Global, name: Name, rest: NamedRest) -> Result<Simple,
             suffixes,
             write,
         } => {
-            let target = name_operand(alloc, name, called, suffixes)?;
+            let (target, write) = beside(name_operand(alloc, name, called, suffixes), write)?;
             let made = finish_target(alloc, target, write)?;
             Ok(made)
         }
