@@ -4,15 +4,11 @@ ghost use Rattle.checked_tree.specs.Shape.{seen};
 ghost use Rattle.checked_tree.specs.Tasks.{work_of};
 ghost use Rattle.type_scopes.specs.Did.{Did};
 ghost use Rattle.type_expressions.specs.Expressions.{judge, judge_generators};
-ghost use Rattle.comet_types.specs.Statements as statements;
-ghost use Rattle.comet_types.specs.Statements.{statement_of, block_of};
-ghost use Rattle.comet_types.specs.View.{tasks_of};
+ghost use Rattle.type_heads.specs.Heads as heads;
+ghost use Rattle.type_statements.specs.Statements as statements;
+ghost use Rattle.type_statements.specs.Statements.{statement_of, block_of};
+ghost use Rattle.type_statements.specs.View.{tasks_of};
 
-use crate::heads::{
-    apart, check_acted, check_choice, check_declared, check_empty, check_head, check_returned,
-    check_shared, check_watched, condition_fault, declare_events, in_parall, key_fault,
-    truth_fault, write_name,
-};
 use cbl_base::Place;
 use checked_tree::make_tasks::{
     make_block, make_for, make_for_all, make_if, make_if_else, make_neighbor, make_parall,
@@ -24,14 +20,20 @@ use comet_syntax::tree::{
 };
 use type_declarations::rule;
 use type_expressions::check_expression;
+use type_heads::{
+    apart, behind, beside, check_acted, check_choice, check_declared, check_empty, check_head,
+    check_returned, check_shared, check_watched, condition_fault, declare_events, in_parall,
+    key_fault, truth_fault, write_name,
+};
 use type_rules::Context;
 use type_rules::kinds::is_number;
 use type_scopes::{Checker, Scope};
 
-/// What a statement is.
+/// Judges a statement. Refused exactly where the first of its parts that has no case is; `NoMemory` where memory
+/// runs out.
 #[cycle(statement)]
 #[tactic(auto, unfolding(crate::specs::Statements::statement_of, crate::specs::Statements::block_of))]
-pub(crate) fn check_statement(
+pub fn check_statement(
     checker: &mut Checker,
     scope: Scope,
     statement: &Statement,
@@ -129,8 +131,8 @@ fn check_if(
     ensures { Did work_of result checker.new (statements.if_form place (judge test.now) (statement_of «then».now) scope checker.old) }
 {
     let test = check_expression(checker, scope, test)?;
-    rule(place, truth_fault(test.kind))?;
-    let then = check_own(checker, scope, then)?;
+    let test = behind(rule(place, truth_fault(test.kind)), test)?;
+    let (test, then) = beside(test, check_own(checker, scope, then))?;
     make_if(checker.alloc(), place, test, then)
 }
 
@@ -147,9 +149,10 @@ fn check_if_else(
     ensures { Did work_of result checker.new (statements.if_else_form place (judge test.now) (statement_of «then».now) (statement_of otherwise.now) scope checker.old) }
 {
     let test = check_expression(checker, scope, test)?;
-    rule(place, truth_fault(test.kind))?;
-    let then = check_own(checker, scope, then)?;
-    let otherwise = check_own(checker, scope, otherwise)?;
+    let test = behind(rule(place, truth_fault(test.kind)), test)?;
+    let kept = beside(test, check_own(checker, scope, then))?;
+    let (kept, otherwise) = beside(kept, check_own(checker, scope, otherwise))?;
+    let (test, then) = kept;
     make_if_else(checker.alloc(), place, test, then, otherwise)
 }
 
@@ -165,8 +168,8 @@ fn check_while(
     ensures { Did work_of result checker.new (statements.while_form place (judge test.now) (statement_of body.now) scope checker.old) }
 {
     let test = check_expression(checker, scope, test)?;
-    rule(place, truth_fault(test.kind))?;
-    let body = check_own(checker, scope, body)?;
+    let test = behind(rule(place, truth_fault(test.kind)), test)?;
+    let (test, body) = beside(test, check_own(checker, scope, body))?;
     make_while(checker.alloc(), place, test, body)
 }
 
@@ -182,7 +185,7 @@ fn for_within(
     ensures { Did work_of result checker.new (statements.for_within place head.now (statement_of body.now) scope checker.old) }
 {
     let head = check_head(checker, scope, place, head)?;
-    let body = check_own(checker, scope, body)?;
+    let (head, body) = beside(head, check_own(checker, scope, body))?;
     make_for(
         checker.alloc(),
         place,
@@ -222,8 +225,9 @@ fn for_all_within(
     ensures { Did work_of result checker.new (statements.for_all_within place (judge_generators generators.now) (statement_of body.now) scope checker.old) }
 {
     let choice = check_choice(checker, scope, scope, generators)?;
-    rule(place, condition_fault(&choice.condition))?;
-    let body = check_own(checker, scope, body)?;
+    let ruled = rule(place, condition_fault(&choice.condition));
+    let choice = behind(ruled, choice)?;
+    let (choice, body) = beside(choice, check_own(checker, scope, body))?;
     make_for_all(
         checker.alloc(),
         place,
@@ -262,8 +266,9 @@ fn select_within(
     ensures { Did work_of result checker.new (statements.select_within place (judge_generators generators.now) (statement_of body.now) scope checker.old) }
 {
     let choice = check_choice(checker, scope.within(Context::Pure), scope, generators)?;
-    rule(place, condition_fault(&choice.condition))?;
-    let body = check_own(checker, scope, body)?;
+    let ruled = rule(place, condition_fault(&choice.condition));
+    let choice = behind(ruled, choice)?;
+    let (choice, body) = beside(choice, check_own(checker, scope, body))?;
     make_select(
         checker.alloc(),
         place,
@@ -305,9 +310,11 @@ fn select_by_within(
 {
     let pure = scope.within(Context::Pure);
     let choice = check_choice(checker, pure, scope, generators)?;
-    let key = check_expression(checker, pure, key)?;
-    rule(place, key_fault(&choice.condition, key.kind))?;
-    let body = check_own(checker, scope, body)?;
+    let kept = beside(choice, check_expression(checker, pure, key))?;
+    let ruled = rule(place, key_fault(&kept.0.condition, kept.1.kind));
+    let kept = behind(ruled, kept)?;
+    let (kept, body) = beside(kept, check_own(checker, scope, body))?;
+    let (choice, key) = kept;
     make_select_by(
         checker.alloc(),
         place,
@@ -353,8 +360,9 @@ fn check_neighbor(
 {
     let key = check_expression(checker, scope, key)?;
     let fit = is_number(key.kind);
-    let slot = write_name(checker, place, Kind::Selector, fit, selector, scope)?;
-    let body = check_own(checker, apart(scope), body)?;
+    let slot = write_name(checker, place, Kind::Selector, fit, selector, scope);
+    let (key, slot) = beside(key, slot)?;
+    let (key, body) = beside(key, check_own(checker, apart(scope), body))?;
     make_neighbor(checker.alloc(), place, key, slot, body)
 }
 
@@ -387,8 +395,8 @@ fn watching_within(
 ) -> Result<Task, Stop>
     ensures { Did work_of result checker.new (statements.watching_within place (seen variable) names.now (statement_of body.now) scope checker.old) }
 {
-    let slots = declare_events(checker, scope, names)?;
-    let body = check_own(checker, scope, body)?;
+    let (variable, slots) = beside(variable, declare_events(checker, scope, names))?;
+    let (variable, body) = beside(variable, check_own(checker, scope, body))?;
     make_whenever(checker.alloc(), place, variable, slots, body)
 }
 
@@ -425,8 +433,10 @@ fn parall_within(
 {
     let count = checker.count();
     let slot = scope.slot_of(count);
-    checker.declare(name.text.as_slice(), Kind::Int)?;
-    let body = check_own(checker, in_parall(count, scope), body)?;
+    let declared = checker.declare(name.text.as_slice(), Kind::Int);
+    let domain = behind(declared, domain)?;
+    let body = check_own(checker, in_parall(count, scope), body);
+    let (domain, body) = beside(domain, body)?;
     make_parall(checker.alloc(), place, slot, domain, body)
 }
 
@@ -490,10 +500,10 @@ fn check_opened(
     Ok(make_block(place, tasks))
 }
 
-/// A block, in a scope of its own.
+/// Judges a block, in a scope of its own. Refused exactly as its statements are; `NoMemory` where memory runs out.
 #[cycle(statement)]
 #[tactic(auto, using(crate::proofs::Blocks::block_is), unfolding(crate::specs::Statements::within_own))]
-pub(crate) fn check_block(checker: &mut Checker, scope: Scope, block: &Block) -> Result<Task, Stop>
+pub fn check_block(checker: &mut Checker, scope: Scope, block: &Block) -> Result<Task, Stop>
     ensures { Did work_of result checker.new (statements.within_own (block_of block.now) scope checker.old) }
 {
     let count = checker.count();

@@ -2,11 +2,11 @@ use Rattle.std.proofs.Common.{ℕ, ◌+◌, ◌*◌}
 use Rattle.std.specs.Prelude.{max, map, []}
 use Rattle.comet_syntax.specs.declared.tree.statements.Statement.{size-Statement}
 use Rattle.comet_syntax.specs.declared.tree.statements.Block.{size-Block}
-use Rattle.comet_types.specs.Statements.{statement_of, task_form}
+use Rattle.type_statements.specs.Statements.{statement_of, task_form}
 use Rattle.type_scopes.specs.State.{each}
-use Rattle.comet_types.specs.View.{tasks_of}
+use Rattle.type_statements.specs.View.{tasks_of}
 use Rattle.type_scopes.proofs.Loops.{Runs}
-use Rattle.comet_types.proofs.statements.+statement.Given as goal
+use Rattle.type_statements.proofs.statements.+statement.Given as goal
 
 abbrev pub decreases-check_statement : goal.decreases-check_statement
 decreases-check_statement l = 8 * size-Statement l.statement.now

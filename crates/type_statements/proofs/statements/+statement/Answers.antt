@@ -1,10 +1,10 @@
 use Rattle.std.proofs.Common.{ap, map, List}
 use Rattle.checked_tree.specs.declared.statements.Task.{Task}
 use Rattle.checked_tree.specs.Tasks.{work_of}
-use Rattle.comet_types.specs.Statements.{statement_of, task_form, tasks_form}
+use Rattle.type_statements.specs.Statements.{statement_of, task_form, tasks_form}
 use Rattle.type_scopes.proofs.Loops.{runs_start, runs_step, runs_stop, runs_end, passes}
-use Rattle.comet_types.proofs.Blocks.{empty_is}
-use Rattle.comet_types.proofs.statements.+statement.Goals as goal
+use Rattle.type_statements.proofs.Blocks.{empty_is}
+use Rattle.type_statements.proofs.statements.+statement.Goals as goal
 
 pub check_statement-returns-in-Empty : goal.check_statement-returns-in-Empty
 check_statement-returns-in-Empty t c = rw (c.in-Empty.is, empty_is c.in-Empty.place) (c.check_empty.ensures c.args.scope c.args.checker.now)
