@@ -15,14 +15,14 @@ use cbl_violations as violations;
 use std::alloc::Global;
 
 /// The numbers of the inputs, 0 for a set.
-pub(crate) fn numbers_of(alloc: Global, inputs: &[Input]) -> Result<Vec<i64>, NoMemory>
+pub fn numbers_of(alloc: Global, inputs: &[Input]) -> Result<Vec<i64>, NoMemory>
     ensures { IfOk result (λ v. v.items ≡ numbers_of inputs.now) }
 {
     Ok(inputs.iter().map(number_of).collect(alloc)?)
 }
 
 /// The number of an input, 0 for a set.
-pub(crate) fn number_of(input: &Input) -> i64
+pub fn number_of(input: &Input) -> i64
     ensures { result ≡ number_of input.now }
 {
     match input {

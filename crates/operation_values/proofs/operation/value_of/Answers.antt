@@ -20,9 +20,9 @@ use Rattle.cbl_operations.specs.Operations.Lt.{lt}
 use Rattle.cbl_operations.specs.Operations.Ne.{ne}
 use Rattle.cbl_operations.specs.Operations.Not.{not}
 use Rattle.cbl_operations.specs.Operations.Or.{or}
-use Rattle.model_values.proofs.KeyedValues.{of_value, arg_min_again, arg_max_again, set_of_again}
-use Rattle.model_values.proofs.operation.value_of.Goals as goal
-use Rattle.model_values.proofs.operation.value_of.Goals.{in-Card, in-Member, in-Add, in-Sub, in-Mul, in-Div, in-Rem, in-Neg, in-Abs, in-Least, in-Greatest, in-Sum, in-Count, in-Element, in-Element2, in-Eq, in-Ne, in-Le, in-Lt, in-And, in-Or, in-Not, in-ViolEq, in-ViolNe, in-ViolLe, in-ViolLt, in-AllDifferent, in-AtMost, in-AtLeast, in-Exactly, in-Knapsack, in-MultiKnapsack, in-Sequence, in-AllOf, in-AnyOf, in-NotHeld, in-User+in_ok-value-in-User}
+use Rattle.operation_values.proofs.KeyedValues.{of_value, arg_min_again, arg_max_again, set_of_again}
+use Rattle.operation_values.proofs.operation.value_of.Goals as goal
+use Rattle.operation_values.proofs.operation.value_of.Goals.{in-Card, in-Member, in-Add, in-Sub, in-Mul, in-Div, in-Rem, in-Neg, in-Abs, in-Least, in-Greatest, in-Sum, in-Count, in-Element, in-Element2, in-Eq, in-Ne, in-Le, in-Lt, in-And, in-Or, in-Not, in-ViolEq, in-ViolNe, in-ViolLe, in-ViolLt, in-AllDifferent, in-AtMost, in-AtLeast, in-Exactly, in-Knapsack, in-MultiKnapsack, in-Sequence, in-AllOf, in-AnyOf, in-NotHeld, in-User+in_ok-value-in-User}
 
 pub returns : goal.returns
 returns g c = elim c.match-op.branch [

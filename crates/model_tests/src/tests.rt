@@ -1,9 +1,9 @@
 //! Models that are built and asked, with the values that the language's description gives.
-use super::*;
-use crate::users::NoUsers;
 use cbl_base::{NoMemory, Place, RunFault, VarId};
 use cbl_operations::Op;
+use model_values::{AskStop, ModelStop, Move, NoUsers, Whole, delta, fresh, variable_violations};
 use std::alloc::Global;
+use std::process::Abort;
 use std::test::*;
 use term_model::{Definition, Member, Model, Posted, Term, Total, VarDecl, VarKind, is_usable};
 
@@ -23,6 +23,19 @@ fn node(alloc: Global, op: Op, left: Term, right: Term, col: u32) -> Result<Term
         op,
         args,
         place: at(col),
+    })
+}
+
+// `c[x]` over 10, 20, 30 with its `[` at this place.
+fn cell_of(alloc: Global, place: Place) -> Result<Term, NoMemory> {
+    let mut args = Vec::new(alloc);
+    for term in [var(0), Term::Const(10), Term::Const(20), Term::Const(30)] {
+        args.push(term)?;
+    }
+    Ok(Term::Node {
+        op: Op::Element { low: 1, len: 3 },
+        args,
+        place,
     })
 }
 
@@ -72,6 +85,18 @@ fn constrain(model: &mut Model, member: u32, term: Term, weight: i64) -> Result<
         total.members.push(Member { term, weight })?;
     }
     post(model, Posted::Constrain { system: 0, member })
+}
+
+// A second system, with one member.
+fn constrain_second(alloc: Global, model: &mut Model, term: Term) -> Result<(), NoMemory> {
+    let mut members = Vec::new(alloc);
+    members.push(Member { term, weight: 1 })?;
+    model.systems.push(Total {
+        place: at(92),
+        members,
+    })?;
+    let (system, member) = (1, 0);
+    post(model, Posted::Constrain { system, member })
 }
 
 fn add_part(model: &mut Model, member: u32, term: Term) -> Result<(), NoMemory> {
@@ -199,31 +224,56 @@ const SYSTEM: Whole = Whole::System(0);
 
 const OBJECTIVE: Whole = Whole::Objective(0);
 
+// A model that is asked, with what each answer is to be.
+#[derive(Drop)]
+struct Asked<'a, R> {
+    rt: &'a R,
+    alloc: Global,
+    model: &'a Model,
+}
+
+fn ask<'a, R>(rt: &'a R, alloc: Global, model: &'a Model) -> Asked<'a, R> {
+    Asked { rt, alloc, model }
+}
+
+impl<R: Abort> Asked<'_, R> {
+    fn system(&self, assignment: &[i64], wanted: Result<i64, ModelStop>) {
+        let found = system_at(self.alloc, self.model, assignment);
+        assert_eq!(self.rt; found, Some(wanted));
+    }
+
+    fn objective(&self, assignment: &[i64], wanted: Result<i64, ModelStop>) {
+        let found = objective_at(self.alloc, self.model, assignment);
+        assert_eq!(self.rt; found, Some(wanted));
+    }
+
+    fn violations(&self, assignment: &[i64], system: u32, var: u32, wanted: Result<i64, AskStop>) {
+        let found = violations_at(self.alloc, self.model, assignment, system, var);
+        assert_eq!(self.rt; found, Some(wanted));
+    }
+
+    fn delta(&self, assignment: &[i64], whole: Whole, change: Move, wanted: Result<i64, AskStop>) {
+        let found = delta_at(self.alloc, self.model, assignment, whole, change);
+        assert_eq!(self.rt; found, Some(wanted));
+    }
+}
+
 #[test]
 fn queens_of_four(rt: HostRuntime) -> Result<(), Fail> {
     let alloc = rt.alloc();
     let model = queens(alloc)?;
-    assert_eq!(rt; system_at(alloc, &model, &[1, 1, 1, 1]), Some(Ok(3)));
-    assert_eq!(rt; system_at(alloc, &model, &[1, 2, 3, 4]), Some(Ok(3)));
-    for (assignment, change, wanted) in [
-        ([1, 1, 1, 1], Move::Assign { var: 1, value: 3 }, 0),
-        ([1, 2, 3, 4], Move::Swap { left: 0, right: 3 }, -1),
-        ([1, 2, 3, 4], Move::Swap { left: 0, right: 0 }, 0),
-    ] {
-        assert_eq!(rt;
-            delta_at(alloc, &model, &assignment, SYSTEM, change),
-            Some(Ok(wanted))
-        );
-    }
+    let asked = ask(&rt, alloc, &model);
+    asked.system(&[1, 1, 1, 1], Ok(3));
+    asked.system(&[1, 2, 3, 4], Ok(3));
+    let change = Move::Assign { var: 1, value: 3 };
+    asked.delta(&[1, 1, 1, 1], SYSTEM, change, Ok(0));
+    let ends = Move::Swap { left: 0, right: 3 };
+    asked.delta(&[1, 2, 3, 4], SYSTEM, ends, Ok(-1));
+    let itself = Move::Swap { left: 0, right: 0 };
+    asked.delta(&[1, 2, 3, 4], SYSTEM, itself, Ok(0));
     // in one row each queen is in one constraint that doesn't hold, and likewise in one diagonal
-    assert_eq!(rt;
-        violations_at(alloc, &model, &[1, 1, 1, 1], 0, 2),
-        Some(Ok(1))
-    );
-    assert_eq!(rt;
-        violations_at(alloc, &model, &[1, 2, 3, 4], 0, 2),
-        Some(Ok(1))
-    );
+    asked.violations(&[1, 1, 1, 1], 0, 2, Ok(1));
+    asked.violations(&[1, 2, 3, 4], 0, 2, Ok(1));
     Ok(())
 }
 
@@ -236,9 +286,10 @@ fn the_least_of_a_disjunction(rt: HostRuntime) -> Result<(), Fail> {
     let right = node(alloc, Op::ViolLe, var(1), Term::Const(1), 9)?;
     let either = node(alloc, Op::AnyOf, left, right, 6)?;
     constrain(&mut model, 0, either, 1)?;
-    assert_eq!(rt; system_at(alloc, &model, &[2, 3]), Some(Ok(2)));
-    assert_eq!(rt; violations_at(alloc, &model, &[2, 3], 0, 0), Some(Ok(0)));
-    assert_eq!(rt; violations_at(alloc, &model, &[2, 3], 0, 1), Some(Ok(2)));
+    let asked = ask(&rt, alloc, &model);
+    asked.system(&[2, 3], Ok(2));
+    asked.violations(&[2, 3], 0, 0, Ok(0));
+    asked.violations(&[2, 3], 0, 1, Ok(2));
     Ok(())
 }
 
@@ -251,13 +302,11 @@ fn a_weight_multiplies(rt: HostRuntime) -> Result<(), Fail> {
     let right = node(alloc, Op::ViolLe, var(1), Term::Const(0), 9)?;
     let both = node(alloc, Op::AllOf, left, right, 6)?;
     constrain(&mut model, 0, both, 3)?;
-    assert_eq!(rt; system_at(alloc, &model, &[1, 2]), Some(Ok(15)));
-    assert_eq!(rt; violations_at(alloc, &model, &[1, 2], 0, 1), Some(Ok(6)));
+    let asked = ask(&rt, alloc, &model);
+    asked.system(&[1, 2], Ok(15));
+    asked.violations(&[1, 2], 0, 1, Ok(6));
     let change = Move::Assign { var: 0, value: 4 };
-    assert_eq!(rt;
-        delta_at(alloc, &model, &[1, 2], SYSTEM, change),
-        Some(Ok(-9))
-    );
+    asked.delta(&[1, 2], SYSTEM, change, Ok(-9));
     Ok(())
 }
 
@@ -268,12 +317,10 @@ fn the_delta_of_a_square(rt: HostRuntime) -> Result<(), Fail> {
     let mut model = model_of(alloc, 1)?;
     let square = node(alloc, Op::Mul, var(0), var(0), 3)?;
     add_part(&mut model, 0, square)?;
-    assert_eq!(rt; objective_at(alloc, &model, &[3]), Some(Ok(9)));
+    let asked = ask(&rt, alloc, &model);
+    asked.objective(&[3], Ok(9));
     let change = Move::Assign { var: 0, value: 4 };
-    assert_eq!(rt;
-        delta_at(alloc, &model, &[3], OBJECTIVE, change),
-        Some(Ok(7))
-    );
+    asked.delta(&[3], OBJECTIVE, change, Ok(7));
     Ok(())
 }
 
@@ -292,15 +339,13 @@ fn an_element_out_of_range_after_a_move(rt: HostRuntime) -> Result<(), Fail> {
         place: at(4),
     };
     add_part(&mut model, 0, cell)?;
-    assert_eq!(rt; objective_at(alloc, &model, &[2]), Some(Ok(8)));
+    let asked = ask(&rt, alloc, &model);
+    asked.objective(&[2], Ok(8));
     let change = Move::Assign { var: 0, value: 3 };
     let wanted = AskStop::Fault(at(4), RunFault::OutOfRange);
-    assert_eq!(rt;
-        delta_at(alloc, &model, &[2], OBJECTIVE, change),
-        Some(Err(wanted))
-    );
+    asked.delta(&[2], OBJECTIVE, change, Err(wanted));
     // the system doesn't stand on the cell
-    assert_eq!(rt; delta_at(alloc, &model, &[2], SYSTEM, change), Some(Ok(0)));
+    asked.delta(&[2], SYSTEM, change, Ok(0));
     Ok(())
 }
 
@@ -314,13 +359,11 @@ fn a_partial_sum_that_does_not_fit(rt: HostRuntime) -> Result<(), Fail> {
     define(&mut model, 1, term)?;
     post(&mut model, Posted::Define(0))?;
     let stop = ModelStop::Fault(at(19), RunFault::Overflow);
-    assert_eq!(rt; system_at(alloc, &model, &[i64::MAX, 0]), Some(Err(stop)));
+    let asked = ask(&rt, alloc, &model);
+    asked.system(&[i64::MAX, 0], Err(stop));
     let change = Move::Assign { var: 1, value: 3 };
     let wanted = AskStop::Run(RunFault::DefinedVariable);
-    assert_eq!(rt;
-        delta_at(alloc, &model, &[1, 0], SYSTEM, change),
-        Some(Err(wanted))
-    );
+    asked.delta(&[1, 0], SYSTEM, change, Err(wanted));
     Ok(())
 }
 
@@ -340,7 +383,8 @@ fn a_sum_is_exact(rt: HostRuntime) -> Result<(), Fail> {
     };
     add_part(&mut model, 0, sum)?;
     let k = i64::MAX;
-    assert_eq!(rt; objective_at(alloc, &model, &[k, k, -k]), Some(Ok(k)));
+    let asked = ask(&rt, alloc, &model);
+    asked.objective(&[k, k, -k], Ok(k));
     Ok(())
 }
 
@@ -360,7 +404,8 @@ fn definitions_used_before_their_declaration(rt: HostRuntime) -> Result<(), Fail
         }
     }
     add_part(&mut model, 0, var(0))?;
-    assert_eq!(rt; objective_at(alloc, &model, &assignment), Some(Ok(262_143)));
+    let asked = ask(&rt, alloc, &model);
+    asked.objective(&assignment, Ok(262_143));
     Ok(())
 }
 
@@ -369,38 +414,19 @@ fn definitions_used_before_their_declaration(rt: HostRuntime) -> Result<(), Fail
 fn violations_through_a_definition(rt: HostRuntime) -> Result<(), Fail> {
     let alloc = rt.alloc();
     let mut model = model_of(alloc, 3)?;
-    let mut args = Vec::new(alloc);
-    for term in [var(0), Term::Const(10), Term::Const(20), Term::Const(30)] {
-        args.push(term)?;
-    }
-    let cell = Term::Node {
-        op: Op::Element { low: 1, len: 3 },
-        args,
-        place: at(39),
-    };
+    let cell = cell_of(alloc, at(39))?;
     define(&mut model, 1, cell)?;
     post(&mut model, Posted::Define(0))?;
     let most = node(alloc, Op::ViolLe, var(1), Term::Const(20), 7)?;
     constrain(&mut model, 0, most, 1)?;
-    assert_eq!(rt;
-        violations_at(alloc, &model, &[3, 0, 0], 0, 0),
-        Some(Ok(10))
-    );
-    assert_eq!(rt;
-        violations_at(alloc, &model, &[3, 0, 0], 0, 1),
-        Some(Ok(10))
-    );
-    assert_eq!(rt; violations_at(alloc, &model, &[3, 0, 0], 0, 2), Some(Ok(0)));
+    let asked = ask(&rt, alloc, &model);
+    asked.violations(&[3, 0, 0], 0, 0, Ok(10));
+    asked.violations(&[3, 0, 0], 0, 1, Ok(10));
+    asked.violations(&[3, 0, 0], 0, 2, Ok(0));
     let change = Move::Assign { var: 0, value: 3 };
-    assert_eq!(rt;
-        delta_at(alloc, &model, &[1, 0, 0], SYSTEM, change),
-        Some(Ok(10))
-    );
+    asked.delta(&[1, 0, 0], SYSTEM, change, Ok(10));
     let wanted = AskStop::Fault(at(39), RunFault::OutOfRange);
-    assert_eq!(rt;
-        violations_at(alloc, &model, &[4, 0, 0], 0, 0),
-        Some(Err(wanted))
-    );
+    asked.violations(&[4, 0, 0], 0, 0, Err(wanted));
     Ok(())
 }
 
@@ -412,38 +438,16 @@ fn a_fault_of_another_system(rt: HostRuntime) -> Result<(), Fail> {
     let sum = node(alloc, Op::Add, var(0), var(0), 3)?;
     let zero = node(alloc, Op::ViolEq, sum, Term::Const(0), 5)?;
     constrain(&mut model, 0, zero, 1)?;
-    let mut members = Vec::new(alloc);
     let term = node(alloc, Op::ViolLe, var(0), Term::Const(1), 9)?;
-    members.push(Member { term, weight: 1 })?;
-    model.systems.push(Total {
-        place: at(92),
-        members,
-    })?;
-    let (system, member) = (1, 0);
-    post(&mut model, Posted::Constrain { system, member })?;
+    constrain_second(alloc, &mut model, term)?;
     let k = i64::MAX;
     let stop = AskStop::Fault(at(3), RunFault::Overflow);
-    assert_eq!(rt; violations_at(alloc, &model, &[k], 0, 0), Some(Err(stop)));
-    assert_eq!(rt; violations_at(alloc, &model, &[k], 1, 0), Some(Ok(k - 1)));
+    let asked = ask(&rt, alloc, &model);
+    asked.violations(&[k], 0, 0, Err(stop));
+    asked.violations(&[k], 1, 0, Ok(k - 1));
     let change = Move::Assign { var: 0, value: 1 };
-    assert_eq!(rt;
-        delta_at(alloc, &model, &[k], Whole::System(1), change),
-        Some(Ok(1 - k))
-    );
+    asked.delta(&[k], Whole::System(1), change, Ok(1 - k));
     Ok(())
-}
-
-// `c[x]` over 10, 20, 30 with its `[` at this place.
-fn cell_of(alloc: Global, place: Place) -> Result<Term, NoMemory> {
-    let mut args = Vec::new(alloc);
-    for term in [var(0), Term::Const(10), Term::Const(20), Term::Const(30)] {
-        args.push(term)?;
-    }
-    Ok(Term::Node {
-        op: Op::Element { low: 1, len: 3 },
-        args,
-        place,
-    })
 }
 
 // Line 4 posts `c[x] <= 90` to one system, and line 5 `12/(4-x) + c[x] <= 20` to another: the cell has the number
@@ -461,32 +465,14 @@ fn a_subterm_that_was_posted_to_another_system(rt: HostRuntime) -> Result<(), Fa
     let again = cell_of(alloc, Place { line: 5, col: 60 })?;
     let sum = node(alloc, Op::Add, part, again, 55)?;
     let term = node(alloc, Op::ViolLe, sum, Term::Const(20), 65)?;
-    let mut members = Vec::new(alloc);
-    members.push(Member { term, weight: 1 })?;
-    model.systems.push(Total {
-        place: at(92),
-        members,
-    })?;
-    let (system, member) = (1, 0);
-    post(&mut model, Posted::Constrain { system, member })?;
+    constrain_second(alloc, &mut model, term)?;
     let change = Move::Assign { var: 0, value: 4 };
     let wanted = AskStop::Fault(bracket, RunFault::OutOfRange);
-    for whole in [SYSTEM, Whole::System(1)] {
-        assert_eq!(rt;
-            delta_at(alloc, &model, &[1], whole, change),
-            Some(Err(wanted))
-        );
-    }
-    assert_eq!(rt; violations_at(alloc, &model, &[4], 1, 0), Some(Err(wanted)));
-    assert_eq!(rt;
-        delta_at(
-            alloc,
-            &model,
-            &[1],
-            Whole::System(1),
-            Move::Assign { var: 0, value: 3 }
-        ),
-        Some(Ok(22))
-    );
+    let asked = ask(&rt, alloc, &model);
+    asked.delta(&[1], SYSTEM, change, Err(wanted));
+    asked.delta(&[1], Whole::System(1), change, Err(wanted));
+    asked.violations(&[4], 1, 0, Err(wanted));
+    let change = Move::Assign { var: 0, value: 3 };
+    asked.delta(&[1], Whole::System(1), change, Ok(22));
     Ok(())
 }
