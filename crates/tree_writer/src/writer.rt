@@ -5,22 +5,22 @@ use std::alloc::Global;
 
 /// Whether places are written.
 #[derive(Clone, Copy, PartialEq, Eq, Debug)]
-pub(crate) enum Places {
+pub enum Places {
     Written,
     Omitted,
 }
 
 /// What is written so far.
 #[derive(Drop)]
-pub(crate) struct Writer {
+pub struct Writer {
     pub(crate) alloc: Global,
     pub(crate) places: Places,
-    pub(crate) out: Vec<u8>,
+    pub out: Vec<u8>,
 }
 
 impl Writer {
     /// Nothing yet.
-    pub(crate) fn new(alloc: Global, places: Places) -> Writer {
+    pub fn new(alloc: Global, places: Places) -> Writer {
         Writer {
             alloc,
             places,
@@ -29,31 +29,31 @@ impl Writer {
     }
 
     /// Writes bytes as they stand.
-    pub(crate) fn bytes(&mut self, bytes: &[u8]) -> Result<(), NoMemory> {
+    pub fn bytes(&mut self, bytes: &[u8]) -> Result<(), NoMemory> {
         self.out.extend_from_slice(bytes)?;
         Ok(())
     }
 
     /// Writes words as they stand.
-    pub(crate) fn words(&mut self, words: &str) -> Result<(), NoMemory> {
+    pub fn words(&mut self, words: &str) -> Result<(), NoMemory> {
         self.bytes(words.as_bytes())
     }
 
     /// Writes a number in decimal.
-    pub(crate) fn number(&mut self, value: i64) -> Result<(), NoMemory> {
+    pub fn number(&mut self, value: i64) -> Result<(), NoMemory> {
         let mut buffer = Buffer::new();
         self.words(buffer.format(value))
     }
 
     /// Writes `line:column`.
-    pub(crate) fn place(&mut self, place: Place) -> Result<(), NoMemory> {
+    pub fn place(&mut self, place: Place) -> Result<(), NoMemory> {
         self.number(i64::from(place.line))?;
         self.words(":")?;
         self.number(i64::from(place.col))
     }
 
     /// Writes `@line:column`, where places are written.
-    pub(crate) fn mark(&mut self, place: Place) -> Result<(), NoMemory> {
+    pub fn mark(&mut self, place: Place) -> Result<(), NoMemory> {
         match self.places {
             Places::Omitted => Ok(()),
             Places::Written => {

@@ -132,7 +132,7 @@ fn write_part<'a>(
 
 /// Writes a program. What a part consists of is put on the list of what is still to be written, so that
 /// nothing is too deep.
-pub(crate) fn write_program(writer: &mut Writer, program: &Program) -> Result<(), NoMemory> {
+pub fn write_program(writer: &mut Writer, program: &Program) -> Result<(), NoMemory> {
     let mut todo = Vec::new(writer.alloc);
     let mut before = "";
     for part in &program.parts {
