@@ -6,7 +6,7 @@ use std::io;
 
 /// Why nothing is measured.
 #[derive(Clone, Copy, PartialEq, Eq, Debug)]
-pub(crate) enum Stop {
+pub enum Stop {
     NoMemory,
     /// The words name no benchmark, or are out of form.
     Words,

@@ -226,10 +226,7 @@ fn print_time<R: Print>(rt: &R, what: &str, bytes: usize, took: Duration) -> Res
 
 /// Times a text of as many bytes as the word says, or reads the deep or long text that it names, with as many
 /// parts as a second word says.
-pub(crate) fn time_parse<R: Print + AllocGlobal + Clock>(
-    rt: &R,
-    words: &[String],
-) -> Result<(), Stop> {
+pub fn time_parse<R: Print + AllocGlobal + Clock>(rt: &R, words: &[String]) -> Result<(), Stop> {
     match words {
         [word] => match word.parse::<usize>() {
             Ok(bytes) => time_statements(rt, bytes),

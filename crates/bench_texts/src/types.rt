@@ -60,10 +60,7 @@ fn measure<R: AllocGlobal + Clock>(rt: &R, text: &str) -> Result<Measured, Stop>
 }
 
 /// Times a text that declares as many names as the word says, at most 104,857 in a text of 1 MiB.
-pub(crate) fn time_types<R: Print + AllocGlobal + Clock>(
-    rt: &R,
-    words: &[String],
-) -> Result<(), Stop> {
+pub fn time_types<R: Print + AllocGlobal + Clock>(rt: &R, words: &[String]) -> Result<(), Stop> {
     let [word] = words else {
         return Err(Stop::Words);
     };
