@@ -1,5 +1,5 @@
 -- Statements and whole programs go onward.
-use Rattle.std.proofs.Common.{◌≤◌, refl, ℕ, zero, suc, ℤ, List, [], ◌∷◌, ◌++◌, Option, Some, None, arith}
+use Rattle.std.proofs.Common.{◌≤◌, refl, ℕ, zero, suc, ℤ, List, [], ◌∷◌, ◌++◌, Option, Some, None, nat_eq, arith}
 use Rattle.cbl_base.specs.declared.place.Place.{Place}
 use Rattle.comet_syntax.specs.declared.tree.statements.Step.{Step}
 use Rattle.comet_syntax.specs.declared.tree.statements.WriteOperator.{WriteOperator}
@@ -20,7 +20,7 @@ use Rattle.comet_meaning.specs.State.{State, left}
 use Rattle.comet_meaning.specs.Outcome.{Outcome, Went, Halted, Act}
 use Rattle.comet_meaning.specs.Levels.{Code, Level, Flow, Next, Returned, Target, Nowhere, Name, Element, Moved}
 use Rattle.comet_meaning.specs.Writes.{name_target, index_target, cell_target, target_of_form, target_of_expression, old_value, write, assign_form, changed, add_form, write_form, stepped, step_form}
-use Rattle.comet_meaning.specs.Declarations.{Dimension, copied_form, scalar_form, dimensions_form, put_named, each_cell, start_number, next_cell, listed_form, started_cells, numbers_form, array_form, make_input, object_form}
+use Rattle.comet_meaning.specs.Declarations.{Dimension, copied_form, scalar_form, dimensions_form, put_named, cell_count, each_cell, every_cell, start_number, next_cell, listed_form, started_cells, numbers_form, array_form, make_input, object_form}
 use Rattle.comet_meaning.specs.Models.{make_solver}
 use Rattle.comet_meaning.specs.Printing.{array_text, value_text, print, shown_form, print_form}
 use Rattle.comet_meaning.specs.Loops.{tasks, then_next, tasks_form, if_form, if_else_form, end_or, turns, repeated, behind_body, turn_form, while_form, counter_form, for_form, is_next, visited, for_all_form}
@@ -126,6 +126,10 @@ goes_each_cell visit [] xs k = k xs
 goes_each_cell visit (d ∷ ds) xs k =
     goes_each_in _ _ _ xs (λ z ys. goes_then (goes_put_named d.slot z) (λ _. goes_each_cell visit ds ys k))
 
+pub goes_every_cell : (visit : List ℤ → Act (List ℤ)) (ds : List Dimension) → ((ys : List ℤ) → GoesOn (visit ys)) → GoesOn (every_cell visit ds)
+unfolding every_cell
+goes_every_cell visit ds k = goes_if (nat_eq (cell_count ds) 0) goes_give (goes_each_cell visit ds [] k)
+
 pub goes_start_number : (l : Level) → LevelGoesOn l → (e : Option Seen) → GoesOn (start_number l e)
 unfolding start_number
 goes_start_number l h None = goes_give
@@ -143,11 +147,11 @@ goes_listed l h at count e =
 pub goes_started_cells : (l : Level) → LevelGoesOn l → (at : Place) (ds : List Dimension) (w : Way) (e : Seen) → GoesOn (started_cells l at ds w e)
 unfolding started_cells
 goes_started_cells l h at ds ways.List e = goes_listed l h at _ e
-goes_started_cells l h at ds w e = goes_each_cell _ ds [] (λ xs. goes_next_cell l h at (Some e) xs)
+goes_started_cells l h at ds w e = goes_every_cell _ ds (λ xs. goes_next_cell l h at (Some e) xs)
 
 pub goes_numbers : (l : Level) → LevelGoesOn l → (at : Place) (ds : List Dimension) (x : Option Started) → GoesOn (numbers_form l at ds x)
 unfolding numbers_form
-goes_numbers l h at ds None = goes_each_cell _ ds [] (λ xs. goes_next_cell l h at None xs)
+goes_numbers l h at ds None = goes_every_cell _ ds (λ xs. goes_next_cell l h at None xs)
 goes_numbers l h at ds (Some x) = goes_started_cells l h at ds x.way x.value
 
 pub goes_array : (l : Level) → LevelGoesOn l → (at : Place) (slot : Slot) (sizes : List Sized) (x : Option Started) → GoesOn (array_form l at slot sizes x)
