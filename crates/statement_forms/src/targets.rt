@@ -9,12 +9,13 @@ ghost use Rattle.run_steps.specs.Views.{part};
 ghost use Rattle.run_state.specs.Targets.{target_seen};
 ghost use Rattle.run_state.specs.Views.{state_seen};
 
-use cbl_base::{Place, RunFault};
+use cbl_base::Place;
 use checked_tree::{Form, Kind, Typed};
 use expression_forms::expressions::{number_of, value_of};
 use run_state::{Out, State, Target};
-use run_steps::inside::Within;
+use run_steps::inside::{Around, Within};
 use run_steps::operands::{target_in_array, target_in_grid};
+use run_steps::plain::plain_target;
 use run_values::Stop;
 
 /// What an expression of this kind at this place stands for, by its form.
@@ -84,4 +85,20 @@ fn target_of_cell<O: Out, W: Within<O>>(
     let row = number_of(s, out, inside, row)?;
     let column = number_of(s, out, inside, column);
     target_in_grid(s, at, &grid, row, column)
+}
+
+/// What an expression stands for where it is written: a name that holds a number or a truth value for its own cell.
+pub fn target_of<O: Out, W: Around<O>>(
+    s: &mut State,
+    out: &mut O,
+    inside: &W,
+    e: &Typed,
+) -> Result<Target, Stop>
+    requires locates { W.can_locate inside.now }
+    ensures did { Does target_seen result (state_seen s.new (O.taken out.new)) ((level (W.code inside.now) (W.depth inside.now)).target (part e.now) (state_seen s.old (O.taken out.old))) }
+{
+    match plain_target(inside.room(), e) {
+        Some(target) => Ok(target),
+        None => inside.locate(s, out, e),
+    }
 }

@@ -6,6 +6,7 @@ ghost use Rattle.comet_meaning.specs.Writes.{add_form, assign_form, step_form, w
 ghost use Rattle.run_steps.specs.Does.{Does};
 ghost use Rattle.run_state.specs.Views.{state_seen};
 
+use crate::targets::target_of;
 use cbl_base::Place;
 use checked_tree::Typed;
 use comet_syntax::tree::{Step, WriteOperator};
@@ -54,7 +55,7 @@ fn assign<O: Out, W: Around<O>>(
     ensures did { Does (λ _. tt) result (state_seen s.new (O.taken out.new)) (assign_form (level (W.code inside.now) (W.depth inside.now)) at (seen target.now) (seen value.now) (state_seen s.old (O.taken out.old))) }
 {
     let kind = target.kind;
-    let target = inside.locate(s, out, target)?;
+    let target = target_of(s, out, inside, target)?;
     let value = value_of(s, out, inside, value);
     assign_part(s, at, kind, &target, value)
 }
@@ -73,7 +74,7 @@ fn add_value<O: Out, W: Around<O>>(
     requires locates { W.can_locate inside.now }
     ensures did { Does (λ _. tt) result (state_seen s.new (O.taken out.new)) (add_form (level (W.code inside.now) (W.depth inside.now)) at ◌+ℤ◌ (seen target.now) (seen value.now) (state_seen s.old (O.taken out.old))) }
 {
-    let target = inside.locate(s, out, target)?;
+    let target = target_of(s, out, inside, target)?;
     let old = s.old_value(&target)?;
     let number = number_of(s, out, inside, value);
     add_part(s, at, &target, &old, number)
@@ -93,7 +94,7 @@ fn subtract_value<O: Out, W: Around<O>>(
     requires locates { W.can_locate inside.now }
     ensures did { Does (λ _. tt) result (state_seen s.new (O.taken out.new)) (add_form (level (W.code inside.now) (W.depth inside.now)) at ◌-ℤ◌ (seen target.now) (seen value.now) (state_seen s.old (O.taken out.old))) }
 {
-    let target = inside.locate(s, out, target)?;
+    let target = target_of(s, out, inside, target)?;
     let old = s.old_value(&target)?;
     let number = number_of(s, out, inside, value);
     subtract_part(s, at, &target, &old, number)
@@ -113,6 +114,6 @@ pub(crate) fn step_target<O: Out, W: Around<O>>(
     requires locates { W.can_locate inside.now }
     ensures did { Does (λ _. tt) result (state_seen s.new (O.taken out.new)) (step_form (level (W.code inside.now) (W.depth inside.now)) at step (seen target.now) (state_seen s.old (O.taken out.old))) }
 {
-    let target = inside.locate(s, out, target);
+    let target = target_of(s, out, inside, target);
     step_part(s, at, step, target)
 }
