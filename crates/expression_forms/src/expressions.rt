@@ -16,7 +16,7 @@ use crate::calls::{evaluate_call, evaluate_method};
 use crate::operators::{
     evaluate_chain, evaluate_compare, evaluate_conditional, evaluate_range, evaluate_unary,
 };
-use cbl_base::{Place, RunFault};
+use cbl_base::Place;
 use checked_tree::{Form, Kind, Typed};
 use run_state::{Out, State};
 use run_steps::code::Code;

@@ -11,7 +11,7 @@ ghost use Rattle.run_state.specs.Views.{state_seen};
 ghost use Rattle.run_values.specs.Views.{value_seen};
 
 use crate::expressions::evaluate_form;
-use cbl_base::{Place, RunFault};
+use cbl_base::Place;
 use checked_tree::{Form, Kind, Link, Typed};
 use run_models::Term;
 use run_state::{Out, State};
@@ -19,7 +19,7 @@ use run_steps::code::Code;
 use run_steps::inside::{Defining, Within};
 use run_steps::leaves::constant_zero;
 use run_steps::operands::{as_constant, name_term};
-use run_values::{Stop, Value};
+use run_values::Stop;
 
 /// The value of an expression without incremental variables, as a term.
 pub fn constant_term<O: Out, W: Within<O>>(

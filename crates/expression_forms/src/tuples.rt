@@ -15,12 +15,12 @@ ghost use Rattle.run_values.specs.Did.{Did};
 ghost use Rattle.run_values.specs.Views.{bounds_seen, value_seen};
 
 use crate::expressions::value_of;
-use cbl_base::{IntSet, Place};
-use checked_tree::{Generator, Slot};
+use cbl_base::Place;
+use checked_tree::Generator;
 use run_state::{Out, State};
 use run_steps::inside::Within;
 use run_steps::tuples::{Entered, Tuples, begin, pending_of, take_value};
-use run_values::{Bounds, Stop, Value};
+use run_values::Stop;
 use std::mem;
 
 /// Begins a value of the last open generator: whether that makes a tuple; else the next generator opens.

@@ -32,7 +32,7 @@ use Rattle.run_state.specs.declared.targets.Target.{Target}
 use Rattle.run_values.specs.declared.values.Value.{Value as declared}
 use Rattle.run_values.specs.Views.{value_seen}
 use Rattle.run_state.specs.Plain.{IsPlain, IsHeld, IsHeldNumber}
-use Rattle.run_steps.specs.Plainly.{GivesNumber, GivesTarget, GivesTruth, GivesValue, GivesWhole, IsArithmetic, Results}
+use Rattle.run_steps.specs.Plainly.{GivesNumber, GivesTarget, GivesValue, GivesWhole, IsArithmetic, Results}
 use Rattle.run_steps.specs.Views.{links_seen, part}
 use Rattle.run_steps.proofs.Forms.{link_is, link_goes_on}
 use Rattle.run_steps.proofs.Shapes.{form_chain, form_name}

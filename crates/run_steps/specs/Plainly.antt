@@ -1,7 +1,6 @@
 -- The answer of a part that is evaluated without a change of the state: it is the part's value, and the state is as it
 -- was. Where nothing is answered nothing is said. A rule of this project.
-use Rattle.std.specs.Prelude.{◌≡◌, ℤ, Bool, Option, Some, None, Result, Ok}
-use Rattle.cbl_base.specs.declared.faults.RunFault.{RunFault}
+use Rattle.std.specs.Prelude.{◌≡◌, ℤ, Bool, Option, Some, None, Ok}
 use Rattle.comet_syntax.specs.declared.tree.expressions.ChainOperator.{ChainOperator}
 use Rattle.comet_syntax.specs.declared.tree.expressions.ChainOperator.TheVariants as chains
 use Rattle.comet_meaning.specs.Arithmetic.{result_of}

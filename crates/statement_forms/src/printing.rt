@@ -6,7 +6,7 @@ ghost use Rattle.comet_meaning.specs.Program.{level};
 ghost use Rattle.run_steps.specs.Does.{Does};
 ghost use Rattle.run_state.specs.Views.{state_seen};
 
-use checked_tree::{Printed, Typed};
+use checked_tree::Printed;
 use expression_forms::expressions::value_of;
 use run_state::out::print;
 use run_state::{Out, State};

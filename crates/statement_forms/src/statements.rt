@@ -17,7 +17,7 @@ use crate::for_all::execute_for_all;
 use crate::loops::{execute_for, execute_while};
 use crate::printing::print_all;
 use crate::writes::{step_target, write_value};
-use cbl_base::{Place, RunFault};
+use cbl_base::Place;
 use checked_tree::{Act, Action, Task, Typed};
 use expression_forms::expressions::{truth_of, value_of};
 use run_state::{Out, State};

@@ -1,5 +1,4 @@
 use Rattle.std.proofs.Common.{sym, subst, map, w64}
-use Rattle.comet_meaning.specs.Parts.{value}
 use Rattle.std.proofs.lemmas.Int.{to_z-of_z}
 use Rattle.run_steps.proofs.AggregateLaws.{element_adds}
 use Rattle.comet_meaning.specs.Aggregates.{element_form}

@@ -1,5 +1,4 @@
 use Rattle.std.proofs.Common.{sym, subst, map}
-use Rattle.comet_meaning.specs.Parts.{value}
 use Rattle.run_steps.proofs.AggregateLaws.{aggregate_ends, aggregate_went, memory_ends}
 use Rattle.comet_meaning.proofs.GoingExpressions.{goes_aggregate_value, goes_aggregate}
 use Rattle.run_values.specs.Views.{element_seen, value_seen}

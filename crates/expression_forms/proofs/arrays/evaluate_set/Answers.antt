@@ -1,4 +1,3 @@
-use Rattle.comet_meaning.specs.Parts.{value}
 use Rattle.comet_meaning.specs.Expressions.{set_form}
 use Rattle.run_steps.proofs.Exits.{gives, after}
 use Rattle.expression_forms.proofs.arrays.evaluate_set.Goals as goal

@@ -1,7 +1,6 @@
 use Rattle.run_steps.specs.Views.{part, row}
 use Rattle.std.proofs.Common.{◌≡◌, [], map, length}
 use Rattle.comet_meaning.specs.Calls.{arguments_form}
-use Rattle.comet_meaning.specs.Parts.{values}
 use Rattle.comet_meaning.specs.Program.{level}
 use Rattle.comet_meaning.proofs.Rows.{ArgumentsLeft}
 use Rattle.run_state.specs.Views.{state_seen}

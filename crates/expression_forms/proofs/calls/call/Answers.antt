@@ -1,5 +1,4 @@
 use Rattle.std.proofs.Common.{map}
-use Rattle.comet_meaning.specs.Parts.{value}
 use Rattle.comet_meaning.proofs.GoingExpressions.{goes_handed, goes_body}
 use Rattle.run_values.specs.Views.{value_seen}
 use Rattle.comet_meaning.proofs.GoingOn.{goes_then, goes_charge}

@@ -1,7 +1,6 @@
 use Rattle.std.proofs.Common.{map}
-use Rattle.comet_meaning.specs.Parts.{value}
 use Rattle.run_values.specs.Views.{value_seen}
-use Rattle.run_steps.proofs.Exits.{after, exit}
+use Rattle.run_steps.proofs.Exits.{exit}
 use Rattle.run_state.specs.Views.{state_seen}
 use Rattle.run_steps.proofs.Forms.{body_went, body_ends}
 use Rattle.comet_meaning.specs.Program.{level}

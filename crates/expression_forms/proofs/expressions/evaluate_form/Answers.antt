@@ -1,4 +1,3 @@
-use Rattle.comet_meaning.specs.Parts.{value}
 use Rattle.comet_meaning.specs.Expressions.{value_of_form}
 use Rattle.comet_meaning.proofs.GoingOn.{goes_look}
 use Rattle.run_steps.proofs.Exits.{act_does}

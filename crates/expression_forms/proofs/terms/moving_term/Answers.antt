@@ -1,4 +1,3 @@
-use Rattle.comet_meaning.specs.Parts.{value}
 use Rattle.run_steps.proofs.Shapes.{form_name, form_chain}
 use Rattle.comet_meaning.specs.TermForms.{moving_term}
 use Rattle.expression_forms.proofs.terms.moving_term.Goals as goal

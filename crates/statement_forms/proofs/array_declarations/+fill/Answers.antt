@@ -1,5 +1,4 @@
 use Rattle.std.proofs.Common.{refl, rules, map, w64, FitsSigned, to_z, option_map}
-use Rattle.comet_meaning.specs.Parts.{value, bounds}
 use Rattle.std.specs.Prelude.{FitsSigned}
 use Rattle.std.proofs.lemmas.Int.{to_z-of_z}
 use Rattle.checked_tree.specs.Shape.{seen}

@@ -1,5 +1,4 @@
 use Rattle.std.proofs.Common.{refl}
-use Rattle.comet_meaning.specs.Parts.{value}
 use Rattle.comet_meaning.proofs.GoingOn.{goes_then, goes_new_array, goes_put, goes_unless}
 use Rattle.comet_meaning.proofs.GoingStatements.{goes_level, goes_numbers}
 use Rattle.run_state.specs.Views.{state_seen}

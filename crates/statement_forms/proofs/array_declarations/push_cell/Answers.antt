@@ -2,7 +2,7 @@ use Rattle.std.proofs.Common.{refl}
 use Rattle.comet_meaning.proofs.GoingOn.{goes_then, goes_give, goes_charge}
 use Rattle.comet_meaning.proofs.GoingStatements.{goes_level, goes_start_number}
 use Rattle.std.proofs.lemmas.Result.{err_from_is_err_and}
-use Rattle.comet_meaning.specs.Declarations.{next_cell, start_number}
+use Rattle.comet_meaning.specs.Declarations.{next_cell}
 use Rattle.run_steps.proofs.Stops.{stopped_then}
 use Rattle.statement_forms.proofs.array_declarations.push_cell.Goals as goal
 

@@ -1,5 +1,4 @@
 use Rattle.comet_meaning.specs.Declarations.{start_number}
-use Rattle.comet_meaning.specs.Values.{number_of}
 use Rattle.statement_forms.proofs.array_declarations.start_number.Goals as goal
 
 pub returns-in-Some : goal.returns-in-Some

@@ -1,5 +1,4 @@
 use Rattle.comet_meaning.specs.Models.{started_form}
-use Rattle.comet_meaning.specs.Values.{number_of}
 use Rattle.statement_forms.proofs.declarations.begin.Goals as goal
 
 pub returns-in-Define : goal.returns-in-Define

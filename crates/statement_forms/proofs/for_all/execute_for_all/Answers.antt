@@ -1,4 +1,3 @@
-use Rattle.comet_meaning.specs.Parts.{value}
 use Rattle.run_steps.proofs.Visiting.{visiting_none}
 use Rattle.statement_forms.proofs.for_all.execute_for_all.Goals as goal
 

@@ -1,5 +1,4 @@
 use Rattle.std.proofs.Common.{refl}
-use Rattle.comet_meaning.specs.Parts.{value}
 use Rattle.comet_meaning.proofs.GoingOn.{goes_give, goes_if}
 use Rattle.comet_meaning.proofs.GoingStatements.{goes_level}
 use Rattle.std.proofs.lemmas.Result.{err_from_is_err_and}

@@ -1,4 +1,3 @@
-use Rattle.comet_meaning.specs.Parts.{value}
 use Rattle.comet_meaning.proofs.GoingStatements.{goes_level, goes_repeated, goes_step, goes_turn}
 use Rattle.std.proofs.lemmas.Result.{err_from_is_err_and}
 use Rattle.comet_meaning.specs.Loops.{for_form}

@@ -1,4 +1,3 @@
-use Rattle.comet_meaning.specs.Parts.{value}
 use Rattle.checked_tree.specs.Actions.{deed_of}
 use Rattle.comet_meaning.specs.Statements.{alone_form, deed_form}
 use Rattle.statement_forms.proofs.statements.perform.Goals as goal
