@@ -6,5 +6,7 @@
 
 mod code;
 mod subterms;
+#[cfg(test)]
+mod tests;
 
 pub use subterms::Subterms;
