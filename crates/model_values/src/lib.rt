@@ -21,8 +21,6 @@ mod reach;
 mod settling;
 mod shares;
 mod system_shares;
-#[cfg(test)]
-mod tests;
 mod values;
 mod wholes;
 
