@@ -1,0 +1,2 @@
+//! Models without where they lie.
+#![tactic(auto)]
