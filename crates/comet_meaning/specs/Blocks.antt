@@ -31,7 +31,7 @@ outermost l k body m = do
   give flow
 
 -- a block inside another one on the same solver is a part of it
-abbrev pub within_solver : Level → Place → ℕ → Work → SolverState → Act Flow
+unfoldable pub within_solver : Level → Place → ℕ → Work → SolverState → Act Flow
 within_solver l at k body m = do
   _ ← unless m.closed at NotClosed
   if is_some m.waiting then l.stmt body else outermost l k body m

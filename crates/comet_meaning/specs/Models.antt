@@ -39,12 +39,15 @@ abbrev pub without_cycle : Place → SolverState → Option (List ℕ) → Act (
 without_cycle at m None = give tt
 without_cycle at m (Some xs) = halt (Cyclic at (names_in m xs))
 
+unfoldable pub closing : Place → ℕ → SolverState → Act Value
+closing at k m = do
+  _ ← unless (not m.closed) at AlreadyClosed
+  _ ← without_cycle at m (cycle_in m)
+  _ ← put_evaluated k (closed_now m)
+  give Nothing
+
 unfoldable pub close : Place → ℕ → Act Value
-close at k = λ s. (do
-  _ ← unless (not (solver_at s k).closed) at AlreadyClosed
-  _ ← without_cycle at (solver_at s k) (cycle_in (solver_at s k))
-  _ ← put_evaluated k (closed_now (solver_at s k))
-  give Nothing) s
+close at k = λ s. closing at k (solver_at s k) s
 
 -- new numbers of variables, of which the last one counts
 
@@ -64,11 +67,15 @@ abbrev pub owns : ℕ → SolverState → VarId → Bool
 owns k m x = nat_eq x.solver k && has_variable m x.index
 
 -- `x := e`
+
+unfoldable pub assigning : Place → VarId → ℤ → SolverState → Act (Unit {0})
+assigning at x z m = do
+  _ ← unless (owns x.solver m x) at WrongSolver
+  _ ← unless (not (is_defined m x.index)) at DefinedVariable
+  move x.solver ((x.index, z) ∷ [])
+
 unfoldable pub assign : Place → VarId → ℤ → Act (Unit {0})
-assign at x z = λ s. (do
-  _ ← unless (owns x.solver (solver_at s x.solver) x) at WrongSolver
-  _ ← unless (not (is_defined (solver_at s x.solver) x.index)) at DefinedVariable
-  move x.solver ((x.index, z) ∷ [])) s
+assign at x z = λ s. assigning at x z (solver_at s x.solver) s
 
 -- `x :=: y`: each gets the number that the other has now
 
@@ -78,11 +85,14 @@ number_now m x = slice_index_or m.assignment x (pos 0)
 abbrev pub exchanged : SolverState → ℕ → ℕ → List (ℕ × ℤ)
 exchanged m x y = (x, number_now m y) ∷ (y, number_now m x) ∷ []
 
+unfoldable pub swapping : Place → VarId → VarId → SolverState → Act (Unit {0})
+swapping at x y m = do
+  _ ← unless (owns x.solver m x && owns x.solver m y) at WrongSolver
+  _ ← unless (not (is_defined m x.index) && not (is_defined m y.index)) at DefinedVariable
+  move x.solver (exchanged m x.index y.index)
+
 unfoldable pub swap : Place → VarId → VarId → Act (Unit {0})
-swap at x y = λ s. (do
-  _ ← unless (owns x.solver (solver_at s x.solver) x && owns x.solver (solver_at s x.solver) y) at WrongSolver
-  _ ← unless (not (is_defined (solver_at s x.solver) x.index) && not (is_defined (solver_at s x.solver) y.index)) at DefinedVariable
-  move x.solver (exchanged (solver_at s x.solver) x.index y.index)) s
+swap at x y = λ s. swapping at x y (solver_at s x.solver) s
 
 -- `x <- e`
 
@@ -106,7 +116,7 @@ defined_by m x t = record m { model = with_definition m.model x (term_for m x.in
 abbrev pub has_room : SolverState → Bool
 has_room m = nat_le (length (distinct_subterms m.model)) most_terms
 
-abbrev pub defining : Place → VarId → Term → SolverState → Act (Unit {0})
+unfoldable pub defining : Place → VarId → Term → SolverState → Act (Unit {0})
 defining at x t m = do
   _ ← unless (not m.closed) at AlreadyClosed
   _ ← unless (owns x.solver m x && all_variables (owns x.solver m) t) at WrongSolver
@@ -123,7 +133,7 @@ abbrev pub domain_in : Option VarDecl → Bounds
 domain_in None = record { low = pos 0; up = pos 0 }
 domain_in (Some d) = record { low = d.low; up = d.up }
 
-abbrev pub domain_at : Place → VarId → SolverState → Act Value
+unfoldable pub domain_at : Place → VarId → SolverState → Act Value
 domain_at at x m = unless (owns x.solver m x) at WrongSolver >>= λ _. give (Range (domain_in (slice_get m.model.vars.items x.index)))
 
 unfoldable pub domain_of : Place → Value → Act Value

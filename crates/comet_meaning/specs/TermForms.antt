@@ -81,13 +81,14 @@ chain_op chains.Multiply = ops.Mul
 chain_op chains.Divide = ops.Div
 chain_op chains.Remainder = ops.Rem
 
+-- one more operand
+unfoldable pub linked_term : Level → Place → ChainOperator → Shape → Term → Act Term
+linked_term l at o e t = term l e >>= λ u. node_form at (chain_op o) (t ∷ u ∷ [])
+
 -- the operands behind the first
 unfoldable pub joined_form : Level → List Shape → Term → Act Term
 joined_form l [] t = give t
-joined_form l (shapes.link o at e ∷ links) t = do
-  u ← term l e
-  v ← node_form at (chain_op o) (t ∷ u ∷ [])
-  joined_form l links v
+joined_form l (shapes.link o at e ∷ links) t = linked_term l at o e t >>= λ v. joined_form l links v
 joined_form l (x ∷ links) t = joined_form l links t
 
 -- the same of one operation with all operands, behind those before

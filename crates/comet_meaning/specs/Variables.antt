@@ -94,7 +94,7 @@ abbrev pub begin : Place → VarId → Beginning → Act (Unit {0})
 begin at x (free z) = give tt
 begin at x (defined t) = define at x t
 
-abbrev pub adding : Place → ℕ → VarDecl → List ℕ → Beginning → SolverState → Act VarId
+unfoldable pub adding : Place → ℕ → VarDecl → List ℕ → Beginning → SolverState → Act VarId
 adding at k d name b m = do
   _ ← unless (not m.closed) at AlreadyClosed
   _ ← unless (nat_lt (variable_count m) most_variables) at (TooMany limits.Variables)
