@@ -9,7 +9,7 @@ use Rattle.term_model.specs.declared.term.Term.{Term}
 use Rattle.comet_meaning.specs.Values.{Value, Nothing, Range, Variable}
 use Rattle.comet_meaning.specs.Solvers.{SolverState, is_defined, cycle_in}
 use Rattle.comet_meaning.specs.State.{left}
-use Rattle.comet_meaning.specs.Models.{put_solver, put_evaluated, closed_now, owns, exchanged, defined_by, has_room, domain_in, without_cycle, closing, close, moving, move, assigning, assign, swapping, swap, defining, define, domain_at, domain_of}
+use Rattle.comet_meaning.specs.Models.{put_solver, put_evaluated, closed_now, owns, exchanged, term_for, defined_by, has_room, domain_in, without_cycle, closing, close, moving, move, assigning, assign, swapping, swap, defining, define, domain_at, domain_of}
 use Rattle.comet_meaning.specs.Onward.{GoesOn}
 use Rattle.comet_meaning.proofs.GoingOn.{onward_refl, goes_then, goes_give, goes_if, goes_give_or_met, goes_unless, goes_at}
 
@@ -66,7 +66,7 @@ goes_defining at x t m =
     goes_then (goes_unless (not m.closed) at AlreadyClosed) (λ _.
     goes_then (goes_unless (owns x.solver m x && all_variables (owns x.solver m) t) at WrongSolver) (λ _.
     goes_then (goes_unless (not (is_defined m x.index)) at DefinedVariable) (λ _.
-    goes_then (goes_unless (has_room (defined_by m x t)) at (TooMany TermNodes)) (λ _. goes_put_solver x.solver (defined_by m x t)))))
+    goes_then (goes_unless (has_room m (term_for m x.index t)) at (TooMany TermNodes)) (λ _. goes_put_solver x.solver (defined_by m x t)))))
 
 pub goes_define : (at : Place) (x : VarId) (t : Term) → GoesOn (define at x t)
 unfolding define

@@ -16,13 +16,13 @@ use Rattle.comet_meaning.specs.Values.{Value, Variable, Variables}
 use Rattle.comet_meaning.specs.Solvers.{SolverState, has_variable}
 use Rattle.comet_meaning.specs.Outcome.{Act}
 use Rattle.comet_meaning.specs.Levels.{Level}
-use Rattle.comet_meaning.specs.Parts.{needs_close, open_value, closed_value, variable_value, read, value, number, truth, bounds, condition, values, term, terms, each_term}
+use Rattle.comet_meaning.specs.Parts.{needs_close, variable_value, read, value, number, truth, bounds, condition, values, term, terms, each_term}
 use Rattle.comet_meaning.specs.Operators.{unary_result, unary_form, compare_form, decides, linked, link_form, links_form, chain_form, range_form, conditional_form}
 use Rattle.comet_meaning.specs.Arrays.{list_form, index_form, cell_form, count_form}
 use Rattle.comet_meaning.specs.Taking.{read_each, read_array, taken_whole}
 use Rattle.comet_meaning.specs.Generators.{Bound, with_bound, bind, generated, each_tuple}
 use Rattle.comet_meaning.specs.Onward.{GoesOn}
-use Rattle.comet_meaning.proofs.GoingOn.{goes_then, goes_give, goes_fault, goes_if, goes_give_or, goes_give_or_met, goes_charge, goes_at, goes_each_in, goes_put, goes_cells, goes_variables, goes_extent, goes_count_cells, goes_cell_of, goes_found_at}
+use Rattle.comet_meaning.proofs.GoingOn.{goes_then, goes_give, goes_fault, goes_if, goes_give_or, goes_charge, goes_at, goes_each_in, goes_put, goes_cells, goes_variables, goes_extent, goes_count_cells, goes_cell_of, goes_found_at}
 
 -- the parts that are one level further in go onward
 pub record LevelGoesOn (l : Level) : Type 0 where
@@ -33,16 +33,9 @@ pub record LevelGoesOn (l : Level) : Type 0 where
 
 -- reading
 
-goes_open_value : (at : Place) (x : ℕ) (m : SolverState) → GoesOn (open_value at x m)
-goes_open_value at x m = goes_if (needs_close m x) goes_fault goes_give
-
-goes_closed_value : (x : ℕ) (m : SolverState) → GoesOn (closed_value x m)
-unfolding closed_value
-goes_closed_value x m = goes_then (goes_give_or_met _) (λ fresh. goes_give)
-
 pub goes_variable_value : (at : Place) (x : ℕ) (m : SolverState) → GoesOn (variable_value at x m)
 unfolding variable_value
-goes_variable_value at x m = goes_if (has_variable m x) (goes_if m.closed (goes_closed_value x m) (goes_open_value at x m)) goes_fault
+goes_variable_value at x m = goes_if (has_variable m x) (goes_if (needs_close m x) goes_fault goes_give) goes_fault
 
 pub goes_read : (at : Place) (v : Value) → GoesOn (read at v)
 unfolding read

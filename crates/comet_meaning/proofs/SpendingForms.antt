@@ -29,7 +29,7 @@ use Rattle.comet_meaning.specs.Solvers.{SolverState, has_variable}
 use Rattle.comet_meaning.specs.Outcome.{Act, always}
 use Rattle.comet_meaning.specs.Cells.{put}
 use Rattle.comet_meaning.specs.Levels.{Code, Level}
-use Rattle.comet_meaning.specs.Parts.{items, solver_at, needs_close, open_value, closed_value, variable_value, read, value, number, truth, condition, values}
+use Rattle.comet_meaning.specs.Parts.{items, solver_at, needs_close, variable_value, read, value, number, truth, condition, values}
 use Rattle.comet_meaning.specs.Operators.{unary_result, unary_form, compare_form, decides, linked, link_form, links_form, chain_form, range_form, conditional_form}
 use Rattle.comet_meaning.specs.Arrays.{list_form, index_form, cell_form, count_form}
 use Rattle.comet_meaning.specs.Taking.{read_each, read_array, taken_whole}
@@ -42,7 +42,7 @@ use Rattle.comet_meaning.specs.Purity.{is_pure, is_local, returned_by}
 use Rattle.comet_meaning.specs.Calls.{argument_form, arguments_form, body_form, called, call_form}
 use Rattle.comet_meaning.specs.Expressions.{set_form, value_of_form, value_of_expression}
 use Rattle.comet_meaning.specs.Spending.{OnlySpends, OnlyBinds}
-use Rattle.comet_meaning.proofs.Spending.{binds, spends_then, binds_then, spends_give, spends_fault, spends_if, spends_give_or, spends_give_or_met, spends_unless, spends_charge, spends_at, binds_each_in, spends_look, binds_put, spends_in_scope, binds_in_frame, spends_cells, spends_variables, spends_extent, spends_count_cells, spends_cell_of, spends_found_at}
+use Rattle.comet_meaning.proofs.Spending.{binds, spends_then, binds_then, spends_give, spends_fault, spends_if, spends_give_or, spends_unless, spends_charge, spends_at, binds_each_in, spends_look, binds_put, spends_in_scope, binds_in_frame, spends_cells, spends_variables, spends_extent, spends_count_cells, spends_cell_of, spends_found_at}
 
 pub and_left : (a b : Bool) → (a && b) ≡ true → a ≡ true
 and_left true b e = refl
@@ -70,16 +70,9 @@ items_pure known e p = tt
 
 -- reading
 
-spends_open_value : (at : Place) (x : ℕ) (m : SolverState) → OnlySpends (open_value at x m)
-spends_open_value at x m = spends_if (needs_close m x) spends_fault spends_give
-
-spends_closed_value : (x : ℕ) (m : SolverState) → OnlySpends (closed_value x m)
-unfolding closed_value
-spends_closed_value x m = spends_then (spends_give_or_met _) (λ fresh. spends_give)
-
 spends_variable_value : (at : Place) (x : ℕ) (m : SolverState) → OnlySpends (variable_value at x m)
 unfolding variable_value
-spends_variable_value at x m = spends_if (has_variable m x) (spends_if m.closed (spends_closed_value x m) (spends_open_value at x m)) spends_fault
+spends_variable_value at x m = spends_if (has_variable m x) (spends_if (needs_close m x) spends_fault spends_give) spends_fault
 
 spends_read : (at : Place) (v : Value) → OnlySpends (read at v)
 unfolding read

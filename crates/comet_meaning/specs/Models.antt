@@ -8,7 +8,7 @@ use Rattle.cbl_base.specs.declared.place.Place.{Place}
 use Rattle.cbl_base.specs.declared.faults.Limit.TheVariants.{TermNodes}
 use Rattle.cbl_base.specs.declared.faults.RunFault.TheVariants.{AlreadyClosed, DefinedVariable, TooMany, WrongSolver}
 use Rattle.term_model.specs.Kinds.{kinds_in, kind_of_term}
-use Rattle.term_model.specs.Subterms.{distinct_subterms}
+use Rattle.term_model.specs.Subterms.{distinct_subterms, subterms, with_subterm}
 use Rattle.term_model.specs.declared.model.VarDecl.{VarDecl}
 use Rattle.term_model.specs.declared.term.Term.{Term}
 use Rattle.model_view.specs.Building.{constant, constant_set, with_definition}
@@ -112,16 +112,16 @@ term_for m x t = if same_kind (kind_in m x) (kind_of_term (kinds_in m.model.vars
 abbrev pub defined_by : SolverState → VarId → Term → SolverState
 defined_by m x t = record m { model = with_definition m.model x (term_for m x.index t) }
 
--- whether a model has no more distinct subterms than it may
-abbrev pub has_room : SolverState → Bool
-has_room m = nat_le (length (distinct_subterms m.model)) most_terms
+-- whether a model has room for the distinct subterms of a term that aren't among its own
+abbrev pub has_room : SolverState → Term → Bool
+has_room m t = nat_le (length (fold with_subterm (distinct_subterms m.model) (subterms t))) most_terms
 
 unfoldable pub defining : Place → VarId → Term → SolverState → Act (Unit {0})
 defining at x t m = do
   _ ← unless (not m.closed) at AlreadyClosed
   _ ← unless (owns x.solver m x && all_variables (owns x.solver m) t) at WrongSolver
   _ ← unless (not (is_defined m x.index)) at DefinedVariable
-  _ ← unless (has_room (defined_by m x t)) at (TooMany TermNodes)
+  _ ← unless (has_room m (term_for m x.index t)) at (TooMany TermNodes)
   put_solver x.solver (defined_by m x t)
 
 unfoldable pub define : Place → VarId → Term → Act (Unit {0})

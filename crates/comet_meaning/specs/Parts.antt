@@ -1,19 +1,20 @@
 -- The parts of an expression, and their values. Outside terms a variable is read as its value, where it stands: before
 -- `close` only a free variable of numbers can be read. From the language.
-use Rattle.std.specs.Prelude.{ℕ, ℤ, pos, Bool, true, not, ◌||◌, List, [], ◌∷◌, ◌++◌, slice_index_or, if◌then◌else◌}
+use Rattle.std.specs.Prelude.{ℕ, ℤ, Bool, true, not, ◌&&◌, ◌||◌, List, [], ◌∷◌, ◌++◌, Option, Some, None, slice_index_or, if◌then◌else◌}
 use Rattle.cbl_base.specs.Inputs.{is_number_kind}
 use Rattle.cbl_base.specs.declared.input.Input.{Input}
-use Rattle.cbl_base.specs.declared.input.Input.TheVariants.{Int}
 use Rattle.cbl_base.specs.declared.place.Place.{Place}
 use Rattle.cbl_base.specs.declared.faults.RunFault.TheVariants.{NotClosed, WrongSolver}
 use Rattle.checked_tree.specs.Shape as shapes
 use Rattle.checked_tree.specs.Shape.{Shape}
-use Rattle.comet_meaning.specs.Values.{Value, Number, Variable, Bounds, number_of, truth_of, bounds_of, value_of_input}
+use Rattle.comet_meaning.specs.Values.{Value, Nothing, Variable, Bounds, number_of, truth_of, bounds_of, value_of_input}
+use Rattle.term_model.specs.Users.{no_users}
 use Rattle.term_model.specs.declared.term.Term.{Term}
+use Rattle.model_values.specs.VarOutcomes.{outcome_of_var}
 use Rattle.comet_meaning.specs.Terms.{TermCells, single_of, several_of}
-use Rattle.comet_meaning.specs.Solvers.{SolverState, new_solver, has_variable, is_defined, kind_in, fresh_values}
+use Rattle.comet_meaning.specs.Solvers.{SolverState, new_solver, has_variable, is_defined, kind_in}
 use Rattle.comet_meaning.specs.State.{State}
-use Rattle.comet_meaning.specs.Outcome.{Act, ◌>>=◌, give, fault, give_or_met}
+use Rattle.comet_meaning.specs.Outcome.{Act, ◌>>=◌, give, fault}
 use Rattle.comet_meaning.specs.Levels.{Level}
 
 -- parts in a row
@@ -37,27 +38,21 @@ read_place e = place_of e
 abbrev pub solver_at : State → ℕ → SolverState
 solver_at s m = slice_index_or s.solvers m new_solver
 
--- the value of a variable among those of all
-abbrev pub value_in : List Input → ℕ → Value
-value_in values x = value_of_input (slice_index_or values x (Int (pos 0)))
+-- what a variable of a model comes to; in a closed solver each comes to a value
+abbrev pub value_of : Option Input → Value
+value_of (Some x) = value_of_input x
+value_of None = Nothing
 
--- its number in the assignment
-abbrev pub number_in : List ℤ → ℕ → Value
-number_in values x = Number (slice_index_or values x (pos 0))
+abbrev pub value_now : SolverState → ℕ → Value
+value_now m x = value_of (outcome_of_var no_users m.model m.assignment x)
 
 -- whether only a closed solver has a value for it
 abbrev pub needs_close : SolverState → ℕ → Bool
-needs_close m x = is_defined m x || not (is_number_kind (kind_in m x))
-
-abbrev pub open_value : Place → ℕ → SolverState → Act Value
-open_value at x m = if needs_close m x then fault at NotClosed else give (number_in m.assignment x)
-
-unfoldable pub closed_value : ℕ → SolverState → Act Value
-closed_value x m = give_or_met (fresh_values m) >>= λ fresh. give (value_in fresh.vars x)
+needs_close m x = not m.closed && (is_defined m x || not (is_number_kind (kind_in m x)))
 
 unfoldable pub variable_value : Place → ℕ → SolverState → Act Value
 variable_value at x m =
-    if has_variable m x then (if m.closed then closed_value x m else open_value at x m) else fault at WrongSolver
+    if has_variable m x then (if needs_close m x then fault at NotClosed else give (value_now m x)) else fault at WrongSolver
 
 -- a variable is read as its value; anything else is itself
 unfoldable pub read : Place → Value → Act Value
