@@ -1,0 +1,6 @@
+pub mod Members
+pub mod Chains
+pub mod Orders
+pub mod Turning
+pub mod Named
+pub mod PlainTerms
