@@ -4,3 +4,5 @@ pub mod Orders
 pub mod Turning
 pub mod Named
 pub mod PlainTerms
+pub mod PlainParts
+pub mod PlainSubterms

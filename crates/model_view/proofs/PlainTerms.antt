@@ -41,7 +41,7 @@ module _ {A : Type 0} (step : Term-F A → A) (blind : IsBlind step) where
 
   args_same : (es : List Known) → map (fold-Term A step) (map plain_term (map (λ e. e.0) es)) ≡ map (fold-Term A step) (map (λ e. e.0) es)
   args_same [] = refl
-  args_same (e ∷ es) = ap (λ a. a ∷ map (fold-Term A step) (map plain_term (map (λ x. x.0) es))) e.1 ∙ ap (λ as. fold-Term A step e.0 ∷ as) (args_same es)
+  args_same (e ∷ es) = ap (λ a. a ∷ map (fold-Term A step) (map plain_term (map (λ x. x.0) es))) e.1 ∙ ap (λ rest. fold-Term A step e.0 ∷ rest) (args_same es)
 
   layer : (y : Term-F Known) → IsTwin (roll-Term (map-Term Known Term (λ e. e.0) y))
   layer (Term-F.Const x) = ap (fold-Term A step) (fold-roll-Term Term plain_step (Term-F.Const x))
