@@ -6,3 +6,4 @@ pub mod Named
 pub mod PlainTerms
 pub mod PlainParts
 pub mod PlainSubterms
+pub mod PlainModels
