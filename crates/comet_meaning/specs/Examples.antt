@@ -175,9 +175,15 @@ exchanging_apart = with_two (
 -- `m.close(); y <- 1 / 0 + x;`
 abbrev pub defining_by_zero : Whole
 defining_by_zero = with_two (closing 57 ∷ statement 68 (deeds.writing writes.Define (y_read 68)
-    (record { start = column 73; place = column 73; kind = kinds.Int; moving = true; form = shapes.chain
-    (whole (of_two 73 (literal 73 (pos 1)) (shapes.link chains.Divide (column 75) (whole (literal 77 (pos 0))))))
-    (rows (shapes.link chains.Add (column 79) (whole (record { start = column 81; place = column 81; kind = kinds.Variable; moving = true; form = shapes.name (Global 1) })) ∷ [])) })) ∷ [])
+    (record {
+      start = column 73;
+      place = column 73;
+      kind = kinds.Int;
+      moving = true;
+      form = shapes.chain
+          (whole (of_two 73 (literal 73 (pos 1)) (shapes.link chains.Divide (column 75) (whole (literal 77 (pos 0))))))
+          (rows (shapes.link chains.Add (column 79) (whole (record { start = column 81; place = column 81; kind = kinds.Variable; moving = true; form = shapes.name (Global 1) })) ∷ []));
+    })) ∷ [])
 
 -- `m.close(); m.close();`
 abbrev pub closing_twice : Whole

@@ -32,6 +32,7 @@ mod wholes;
 
 pub use asked::AskStop;
 pub use deltas::{Move, delta};
+pub use failure::Failure;
 pub use fresh_values::{fresh, fresh_with};
 pub use laws::closed_model_law;
 pub use operation::value_of;

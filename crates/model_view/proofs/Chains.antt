@@ -1,12 +1,9 @@
 -- Lists of items each of which depends on the next: those that a search lists are all there are, in the order of lists.
-use Rattle.std.proofs.Common.{◌≡◌, refl, sym, subst, ap, ◌∙◌, Vec, ℕ, zero, suc, ◌+◌, ◌<◌, ◌≤◌, Bool, true, false, ◌⊎◌, inl, inr, List, [], ◌∷◌, ◌++◌, map, length, get_or, rules, arith}
-use Rattle.std.specs.Prelude.{filter, if◌then◌else◌}
-use Rattle.std.specs.List.{Contains, range_with_len}
+use Rattle.std.proofs.Common.{◌≡◌, refl, sym, subst, ap, ◌∙◌, Vec, ℕ, zero, suc, true, ◌⊎◌, inl, inr, List, [], ◌∷◌, map, length, arith}
 use Rattle.std.specs.declared.alloc.Global.{Global}
 use Rattle.layer_plan.specs.Dependencies.{list_of, DependsOn, AreItems}
-use Rattle.layer_plan.specs.Cycles.{first_or, Leads}
-use Rattle.layer_plan.specs.NamedCycle.{IsNoLater}
-use Rattle.model_view.specs.Naming.{depends, nexts, last_behind, behind, all_ways, ways_from}
+use Rattle.layer_plan.specs.Cycles.{Leads}
+use Rattle.model_view.specs.Naming.{depends, nexts, last_behind, all_ways, ways_from}
 use Rattle.model_view.proofs.Members.{In, in_left, in_right, in_either, in_map, in_map_back, in_filter, in_filter_back, in_range, in_of, of_in, any_in, in_any}
 
 -- dependencies, as tests
@@ -68,6 +65,7 @@ way_of deps (suc n) v way h = longer (in_map_back (λ w. v ∷ w) _ way h) (λ w
       let next = in_map_back (ways_from deps n) (nexts deps v) r.0 r.1 in
       let found = on next.0 rest (subst (λ w. In rest w) (sym next.2) r.2) in
       record { later = rest; is = sym e; count = ap length found.is ∙ ap suc found.count; chain = subst (λ u. IsChain deps v u) (sym found.is) (next_of deps v next.0 next.1, found.chain) }
+
   longer : (rest : List ℕ) × In rest (all_ways (map (ways_from deps n) (nexts deps v))) × (v ∷ rest ≡ way) → ((w : ℕ) (some : List ℕ) → In some (ways_from deps n w) → IsWay deps n w some) → IsWay deps (suc n) v way
   longer r on = on_from r.0 r.2 (in_ways _ r.0 r.1) on
 

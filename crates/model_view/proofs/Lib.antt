@@ -7,3 +7,4 @@ pub mod PlainTerms
 pub mod PlainParts
 pub mod PlainSubterms
 pub mod PlainModels
+pub mod Dependencies

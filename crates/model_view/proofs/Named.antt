@@ -1,14 +1,14 @@
 -- What the search finds is the named cycle, and there is no other.
-use Rattle.std.proofs.Common.{◌≡◌, refl, sym, subst, ap, ◌∙◌, Vec, ℕ, zero, suc, ◌+◌, ◌<◌, ◌≤◌, Bool, true, false, ◌⊎◌, inl, inr, List, [], ◌∷◌, ◌++◌, map, length, nat_eq, Option, Some, None, rules, arith}
+use Rattle.std.proofs.Common.{◌≡◌, refl, sym, subst, ap, ◌∙◌, Vec, ℕ, zero, suc, ◌+◌, ◌<◌, ◌≤◌, Bool, true, false, ◌⊎◌, inl, inr, List, [], ◌∷◌, length, nat_eq, Option, Some, None, rules, arith}
 use Rattle.std.specs.List.{Contains, find, range_with_len}
 use Rattle.std.specs.declared.alloc.Global.{Global}
-use Rattle.std.proofs.lemmas.Option.{none-some, same_Some}
+use Rattle.std.proofs.lemmas.Option.{none-some}
 use Rattle.layer_plan.specs.Dependencies.{list_of, DependsOn, AreItems}
-use Rattle.layer_plan.specs.Cycles.{first_or, Leads, IsDistinct, IsCycle}
+use Rattle.layer_plan.specs.Cycles.{first_or, Leads, IsCycle}
 use Rattle.layer_plan.specs.NamedCycle.{IsNoLater, IsNamedCycle}
 use Rattle.model_view.specs.Naming.{is_cycle, ways_from, or_else, cycle_from, cycle_of_one, named_cycle}
 use Rattle.model_view.proofs.Members.{In, in_range, in_of, of_in}
-use Rattle.model_view.proofs.Chains.{IsWay, way_of, of_way}
+use Rattle.model_view.proofs.Chains.{way_of, of_way}
 use Rattle.model_view.proofs.Orders.{IsUpward, upward_range, sorted_ways, found_in, found_none, found_first}
 use Rattle.model_view.proofs.Turning.{cycle_of, of_cycle, begun, no_more}
 
@@ -32,11 +32,11 @@ shortest_here deps v n list items e =
       cycle = cycle_of deps v way.later way.chain tested;
       shortest = λ others c h. (let count = way.count in omega arith);
       earliest = λ others c h. (
-        let k = of_cycle deps v others c in
-        let all : length others ≡ n = h ∙ way.count in
-        let at : In (v ∷ others) (ways_from deps n v) = subst (λ m. In (v ∷ others) (ways_from deps m v)) all (of_way deps v others items k.0) in
-        let first : IsNoLater list (v ∷ others) = found_first (is_cycle deps) (ways_from deps n v) list (v ∷ others) (sorted_ways deps n v) e at k.1 in
-        subst (λ l. IsNoLater l (v ∷ others)) way.is first);
+          let k = of_cycle deps v others c in
+          let all : length others ≡ n = h ∙ way.count in
+          let at : In (v ∷ others) (ways_from deps n v) = subst (λ m. In (v ∷ others) (ways_from deps m v)) all (of_way deps v others items k.0) in
+          let first : IsNoLater list (v ∷ others) = found_first (is_cycle deps) (ways_from deps n v) list (v ∷ others) (sorted_ways deps n v) e at k.1 in
+          subst (λ l. IsNoLater l (v ∷ others)) way.is first);
     }
 
 none_here : (deps : List (Vec ℕ Global)) (v n : ℕ) (others : List ℕ) → AreItems deps → find (is_cycle deps) (ways_from deps n v) ≡ None → IsCycle deps (v ∷ others) → length others ≡ n → ⊥
@@ -66,6 +66,7 @@ none_found deps v (suc more) n others items e c low up =
       by_test : (b : Bool) → nat_eq (length others) n ≡ b → find (is_cycle deps) (ways_from deps n v) ≡ None → (suc n ≤ length others → ⊥) → ⊥
       by_test true q h on = none_here deps v n others items h c (search rules)
       by_test false q h on = (let apart : ¬ (length others ≡ n) = search rules in on (omega arith))
+
       by_found : (r : Option (List ℕ)) → find (is_cycle deps) (ways_from deps n v) ≡ r → or_else r (λ _. cycle_from deps v more (suc n)) ≡ None → (cycle_from deps v more (suc n) ≡ None → suc n ≤ length others → ⊥) → ⊥
       by_found (Some way) h k on = absurd (none-some way (sym k))
       by_found None h k on = by_test (nat_eq (length others) n) refl h (on k)
@@ -84,9 +85,11 @@ first_of_all deps (v ∷ vs) list up e = by_found (cycle_from deps v (length dep
   earlier : (s : IsFirst deps vs list) → cycle_from deps v (length deps) 0 ≡ None → (u : ℕ) → (v ≡ u) ⊎ In u vs → u < s.item → cycle_from deps u (length deps) 0 ≡ None
   earlier s h u (inl q) lt = subst (λ w. cycle_from deps w (length deps) 0 ≡ None) q h
   earlier s h u (inr q) lt = s.before u q lt
+
   none_before : (u : ℕ) → (v ≡ u) ⊎ In u vs → u < v → cycle_from deps u (length deps) 0 ≡ None
   none_before u (inl q) lt = absurd (omega (arith, q))
   none_before u (inr q) lt = (let above = up.0 u q in absurd (omega arith))
+
   by_found : (r : Option (List ℕ)) → cycle_from deps v (length deps) 0 ≡ r → or_else r (λ _. cycle_of_one deps vs) ≡ Some list → (cycle_of_one deps vs ≡ Some list → IsFirst deps vs list) → IsFirst deps (v ∷ vs) list
   by_found (Some way) h k on = record { item = v; among = inl refl; found = h ∙ k; before = none_before }
   by_found None h k on = (let s = on k in record { item = s.item; among = inr s.among; found = s.found; before = earlier s h })
@@ -146,9 +149,11 @@ is_named deps list items s t = subst (λ l. IsNamedCycle deps l) (sym t.is) (rec
           one h = omega (arith, not_below h) where
             not_below : (item < s.item → ⊥) → ¬ (item < s.item)
             not_below k = k
+
   short : (other : List ℕ) → IsCycle deps other → first_or other 0 ≡ s.item → suc (length t.later) ≤ length other
   short [] c e = absurd c
   short (x ∷ xs) c e = let few = t.shortest xs (subst (λ y. IsCycle deps (y ∷ xs)) e c) (omega arith) in omega arith
+
   early : (other : List ℕ) → IsCycle deps other → first_or other 0 ≡ s.item → length other ≡ suc (length t.later) → IsNoLater (s.item ∷ t.later) other
   early [] c e q = absurd c
   early (x ∷ xs) c e q = subst (λ y. IsNoLater (s.item ∷ t.later) (y ∷ xs)) (sym e) (t.earliest xs (subst (λ y. IsCycle deps (y ∷ xs)) e c) (omega (arith, q)))

@@ -1,12 +1,12 @@
 -- The lists of a search stand in the order of lists, so what is found first is the first.
-use Rattle.std.proofs.Common.{◌≡◌, refl, sym, subst, ap, ◌∙◌, Vec, ℕ, zero, suc, ◌+◌, ◌<◌, ◌≤◌, Bool, true, false, ◌⊎◌, inl, inr, List, [], ◌∷◌, ◌++◌, map, length, Option, Some, None, rules, arith}
+use Rattle.std.proofs.Common.{◌≡◌, refl, sym, subst, ap, ◌∙◌, Vec, ℕ, zero, suc, ◌+◌, ◌<◌, ◌≤◌, Bool, true, false, ◌⊎◌, inl, inr, List, [], ◌∷◌, ◌++◌, map, length, Some, None, arith}
 use Rattle.std.specs.Prelude.{filter, if◌then◌else◌}
 use Rattle.std.specs.List.{find, range_with_len}
 use Rattle.std.specs.declared.alloc.Global.{Global}
 use Rattle.std.proofs.lemmas.Option.{none-some, same_Some}
 use Rattle.layer_plan.specs.NamedCycle.{IsNoLater}
 use Rattle.model_view.specs.Naming.{depends, nexts, behind, all_ways, ways_from}
-use Rattle.model_view.proofs.Members.{In, in_map, in_map_back, in_filter_back}
+use Rattle.model_view.proofs.Members.{In, in_map_back, in_filter_back}
 use Rattle.model_view.proofs.Chains.{IsWay, way_of, in_ways}
 
 pub no_later_self : (xs : List ℕ) → IsNoLater xs xs
@@ -29,6 +29,7 @@ sorted_append (x ∷ xs) ys h k cross = (λ other at. by_side other (either xs o
     onward : In other zs ⊎ In other ys → In other (z ∷ zs) ⊎ In other ys
     onward (inl p) = inl (inr p)
     onward (inr p) = inr p
+
   by_side : (other : List ℕ) → In other xs ⊎ In other ys → IsNoLater x other
   by_side other (inl p) = h.0 other p
   by_side other (inr p) = cross x other (inl refl) p
@@ -66,6 +67,7 @@ sorted_all deps n [] h each = tt
 sorted_all deps n (v ∷ vs) h each = sorted_append (ways_from deps n v) (all_ways (map (ways_from deps n) vs)) (each v) (sorted_all deps n vs h.1 each) cross where
   begins : (x y : List ℕ) (w : ℕ) → IsWay deps n v x → IsWay deps n w y → v < w → IsNoLater x y
   begins x y w p q lt = subst (λ z. IsNoLater z y) (sym p.is) (subst (λ z. IsNoLater (v ∷ p.later) z) (sym q.is) (inl lt))
+
   cross : (x y : List ℕ) → In x (ways_from deps n v) → In y (all_ways (map (ways_from deps n) vs)) → IsNoLater x y
   cross x y p q =
       let some = in_ways _ y q in

@@ -1,5 +1,5 @@
 -- A model and its plain twin have the same definitions, distinct subterms and values.
-use Rattle.std.proofs.Common.{◌≡◌, refl, sym, subst, ap, ◌∙◌, Vec, Global, ℕ, zero, suc, ◌+◌, ℤ, Bool, true, false, List, [], ◌∷◌, ◌++◌, map, fold, length, nat_eq, Option, Some, None, Result, Ok, Err, slice_get}
+use Rattle.std.proofs.Common.{◌≡◌, refl, sym, ap, ◌∙◌, Vec, Global, ℕ, zero, suc, ◌+◌, ℤ, Bool, true, false, List, [], ◌∷◌, ◌++◌, map, fold, length, nat_eq, Option, Some, None, Ok, slice_get}
 use Rattle.std.specs.Prelude.{is_some, unwrap_or, if◌then◌else◌}
 use Rattle.std.specs.Option.{option_map, option_and_then}
 use Rattle.std.specs.List.{find, range_with_len, enumerate_from}
@@ -7,10 +7,9 @@ use Rattle.std.proofs.Math.Path.{fun_ext}
 use Rattle.std.proofs.lemmas.Option.{slice_get-map}
 use Rattle.cbl_base.specs.NumberRule.{NumberRule}
 use Rattle.cbl_base.specs.declared.place.Place.{Place}
-use Rattle.cbl_operations.specs.declared.op.Op.{Op}
 use Rattle.term_model.specs.Definitions.{is_of, note, definition_in, definition_of, term_of}
 use Rattle.term_model.specs.Posting.{totals_by, member_at, term_posted}
-use Rattle.term_model.specs.Subterms.{joined_terms, subterms, subterms_where, subterms_posted, once, distinct_subterms}
+use Rattle.term_model.specs.Subterms.{subterms_where, subterms_posted, once, distinct_subterms}
 use Rattle.term_model.specs.declared.model.Definition.{Definition}
 use Rattle.term_model.specs.declared.model.Member.{Member}
 use Rattle.term_model.specs.declared.model.Model.{Model}
@@ -22,7 +21,7 @@ use Rattle.term_model.specs.declared.posting.Side.TheVariants.{Systems, Objectiv
 use Rattle.term_model.specs.declared.term.Term.{Term}
 use Rattle.term_model.specs.declared.term.Term.TheOpen.{Term-F}
 use Rattle.term_model.specs.declared.term.Term.TheViews.{out-Term}
-use Rattle.model_values.specs.Failures.{failure_in, failure_by, failure_at, failure_of, fails, first_failure}
+use Rattle.model_values.specs.Failures.{failure_by, failure_at, failure_of, fails, first_failure}
 use Rattle.model_values.specs.Fresh.{Sums, fresh_vars, gather_sum, whole_by, add_sum, sums_in, fresh_sums, all_joined, joined_or, fresh_in, fresh_of}
 use Rattle.model_values.specs.Outcomes.{Outcome, gathered, outcome_of}
 use Rattle.model_values.specs.Support.{member_in}

@@ -1,27 +1,25 @@
 -- What a term and its plain twin share: depth, variables, kind, users' constraints, value, and what is equal to them.
-use Rattle.std.proofs.Common.{◌≡◌, refl, sym, subst, ap, ◌∙◌, Vec, Global, ℕ, suc, Bool, ◌&&◌, List, [], ◌∷◌, ◌++◌, map, length, Option}
+use Rattle.std.proofs.Common.{◌≡◌, refl, sym, subst, ap, ◌∙◌, Vec, Global, ℕ, suc, Bool, ◌&&◌, List, [], ◌∷◌, ◌++◌, map, Option}
 use Rattle.std.specs.List.{list_all}
 use Rattle.cbl_base.specs.declared.ids.VarId.{VarId}
-use Rattle.cbl_base.specs.declared.place.Place.{Place}
 use Rattle.cbl_base.specs.Inputs.{InputKind}
 use Rattle.cbl_base.specs.NumberRule.{NumberRule}
-use Rattle.cbl_operations.specs.declared.op.Op.{Op}
 use Rattle.term_model.specs.Definitions.{joined, vars_of, vars_step}
 use Rattle.term_model.specs.Depth.{greatest, depth_of, depth_step}
 use Rattle.term_model.specs.Kinds.{all_kinds, node_kind, kind_of_term, kind_step}
 use Rattle.term_model.specs.Naming.{users_of, users_step, user_number}
 use Rattle.term_model.specs.SameOperations.{same_operation}
-use Rattle.term_model.specs.SameTerms.{all_pass, is_number, is_set, is_variable, is_node, same_layer, same_term}
+use Rattle.term_model.specs.SameTerms.{all_pass, is_node, same_layer, same_term}
 use Rattle.term_model.specs.declared.term.Term.{Term}
 use Rattle.term_model.specs.declared.term.Term.TheOpen.{Term-F}
 use Rattle.term_model.specs.declared.term.Term.TheViews.{roll-Term, out-Term, out-roll-Term}
-use Rattle.term_model.specs.declared.term.Term.TheFolds.{fold-Term, fold-roll-Term, ind-Term, map-Term}
+use Rattle.term_model.specs.declared.term.Term.TheFolds.{fold-roll-Term, ind-Term, map-Term}
 use Rattle.model_values.specs.Outcomes.{Outcome, gathered, operated, outcome_of, outcome_step}
 use Rattle.model_view.specs.Vectors.{vec_of}
 use Rattle.model_view.specs.Building.{node}
 use Rattle.model_view.specs.Variables.{all_variables, pass_step}
 use Rattle.model_view.specs.Plain.{plain_term, plain_step}
-use Rattle.model_view.proofs.PlainTerms.{IsBlind, same_fold, items_of_vec, length_map}
+use Rattle.model_view.proofs.PlainTerms.{same_fold, items_of_vec, length_map}
 
 pub same_depth : (t : Term) → depth_of (plain_term t) ≡ depth_of t
 same_depth = same_fold depth_step (record { node = λ op args others place e. ap (λ ns. suc (greatest ns)) e })

@@ -1,17 +1,14 @@
 -- The subterms of a plain twin are the twins of the subterms, and so are the distinct ones.
-use Rattle.std.proofs.Common.{◌≡◌, refl, sym, subst, ap, ◌∙◌, Vec, Global, ℕ, suc, Bool, true, false, ◌||◌, List, [], ◌∷◌, ◌++◌, map, fold, length, Option, Some, None}
+use Rattle.std.proofs.Common.{◌≡◌, refl, sym, subst, ap, ◌∙◌, Bool, true, false, ◌||◌, List, [], ◌∷◌, ◌++◌, map, fold}
 use Rattle.std.specs.Prelude.{if◌then◌else◌}
 use Rattle.std.specs.List.{list_any}
-use Rattle.cbl_base.specs.declared.place.Place.{Place}
-use Rattle.cbl_operations.specs.declared.op.Op.{Op}
 use Rattle.term_model.specs.SameTerms.{same_term}
 use Rattle.term_model.specs.Subterms.{joined_terms, arguments_of, each_listed, subterms_step, subterms, with_subterm, once}
 use Rattle.term_model.specs.declared.term.Term.{Term}
 use Rattle.term_model.specs.declared.term.Term.TheOpen.{Term-F}
 use Rattle.term_model.specs.declared.term.Term.TheViews.{roll-Term, out-Term, out-roll-Term}
 use Rattle.term_model.specs.declared.term.Term.TheFolds.{fold-Term, fold-roll-Term, ind-Term, map-Term}
-use Rattle.model_view.specs.Vectors.{vec_of}
-use Rattle.model_view.specs.Plain.{plain_term, plain_step}
+use Rattle.model_view.specs.Plain.{plain_term}
 use Rattle.model_view.proofs.PlainParts.{same_both, plain_layer, plain_roll, args_of_vec}
 
 abbrev Lister : Type 0

@@ -1,23 +1,13 @@
 -- A term and its plain twin have the same depth, variables, kind and value, since nothing looks at where a list lies.
-use Rattle.std.proofs.Common.{◌≡◌, refl, sym, subst, ap, ◌∙◌, Vec, Global, ℕ, suc, ◌+◌, ◌<◌, ◌≤◌, Bool, List, [], ◌∷◌, ◌++◌, map, length, Option, arith}
+use Rattle.std.proofs.Common.{◌≡◌, refl, sym, subst, ap, ◌∙◌, Vec, Global, suc, ◌≤◌, List, [], ◌∷◌, map, length, arith}
 use Rattle.std.proofs.lemmas.List.{take_all}
-use Rattle.cbl_base.specs.declared.ids.VarId.{VarId}
 use Rattle.cbl_base.specs.declared.place.Place.{Place}
-use Rattle.cbl_base.specs.Inputs.{InputKind}
-use Rattle.cbl_base.specs.NumberRule.{NumberRule}
 use Rattle.cbl_operations.specs.declared.op.Op.{Op}
-use Rattle.term_model.specs.Definitions.{vars_of, vars_step}
-use Rattle.term_model.specs.Depth.{depth_of, depth_step}
-use Rattle.term_model.specs.Kinds.{kind_of_term, kind_step}
-use Rattle.term_model.specs.Naming.{users_of, users_step}
 use Rattle.term_model.specs.declared.term.Term.{Term}
 use Rattle.term_model.specs.declared.term.Term.TheOpen.{Term-F}
 use Rattle.term_model.specs.declared.term.Term.TheViews.{roll-Term}
 use Rattle.term_model.specs.declared.term.Term.TheFolds.{fold-Term, fold-roll-Term, ind-Term, map-Term}
-use Rattle.model_values.specs.Outcomes.{Outcome, outcome_of, outcome_step}
 use Rattle.model_view.specs.Vectors.{vec_of, most_items}
-use Rattle.model_view.specs.Building.{constant, constant_set, variable, node}
-use Rattle.model_view.specs.Variables.{all_variables, pass_step}
 use Rattle.model_view.specs.Plain.{plain_term, plain_step}
 
 -- a list that comes from a `Vec` isn't cut

@@ -1,9 +1,8 @@
 -- Cycles: whether a list is one is tested, each item of a cycle begins one, and a cycle has no more items than there are.
-use Rattle.std.proofs.Common.{◌≡◌, refl, sym, subst, ap, ◌∙◌, Vec, ℕ, zero, suc, ◌+◌, ◌<◌, ◌≤◌, Bool, true, false, not, ◌&&◌, ◌||◌, ◌⊎◌, inl, inr, List, [], ◌∷◌, ◌++◌, length, nat_eq, rules, arith}
+use Rattle.std.proofs.Common.{◌≡◌, refl, sym, subst, ap, Vec, ℕ, zero, suc, ◌<◌, ◌≤◌, Bool, true, false, not, ◌&&◌, ◌||◌, inl, inr, List, [], ◌∷◌, ◌++◌, length, nat_eq, rules, arith}
 use Rattle.std.specs.Prelude.{filter, if◌then◌else◌}
 use Rattle.std.specs.List.{list_any}
 use Rattle.std.specs.declared.alloc.Global.{Global}
-use Rattle.layer_plan.specs.Dependencies.{DependsOn}
 use Rattle.layer_plan.specs.Cycles.{first_or, Lacks, IsDistinct, Leads, IsCycle}
 use Rattle.model_view.specs.Naming.{depends, are_distinct, last_behind, is_cycle}
 use Rattle.model_view.proofs.Members.{In, in_filter_back}

@@ -60,6 +60,13 @@ cycle_of_one deps (v ∷ vs) = or_else (cycle_from deps v (length deps) 0) (λ _
 unfoldable pub named_cycle : List (Vec ℕ Global) → Option (List ℕ)
 named_cycle deps = cycle_of_one deps (range_with_len 0 (length deps))
 
--- the items of a model are its variables; each depends on those that its definition names
+-- the items of a model are its variables; each depends on those that its definition names, from the least
+
+abbrev pub names : Model → ℕ → ℕ → Bool
+names M i d = list_any (λ x. nat_eq d x) (named_by M.defs.items (definition_of M i))
+
+abbrev pub dependencies_of : Model → ℕ → List ℕ
+dependencies_of M i = filter (names M i) (range_with_len 0 (length M.vars.items))
+
 abbrev pub dependencies : Model → List (Vec ℕ Global)
-dependencies M = map (λ i. vec_of (named_by M.defs.items (definition_of M i))) (range_with_len 0 (length M.vars.items))
+dependencies M = map (λ i. vec_of (dependencies_of M i)) (range_with_len 0 (length M.vars.items))
