@@ -133,9 +133,11 @@ index_term l at a i = if is_moving i then element_term l at a i else picked_term
 
 -- the same of `a[i,j]`
 
-abbrev pub grid_op : Bounds → Option Bounds → Op
-grid_op rows None = index_op rows
-grid_op rows (Some columns) = ops.Element2 rows.low (size_of rows) columns.low (size_of columns)
+-- of an array without cells neither length counts
+abbrev pub grid_op : Bounds → Option Bounds → List Term → Op
+grid_op rows None ts = index_op rows
+grid_op rows (Some columns) [] = ops.Element2 rows.low 0 columns.low 0
+grid_op rows (Some columns) (t ∷ ts) = ops.Element2 rows.low (size_of rows) columns.low (size_of columns)
 
 unfoldable pub grid_term : Level → Place → Shape → Shape → Shape → Act Term
 grid_term l at a i j = do
@@ -143,7 +145,7 @@ grid_term l at a i j = do
   t ← term l i
   u ← term l j
   _ ← charge (length c.terms) (place_of a)
-  node_form at (grid_op c.rows c.columns) (t ∷ u ∷ c.terms)
+  node_form at (grid_op c.rows c.columns c.terms) (t ∷ u ∷ c.terms)
 
 unfoldable pub picked_cell : Level → Place → Shape → Shape → Shape → Act Term
 picked_cell l at a i j = do
