@@ -60,7 +60,7 @@ pub goes_swap : (at : Place) (x y : VarId) → GoesOn (swap at x y)
 unfolding swap
 goes_swap at x y = goes_at (λ s. goes_swapping at x y _)
 
-goes_defining : (at : Place) (x : VarId) (t : Term) (m : SolverState) → GoesOn (defining at x t m)
+pub goes_defining : (at : Place) (x : VarId) (t : Term) (m : SolverState) → GoesOn (defining at x t m)
 unfolding defining
 goes_defining at x t m =
     goes_then (goes_unless (not m.closed) at AlreadyClosed) (λ _.

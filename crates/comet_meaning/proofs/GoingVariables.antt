@@ -23,7 +23,7 @@ use Rattle.comet_meaning.specs.Blocks.{committed, commit_waiting, outermost, wit
 use Rattle.comet_meaning.specs.Onward.{GoesOn}
 use Rattle.comet_meaning.proofs.GoingOn.{goes_then, goes_give, goes_if, goes_unless, goes_charge, goes_at, goes_look, goes_put, goes_new_variables}
 use Rattle.comet_meaning.proofs.GoingParts.{LevelGoesOn, goes_value, goes_number, goes_bounds, goes_one_term, goes_read_array}
-use Rattle.comet_meaning.proofs.GoingModels.{goes_put_solver, goes_put_evaluated, goes_define}
+use Rattle.comet_meaning.proofs.GoingModels.{goes_put_solver, goes_put_evaluated, goes_defining}
 use Rattle.comet_meaning.proofs.GoingDeclarations.{goes_dimensions, goes_each_cell}
 
 pub goes_domain : (l : Level) → LevelGoesOn l → (d : Option Seen) → GoesOn (domain_form l d)
@@ -41,17 +41,16 @@ unfolding beginning_form
 goes_beginning l h k None = goes_give
 goes_beginning l h k (Some x) = goes_started l h k x.way (whole x.value)
 
-goes_begin : (at : Place) (x : VarId) (b : Beginning) → GoesOn (begin at x b)
-goes_begin at x (free z) = goes_give
-goes_begin at x (defined t) = goes_define at x t
+goes_begin : (at : Place) (x : VarId) (b : Beginning) (m : SolverState) → GoesOn (begin at x b m)
+goes_begin at x (free z) m = goes_put_solver x.solver m
+goes_begin at x (defined t) m = goes_defining at x t m
 
 goes_adding_variable : (at : Place) (k : ℕ) (d : VarDecl) (name : List ℕ) (b : Beginning) (m : SolverState) → GoesOn (adding at k d name b m)
 unfolding adding
 goes_adding_variable at k d name b m =
     goes_then (goes_unless (not m.closed) at AlreadyClosed) (λ _.
     goes_then (goes_unless (nat_lt (variable_count m) most_variables) at (TooMany Variables)) (λ _.
-    goes_then (goes_put_solver k (with_variable m d name (first_number b))) (λ _.
-    goes_then (goes_begin at (next_variable k m) b) (λ _. goes_give {x = next_variable k m}))))
+    goes_then (goes_begin at (next_variable k m) b (with_variable m d name (first_number b))) (λ _. goes_give {x = next_variable k m})))
 
 pub goes_new_variable : (at : Place) (k : ℕ) (d : VarDecl) (name : List ℕ) (b : Beginning) → GoesOn (new_variable at k d name b)
 unfolding new_variable

@@ -28,7 +28,7 @@ use Rattle.comet_meaning.specs.Cells.{look, put, new_variables}
 use Rattle.comet_meaning.specs.Levels.{Level}
 use Rattle.comet_meaning.specs.Parts.{solver_at, bounds, number, value, term}
 use Rattle.comet_meaning.specs.Taking.{read_array}
-use Rattle.comet_meaning.specs.Models.{put_solver, define}
+use Rattle.comet_meaning.specs.Models.{put_solver, defining}
 use Rattle.comet_meaning.specs.Printing.{row_text}
 use Rattle.comet_meaning.specs.Declarations.{Dimension, dimensions_form, cell_count, each_cell}
 
@@ -90,16 +90,16 @@ with_variable m d name z = record m {
 abbrev pub next_variable : ℕ → SolverState → VarId
 next_variable k m = record { solver = k; index = variable_count m }
 
-abbrev pub begin : Place → VarId → Beginning → Act (Unit {0})
-begin at x (free z) = give tt
-begin at x (defined t) = define at x t
+-- the solver that has the variable, with its definition if it begins so
+abbrev pub begin : Place → VarId → Beginning → SolverState → Act (Unit {0})
+begin at x (free z) m = put_solver x.solver m
+begin at x (defined t) m = defining at x t m
 
 unfoldable pub adding : Place → ℕ → VarDecl → List ℕ → Beginning → SolverState → Act VarId
 adding at k d name b m = do
   _ ← unless (not m.closed) at AlreadyClosed
   _ ← unless (nat_lt (variable_count m) most_variables) at (TooMany limits.Variables)
-  _ ← put_solver k (with_variable m d name (first_number b))
-  _ ← begin at (next_variable k m) b
+  _ ← begin at (next_variable k m) b (with_variable m d name (first_number b))
   give (next_variable k m)
 
 unfoldable pub new_variable : Place → ℕ → VarDecl → List ℕ → Beginning → Act VarId
