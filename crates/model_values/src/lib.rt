@@ -34,7 +34,7 @@ pub use asked::AskStop;
 pub use deltas::{Move, delta};
 pub use failure::Failure;
 pub use fresh_values::{fresh, fresh_with};
-pub use laws::closed_model_law;
+pub use laws::{closed_model_law, defined_variable_law};
 pub use operation::value_of;
 pub use places::violation_at;
 pub use system_shares::variable_violations;
