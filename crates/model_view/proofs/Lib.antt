@@ -8,3 +8,4 @@ pub mod PlainParts
 pub mod PlainSubterms
 pub mod PlainModels
 pub mod Dependencies
+pub mod PlainChanges

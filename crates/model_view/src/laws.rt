@@ -1,5 +1,5 @@
 //! What holds of models that are seen without where their lists lie, and of the cycle that is named.
-ghost use Rattle.std.specs.Prelude.{◌≡◌, ◌<◌, ℕ, ℤ, Bool, List, map, length, Option, Some, None, Vec};
+ghost use Rattle.std.specs.Prelude.{◌≡◌, ◌<◌, ℕ, ℤ, Bool, List, [], ◌∷◌, ◌++◌, map, length, Option, Some, None, Vec};
 ghost use Rattle.std.specs.declared.alloc.Global.{Global};
 ghost use Rattle.cbl_base.specs.Inputs.{InputKind};
 ghost use Rattle.cbl_base.specs.NumberRule.{NumberRule};
@@ -14,11 +14,15 @@ ghost use Rattle.term_model.specs.Kinds.{kind_of_term};
 ghost use Rattle.term_model.specs.Naming.{users_of};
 ghost use Rattle.term_model.specs.SameTerms.{same_term};
 ghost use Rattle.term_model.specs.Subterms.{subterms, distinct_subterms};
+ghost use Rattle.term_model.specs.declared.model.Definition.{Definition};
 ghost use Rattle.term_model.specs.declared.model.Model.{Model};
+ghost use Rattle.term_model.specs.declared.model.Posted.TheVariants.{Define};
+ghost use Rattle.term_model.specs.declared.model.VarDecl.{VarDecl};
 ghost use Rattle.term_model.specs.declared.term.Term.{Term};
 ghost use Rattle.model_values.specs.Fresh.{fresh_of};
 ghost use Rattle.model_values.specs.Outcomes.{Outcome, outcome_of};
 ghost use Rattle.model_values.specs.VarOutcomes.{outcome_of_var};
+ghost use Rattle.model_view.specs.Building.{with_variable, with_definition};
 ghost use Rattle.model_view.specs.Naming.{named_cycle, dependencies};
 ghost use Rattle.model_view.specs.Plain.{plain_term, plain_model};
 ghost use Rattle.model_view.specs.Variables.{all_variables};
@@ -45,6 +49,17 @@ pub fn plain_models_law()
     ensures variables { (users : ℕ → NumberRule) (M : Model) (a : List ℤ) → outcome_of_var users (plain_model M) a ≡ outcome_of_var users M a }
     ensures fresh { (users : ℕ → NumberRule) (M : Model) (a : List ℤ) → fresh_of users (plain_model M) a ≡ fresh_of users M a }
     ensures dependencies { (M : Model) → dependencies (plain_model M) ≡ dependencies M }
+{}
+
+/// Models with the same lists have one plain twin, and a model that has one more variable or definition has a twin that has
+/// it, too.
+pub fn plain_changes_law()
+    ensures same { (M N : Model) → N.vars.items ≡ M.vars.items → N.defs.items ≡ M.defs.items → N.systems.items ≡ M.systems.items → N.objectives.items ≡ M.objectives.items →
+        N.posted.items ≡ M.posted.items → plain_model N ≡ plain_model M }
+    ensures variable { (M N : Model) (v : VarDecl) → N.vars.items ≡ M.vars.items ++ v ∷ [] → N.defs.items ≡ M.defs.items → N.systems.items ≡ M.systems.items → N.objectives.items ≡ M.objectives.items →
+        N.posted.items ≡ M.posted.items → plain_model N ≡ with_variable (plain_model M) v }
+    ensures definition { (M N : Model) (def : Definition) → N.vars.items ≡ M.vars.items → N.defs.items ≡ M.defs.items ++ def ∷ [] → N.systems.items ≡ M.systems.items → N.objectives.items ≡ M.objectives.items →
+        N.posted.items ≡ M.posted.items ++ Define (length M.defs.items) ∷ [] → plain_model N ≡ with_definition (plain_model M) def.var (plain_term def.term) }
 {}
 
 /// The items of a model depend on one another exactly as its variables do.
