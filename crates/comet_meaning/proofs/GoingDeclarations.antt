@@ -1,5 +1,5 @@
 -- Declarations of numbers, truth values, ranges, sets, arrays of numbers and objects go onward.
-use Rattle.std.proofs.Common.{ℕ, ℤ, List, [], ◌∷◌, ◌++◌, Option, Some, None}
+use Rattle.std.proofs.Common.{ℕ, ℤ, List, [], ◌∷◌, ◌++◌, Option, Some, None, nat_eq}
 use Rattle.cbl_base.specs.declared.place.Place.{Place}
 use Rattle.checked_tree.specs.declared.kind.Kind.{Kind}
 use Rattle.checked_tree.specs.declared.kind.Kind.TheVariants as kinds
@@ -11,10 +11,10 @@ use Rattle.checked_tree.specs.Actions.{Started, Sized}
 use Rattle.comet_meaning.specs.State.{left}
 use Rattle.comet_meaning.specs.Outcome.{Act}
 use Rattle.comet_meaning.specs.Levels.{Level}
-use Rattle.comet_meaning.specs.Declarations.{Dimension, copied_form, scalar_form, dimensions_form, put_named, each_cell, start_number, next_cell, listed_form, started_cells, numbers_form, array_form, make_input, object_form}
+use Rattle.comet_meaning.specs.Declarations.{Dimension, copied_form, scalar_form, dimensions_form, put_named, cell_count, each_cell, every_cell, start_number, next_cell, listed_form, started_cells, numbers_form, array_form, make_input, object_form}
 use Rattle.comet_meaning.specs.Models.{make_solver}
 use Rattle.comet_meaning.specs.Onward.{GoesOn}
-use Rattle.comet_meaning.proofs.GoingOn.{onward_refl, goes_then, goes_give, goes_unless, goes_charge, goes_put, goes_new_array, goes_each_in}
+use Rattle.comet_meaning.proofs.GoingOn.{onward_refl, goes_then, goes_give, goes_if, goes_unless, goes_charge, goes_put, goes_new_array, goes_each_in}
 use Rattle.comet_meaning.proofs.GoingParts.{LevelGoesOn, goes_value, goes_number, goes_bounds, goes_read_array}
 
 pub goes_copied : (l : Level) → LevelGoesOn l → (at : Place) (slot : Slot) (e : Seen) → GoesOn (copied_form l at slot e)
@@ -43,6 +43,10 @@ goes_each_cell visit [] is x k = k is x
 goes_each_cell visit (d ∷ ds) is x k =
     goes_each_in _ _ _ x (λ z y. goes_then (goes_put_named d.slot z) (λ _. goes_each_cell visit ds (is ++ z ∷ []) y k))
 
+pub goes_every_cell : {A : Type 0} (visit : List ℤ → List A → Act (List A)) (ds : List Dimension) → ((is : List ℤ) (xs : List A) → GoesOn (visit is xs)) → GoesOn (every_cell visit ds)
+unfolding every_cell
+goes_every_cell visit ds k = goes_if (nat_eq (cell_count ds) 0) goes_give (goes_each_cell visit ds [] [] k)
+
 pub goes_start_number : (l : Level) → LevelGoesOn l → (e : Option Seen) → GoesOn (start_number l e)
 unfolding start_number
 goes_start_number l h None = goes_give
@@ -60,11 +64,11 @@ goes_listed l h at count e =
 pub goes_started_cells : (l : Level) → LevelGoesOn l → (at : Place) (ds : List Dimension) (w : Way) (e : Seen) → GoesOn (started_cells l at ds w e)
 unfolding started_cells
 goes_started_cells l h at ds ways.List e = goes_listed l h at _ e
-goes_started_cells l h at ds w e = goes_each_cell _ ds [] [] (λ is xs. goes_next_cell l h at (Some e) is xs)
+goes_started_cells l h at ds w e = goes_every_cell _ ds (λ is xs. goes_next_cell l h at (Some e) is xs)
 
 pub goes_numbers : (l : Level) → LevelGoesOn l → (at : Place) (ds : List Dimension) (x : Option Started) → GoesOn (numbers_form l at ds x)
 unfolding numbers_form
-goes_numbers l h at ds None = goes_each_cell _ ds [] [] (λ is xs. goes_next_cell l h at None is xs)
+goes_numbers l h at ds None = goes_every_cell _ ds (λ is xs. goes_next_cell l h at None is xs)
 goes_numbers l h at ds (Some x) = goes_started_cells l h at ds x.way x.value
 
 pub goes_array : (l : Level) → LevelGoesOn l → (at : Place) (slot : Slot) (sizes : List Sized) (x : Option Started) → GoesOn (array_form l at slot sizes x)

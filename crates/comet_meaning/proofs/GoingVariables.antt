@@ -24,7 +24,7 @@ use Rattle.comet_meaning.specs.Onward.{GoesOn}
 use Rattle.comet_meaning.proofs.GoingOn.{goes_then, goes_give, goes_if, goes_unless, goes_charge, goes_at, goes_look, goes_put, goes_new_variables}
 use Rattle.comet_meaning.proofs.GoingParts.{LevelGoesOn, goes_value, goes_number, goes_bounds, goes_one_term, goes_read_array}
 use Rattle.comet_meaning.proofs.GoingModels.{goes_put_solver, goes_put_evaluated, goes_defining}
-use Rattle.comet_meaning.proofs.GoingDeclarations.{goes_dimensions, goes_each_cell}
+use Rattle.comet_meaning.proofs.GoingDeclarations.{goes_dimensions, goes_every_cell}
 
 pub goes_domain : (l : Level) → LevelGoesOn l → (d : Option Seen) → GoesOn (domain_form l d)
 unfolding domain_form
@@ -78,14 +78,14 @@ goes_listed_variable at v d numbers is xs =
 pub goes_listed_variables : (l : Level) → LevelGoesOn l → (at : Place) (v : Varying) (d : VarDecl) (ds : List Dimension) (e : Seen) → GoesOn (listed_cells l at v d ds e)
 unfolding listed_cells
 goes_listed_variables l h at v d ds e =
-    goes_then (goes_value l h (whole e)) (λ w. goes_then (goes_read_array e.place w) (λ c. goes_then (goes_unless _ at _) (λ _. goes_each_cell _ ds [] [] (λ is xs. goes_listed_variable at v d c.numbers is xs))))
+    goes_then (goes_value l h (whole e)) (λ w. goes_then (goes_read_array e.place w) (λ c. goes_then (goes_unless _ at _) (λ _. goes_every_cell _ ds (λ is xs. goes_listed_variable at v d c.numbers is xs))))
 
 goes_started_variables : (l : Level) → LevelGoesOn l → (at : Place) (v : Varying) (d : VarDecl) (ds : List Dimension) (w : Way) (e : Seen) → GoesOn (started_cells l at v d ds w e)
 goes_started_variables l h at v d ds ways.List e = goes_listed_variables l h at v d ds e
-goes_started_variables l h at v d ds w e = goes_each_cell _ ds [] [] (λ is xs. goes_next_variable l h at v d is xs)
+goes_started_variables l h at v d ds w e = goes_every_cell _ ds (λ is xs. goes_next_variable l h at v d is xs)
 
 goes_variable_cells : (l : Level) → LevelGoesOn l → (at : Place) (v : Varying) (d : VarDecl) (ds : List Dimension) (x : Option Started) → GoesOn (cells_form l at v d ds x)
-goes_variable_cells l h at v d ds None = goes_each_cell _ ds [] [] (λ is xs. goes_next_variable l h at v d is xs)
+goes_variable_cells l h at v d ds None = goes_every_cell _ ds (λ is xs. goes_next_variable l h at v d is xs)
 goes_variable_cells l h at v d ds (Some x) = goes_started_variables l h at v d ds x.way x.value
 
 pub goes_several_variables : (l : Level) → LevelGoesOn l → (at : Place) (v : Varying) → GoesOn (several_form l at v)

@@ -1,6 +1,6 @@
 -- Declarations of numbers, truth values, ranges, sets, arrays of numbers and objects. An array's dimensions are
 -- evaluated first; then each cell costs a unit, and gets its first value. From the language.
-use Rattle.std.specs.Prelude.{ℕ, ◌*◌, ℤ, pos, List, [], ◌∷◌, ◌++◌, length, Option, Some, None, nat_le, nat_eq}
+use Rattle.std.specs.Prelude.{ℕ, ◌*◌, ℤ, pos, List, [], ◌∷◌, ◌++◌, length, Option, Some, None, nat_le, nat_eq, if◌then◌else◌}
 use Rattle.cbl_base.specs.declared.place.Place.{Place}
 use Rattle.cbl_base.specs.declared.faults.Limit.TheVariants as limits
 use Rattle.cbl_base.specs.declared.faults.RunFault.TheVariants.{OutOfRange, TooMany}
@@ -62,6 +62,10 @@ abbrev pub each_cell : {A : Type 0} → (List ℤ → A → Act A) → List Dime
 each_cell visit [] is x = visit is x
 each_cell visit (d ∷ ds) is x = each_in always (λ z y. put_named d.slot z >>= λ _. each_cell visit ds (is ++ z ∷ []) y) (Range d.bounds) x
 
+-- what is made of all cells, from the first; where there is no cell nothing is done, however many rows there are
+unfoldable pub every_cell : {A : Type 0} → (List ℤ → List A → Act (List A)) → List Dimension → Act (List A)
+every_cell visit ds = if nat_eq (cell_count ds) 0 then give [] else each_cell visit ds [] []
+
 -- the number of a cell; without a start it is 0
 unfoldable pub start_number : Level → Option Seen → Act ℤ
 start_number l None = give (pos 0)
@@ -85,10 +89,10 @@ listed_form l at count e = do
 
 unfoldable pub started_cells : Level → Place → List Dimension → Way → Seen → Act (List ℤ)
 started_cells l at ds ways.List e = listed_form l at (cell_count ds) e
-started_cells l at ds w e = each_cell (next_cell l at (Some e)) ds [] []
+started_cells l at ds w e = every_cell (next_cell l at (Some e)) ds
 
 unfoldable pub numbers_form : Level → Place → List Dimension → Option Started → Act (List ℤ)
-numbers_form l at ds None = each_cell (next_cell l at None) ds [] []
+numbers_form l at ds None = every_cell (next_cell l at None) ds
 numbers_form l at ds (Some x) = started_cells l at ds x.way x.value
 
 -- an array of one dimension or two with these numbers

@@ -30,7 +30,7 @@ use Rattle.comet_meaning.specs.Parts.{solver_at, bounds, number, value, term}
 use Rattle.comet_meaning.specs.Taking.{read_array}
 use Rattle.comet_meaning.specs.Models.{put_solver, defining}
 use Rattle.comet_meaning.specs.Printing.{row_text}
-use Rattle.comet_meaning.specs.Declarations.{Dimension, dimensions_form, cell_count, each_cell}
+use Rattle.comet_meaning.specs.Declarations.{Dimension, dimensions_form, cell_count, every_cell}
 
 -- what is declared
 
@@ -141,14 +141,14 @@ listed_cells l at v d ds e = do
   w ← value l (whole e)
   c ← read_array e.place w
   _ ← unless (nat_eq (length c.numbers) (cell_count ds)) at OutOfRange
-  each_cell (listed_cell at v d c.numbers) ds [] []
+  every_cell (listed_cell at v d c.numbers) ds
 
 abbrev pub started_cells : Level → Place → Varying → VarDecl → List Dimension → Way → Seen → Act (List VarId)
 started_cells l at v d ds ways.List e = listed_cells l at v d ds e
-started_cells l at v d ds w e = each_cell (next_cell l at v d) ds [] []
+started_cells l at v d ds w e = every_cell (next_cell l at v d) ds
 
 abbrev pub cells_form : Level → Place → Varying → VarDecl → List Dimension → Option Started → Act (List VarId)
-cells_form l at v d ds None = each_cell (next_cell l at v d) ds [] []
+cells_form l at v d ds None = every_cell (next_cell l at v d) ds
 cells_form l at v d ds (Some x) = started_cells l at v d ds x.way x.value
 
 -- an array of one dimension or two of these variables
