@@ -1,6 +1,6 @@
 //! Models that may be asked, and models that may not.
 use super::*;
-use cbl_base::{NoMemory, Place, VarId};
+use cbl_base::{IntSet, NoMemory, Place, VarId};
 use std::alloc::Global;
 use std::test::*;
 
@@ -132,6 +132,35 @@ fn models_that_may_not_be_asked(rt: HostRuntime) -> Result<(), Fail> {
     post(&mut missing, &[FIRST])?;
     for model in [cyclic, unposted, elsewhere, missing] {
         assert_eq!(rt; is_usable(alloc, &model).ok(), Some(false));
+    }
+    Ok(())
+}
+
+// A sum is a number, a union of sets a set, and a sum with a set in it has no kind
+#[test]
+fn kinds_of_terms(rt: HostRuntime) -> Result<(), Fail> {
+    let alloc = rt.alloc();
+    let model = model_of(alloc, 1)?;
+    for (op, first, second, wanted) in [
+        (Op::Add, var(0), Term::Const(1), Some(VarKind::Number)),
+        (
+            Op::Union,
+            Term::ConstSet(IntSet::new(alloc)),
+            Term::ConstSet(IntSet::new(alloc)),
+            Some(VarKind::Set),
+        ),
+        (Op::Add, var(0), Term::ConstSet(IntSet::new(alloc)), None),
+        (Op::Add, var(0), var(1), None),
+    ] {
+        let mut args = Vec::new(alloc);
+        args.push(first)?;
+        args.push(second)?;
+        let term = Term::Node {
+            op,
+            args,
+            place: NOWHERE,
+        };
+        assert_eq!(rt; term_kind(alloc, &model.vars, &term).ok(), Some(wanted));
     }
     Ok(())
 }
