@@ -3,5 +3,6 @@ pub mod ArrayLaws
 pub mod DigitLaws
 pub mod OwnArrays
 pub mod PrintLaws
+pub mod ReadLaws
 pub mod WordLaws
 pub mod WrittenCells

@@ -13,6 +13,7 @@ pub mod fuel;
 pub mod names;
 pub mod out;
 pub mod printing;
+pub mod reading;
 pub mod state;
 pub mod targets;
 mod words;
