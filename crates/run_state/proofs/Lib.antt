@@ -1,6 +1,7 @@
 pub mod ActLaws
 pub mod ArrayLaws
 pub mod DigitLaws
+pub mod EitherArray
 pub mod OwnArrays
 pub mod PrintLaws
 pub mod ReadLaws

@@ -1,10 +1,10 @@
 -- Printing an array: it goes onward, and its text is what the array comes to.
-use Rattle.std.proofs.Common.{◌≡◌, ℕ, ℤ, List, [], Vec, Global, Result, Ok, Err, IfOk, map, refl, ◌∙◌, ap}
+use Rattle.std.proofs.Common.{◌≡◌, ℕ, ℤ, List, [], Vec, Global, Result, Ok, Err, IfOk, map, refl, ◌∙◌, ap, subst}
 use Rattle.cbl_base.specs.declared.ids.VarId.{VarId}
 use Rattle.cbl_base.specs.declared.place.Place.{Place}
 use Rattle.comet_meaning.specs.Values.{Value, Nothing, Number, Truth, Range, Set, Array, Row, Variable, Variables, Solver, Input}
-use Rattle.comet_meaning.specs.State.{State, Left, VariableCells}
-use Rattle.comet_meaning.specs.Outcome.{Outcome, Went, Halted, Halt, then_do, give, charge}
+use Rattle.comet_meaning.specs.State.{State, VariableCells}
+use Rattle.comet_meaning.specs.Outcome.{Outcome, Went, Halted, then_do, give, charge}
 use Rattle.comet_meaning.specs.Cells.{cells, cells_of, variables, variables_of, size_in}
 use Rattle.comet_meaning.specs.Taking.{read_each}
 use Rattle.comet_meaning.specs.Printing as printing
@@ -12,10 +12,10 @@ use Rattle.comet_meaning.specs.Printing.{array_text, variables_text, grid_text, 
 use Rattle.comet_meaning.specs.Onward.{IsFront, GoesOn, left_by}
 use Rattle.comet_meaning.proofs.GoingOn.{goes_then}
 use Rattle.comet_meaning.proofs.GoingStatements.{goes_array_text, goes_variables_text, goes_print}
-use Rattle.run_values.specs.Did.{Did}
+use Rattle.run_values.specs.Did.{Did, Stopped}
 use Rattle.run_values.specs.declared.stop.Stop.{Stop}
 use Rattle.run_state.specs.Acts.{array_shown, array_text_of, text_read, values_now, variables_chars, array_chars}
-use Rattle.run_state.proofs.ReadLaws.{each_now}
+use Rattle.run_state.proofs.ReadLaws.{stopped_behind, each_now}
 
 goes_array_text_of : (at : Place) (v : Value) → GoesOn (array_text_of at v)
 goes_array_text_of at (Variables n) = goes_variables_text at (Variables n)
@@ -33,22 +33,24 @@ unfolding cells variables array_text variables_text
 array_paid at (Variables k) s n f is paid = rw (← is, paid) refl
 array_paid at v s n f is paid = rw (← is, paid) refl
 
--- where they can't be paid for, the run halts
-pub array_unpaid : (at : Place) (v : Value) (s : State) (n : ℕ) (h : Halt) (t : Left) → n ≡ size_in s v → charge n at s ≡ Halted h t → array_text_of at v s ≡ Halted h t
+-- where they can't be paid for, it stops so
+pub array_unpaid : (at : Place) (v : Value) (s t : State) (n : ℕ) (stop : Stop) → n ≡ size_in s v → Stopped stop t (charge n at s) → Stopped stop t (array_text_of at v s)
 unfolding cells variables array_text variables_text
-array_unpaid at (Variables k) s n h t is paid = rw (← is, paid) refl
-array_unpaid at v s n h t is paid = rw (← is, paid) refl
+array_unpaid at (Variables k) s t n stop is e = stopped_behind stop t (charge (size_in s (Variables k)) at s) _ (subst (λ m. Stopped stop t (charge m at s)) is e)
+array_unpaid at v s t n stop is e = stopped_behind stop t (charge (size_in s v) at s) _ (subst (λ m. Stopped stop t (charge m at s)) is e)
 
 -- what is read is the text that the array comes to
+variables_now : (s t : State) (c : VariableCells) (text : List ℕ) (o : Outcome (List Value)) → ((ws : List Value) (r : State) → o ≡ Went ws r → (ws ≡ values_now s c.variables) × (r ≡ s)) →
+    then_do o (λ vs. give (grid_text c.rows (map printing.plain_text vs) c.columns)) ≡ Went text t → text ≡ variables_chars s c
+variables_now s t c text (Halted h l) known e = absurd cc
+variables_now s t c text (Went ws r) known e =
+    let first : text ≡ grid_text c.rows (map printing.plain_text ws) c.columns = cc in
+    first ∙ ap (λ (vs : List Value). grid_text c.rows (map printing.plain_text vs) c.columns) (known ws r refl).0
+
 text_now : (at : Place) (v : Value) (s t : State) (text : List ℕ) → text_read at v s ≡ Went text t → text ≡ array_chars s v
 unfolding cells variables
-text_now at (Variables n) s t text e = behind (variables_of s (Variables n)) (read_each at (variables_of s (Variables n)).variables [] s) (each_now at (variables_of s (Variables n)).variables s) e where
-  behind : (c : VariableCells) (o : Outcome (List Value)) → ({ws : List Value} {r : State} → o ≡ Went ws r → (ws ≡ values_now s c.variables) × (r ≡ s)) →
-      then_do o (λ vs. give (grid_text c.rows (map printing.plain_text vs) c.columns)) ≡ Went text t → text ≡ variables_chars s c
-  behind c (Went ws r) known q =
-      let first : text ≡ grid_text c.rows (map printing.plain_text ws) c.columns = cc in
-      first ∙ ap (λ (vs : List Value). grid_text c.rows (map printing.plain_text vs) c.columns) (known refl).0
-  behind c (Halted h l) known q = absurd cc
+text_now at (Variables n) s t text e =
+    variables_now s t (variables_of s (Variables n)) text (read_each at (variables_of s (Variables n)).variables [] s) (each_now at (variables_of s (Variables n)).variables s) e
 text_now at v s t text e = cc
 
 chars_kept : (v : Value) (s : State) (f : ℕ) → array_chars (record s { fuel = f }) v ≡ array_chars s v

@@ -2,7 +2,6 @@
 ghost use Rattle.std.specs.Prelude.{◌≡◌, ℕ, List, [], IfErr, map, pos};
 ghost use Rattle.cbl_base.specs.Counts.{count_of};
 ghost use Rattle.comet_meaning.specs.Parts as parts;
-ghost use Rattle.comet_meaning.specs.Parts.{solver_at, variable_value};
 ghost use Rattle.comet_meaning.specs.Taking as meaning;
 ghost use Rattle.comet_meaning.specs.Values as values;
 ghost use Rattle.run_values.specs.Did.{Did, IsFaultOrMemory};
@@ -31,13 +30,14 @@ impl State {
 
     /// The value of a variable that is read at a place.
     pub(crate) fn read_variable(&self, at: Place, variable: VarId) -> Result<Value, Stop>
-        ensures did { (printed : List ℕ) → Did value_seen result (state_seen self.now printed) (variable_value at variable.index (solver_at (state_seen self.now printed) variable.solver) (state_seen self.now printed)) }
+        ensures did { (printed : List ℕ) → Did value_seen result (state_seen self.now printed) (parts.read at (values.Variable variable) (state_seen self.now printed)) }
         ensures stop { IfErr result IsFaultOrMemory }
     {
-        match self.solvers.get(variable.solver as usize) {
-            Some(solver) => solver.read(at, variable),
-            None => Err(Stop::Fault(at, RunFault::WrongSolver)),
+        let number = variable.solver as usize;
+        if number >= self.solvers.len() {
+            return Err(Stop::Fault(at, RunFault::WrongSolver));
         }
+        self.solvers[number].read(at, variable)
     }
 
     /// The values of variables that are read at a place, one after another.

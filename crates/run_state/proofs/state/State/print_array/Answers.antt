@@ -7,8 +7,8 @@ use Rattle.run_state.specs.Acts.{array_chars}
 use Rattle.run_state.proofs.PrintLaws.{front_of_array}
 use Rattle.run_state.proofs.state.State.print_array.Goals as goal
 
-pub returns-in_err-array_text-clause-front : goal.returns-in_err-array_text-clause-front
-returns-in_err-array_text-clause-front g c = front_of_array c.args.at (value_seen c.args.array.now) (state_seen c.args.self.now (g.O.Out.taken c.args.out.now))
+pub returns-in_err-text-clause-front : goal.returns-in_err-text-clause-front
+returns-in_err-text-clause-front g c = front_of_array c.args.at (value_seen c.args.array.now) (state_seen c.args.self.now (g.O.Out.taken c.args.out.now))
 
 pub returns-clause-did : goal.returns-clause-did
 returns-clause-did g c =
