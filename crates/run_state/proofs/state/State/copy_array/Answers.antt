@@ -1,5 +1,5 @@
 -- The numbers are read, charged, and put.
-use Rattle.std.proofs.Common.{refl}
+use Rattle.std.proofs.Common.{◌≡◌, length, refl, arith}
 use Rattle.std.proofs.lemmas.Result.{err_from_is_err_and}
 use Rattle.comet_meaning.specs.Taking.{read_array}
 use Rattle.run_values.specs.Views.{value_seen}
@@ -17,13 +17,15 @@ returns-in_err-numbers-clause-did c = λ printed.
 pub returns-in_err-spend-clause-did : goal.returns-in_err-spend-clause-did
 returns-in_err-spend-clause-did c = λ printed.
     let s = state_seen c.args.self.now printed in
-    let p = err_from_is_err_and c.from_residual.result c.from_residual.ensures.1 in
-    rw (p.1, p.2) (copied_unpaid _ c.args.at c.args.place c.args.slot (value_seen c.args.array.now) s _ _ _ (c.in_ok-numbers.ensures.did printed) c.len-cells.ensures (c.in_err-spend.ensures.did s refl))
+    let p = err_from_is_err_and c.from_residual-in_err-spend.result c.from_residual-in_err-spend.ensures.1 in
+    let long : c.len-cells.result ≡ length c.in_ok-numbers.numbers.items = omega (arith, c.len-cells.ensures, c.in_ok-numbers.numbers.ok.0) in
+    rw (p.1, p.2) (copied_unpaid _ c.args.at c.args.place c.args.slot (value_seen c.args.array.now) s _ _ _ (c.in_ok-numbers.ensures.did printed) long (c.in_err-spend.ensures.did s refl))
 
 pub returns-clause-did : goal.returns-clause-did
 returns-clause-did c = λ printed.
     let s = state_seen c.args.self.now printed in
     let v = value_seen c.args.array.now in
     let made = rw c.row.ensures at (c.in_ok-array.ensures.did printed) in
-    let paid = rw c.len-cells.ensures at (c.in_ok-spend.ensures.did s refl) in
+    let long : c.len-cells.result ≡ length c.in_ok-numbers.numbers.items = omega (arith, c.len-cells.ensures, c.in_ok-numbers.numbers.ok.0) in
+    let paid = rw long at (c.in_ok-spend.ensures.did s refl) in
     rw (copied_law c.args.at c.args.place c.args.slot v s _ _ _ _ (c.in_ok-numbers.ensures.did printed) paid made) (c.put.ensures.did printed)
