@@ -1,5 +1,5 @@
 -- What is asked of an array that isn't one of variables is asked of its numbers.
-use Rattle.std.proofs.Common.{◌≡◌, ℕ, ℤ, pos, List, length, refl}
+use Rattle.std.proofs.Common.{◌≡◌, ℕ, ℤ, pos, length, refl}
 use Rattle.cbl_base.specs.Counts.{count_of}
 use Rattle.cbl_base.specs.declared.place.Place.{Place}
 use Rattle.comet_meaning.specs.State.{State}

@@ -1,11 +1,10 @@
 -- Printing an array: it goes onward, and its text is what the array comes to.
-use Rattle.std.proofs.Common.{◌≡◌, ℕ, ℤ, List, [], Vec, Global, Result, Ok, Err, IfOk, map, refl, ◌∙◌, ap, subst}
-use Rattle.cbl_base.specs.declared.ids.VarId.{VarId}
+use Rattle.std.proofs.Common.{◌≡◌, ℕ, List, [], Vec, Global, Result, Ok, Err, IfOk, map, refl, ◌∙◌, ap, subst}
 use Rattle.cbl_base.specs.declared.place.Place.{Place}
-use Rattle.comet_meaning.specs.Values.{Value, Nothing, Number, Truth, Range, Set, Array, Row, Variable, Variables, Solver, Input}
+use Rattle.comet_meaning.specs.Values.{Value, Variables}
 use Rattle.comet_meaning.specs.State.{State, VariableCells}
 use Rattle.comet_meaning.specs.Outcome.{Outcome, Went, Halted, then_do, give, charge}
-use Rattle.comet_meaning.specs.Cells.{cells, cells_of, variables, variables_of, size_in}
+use Rattle.comet_meaning.specs.Cells.{cells, variables, variables_of, size_in}
 use Rattle.comet_meaning.specs.Taking.{read_each}
 use Rattle.comet_meaning.specs.Printing as printing
 use Rattle.comet_meaning.specs.Printing.{array_text, variables_text, grid_text, cells_text, print}

@@ -1,5 +1,5 @@
 -- The numbers of an array that isn't one of variables are counted as they are.
-use Rattle.std.proofs.Common.{◌≡◌, List, ℤ, pos, sym, ◌∙◌, ap, rules}
+use Rattle.std.proofs.Common.{List, ℤ, pos, sym, ◌∙◌, ap, rules}
 use Rattle.std.specs.Int.{w64}
 use Rattle.std.proofs.lemmas.Int.{ints, to_z-of_z}
 use Rattle.cbl_base.specs.Counts.{count_of}

@@ -1,5 +1,5 @@
 -- The solver is there, or it has no variable.
-use Rattle.std.proofs.Common.{◌≡◌, get_or, length, map, ◌∙◌, arith}
+use Rattle.std.proofs.Common.{◌≡◌, get_or, map, ◌∙◌, arith}
 use Rattle.std.proofs.lemmas.List.{get_or_past, length-map}
 use Rattle.comet_meaning.specs.Solvers.{new_solver}
 use Rattle.comet_meaning.specs.Parts.{solver_at}

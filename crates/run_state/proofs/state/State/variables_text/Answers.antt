@@ -1,5 +1,5 @@
 -- The variables are read, and then the text of their values is written.
-use Rattle.std.proofs.Common.{◌≡◌, ◌++◌, List, ℕ, map, sym, ◌∙◌, ap}
+use Rattle.std.proofs.Common.{◌≡◌, List, ℕ, map, sym, ◌∙◌, ap}
 use Rattle.std.proofs.lemmas.Result.{err_from_is_err_and}
 use Rattle.comet_meaning.specs.Values.{Variables}
 use Rattle.comet_meaning.specs.Outcome.{Went}
