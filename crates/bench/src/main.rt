@@ -7,15 +7,10 @@
 mod draws;
 mod nodes;
 mod planning;
-mod stop;
-mod texts;
-mod types;
 
 use crate::nodes::time_nodes;
 use crate::planning::time_plan;
-use crate::stop::Stop;
-use crate::texts::time_parse;
-use crate::types::time_types;
+use bench_texts::{Stop, time_parse, time_types};
 use std::env;
 use std::process::ExitCode;
 

@@ -6,7 +6,7 @@ mod timing;
 
 use crate::nodes::kinds::{KINDS, Shape, time_kind};
 use crate::nodes::timing::Times;
-use crate::stop::Stop;
+use bench_texts::Stop;
 use std::alloc::Global;
 use std::time::CpuClock;
 

@@ -5,7 +5,7 @@ ghost use Rattle.std.specs.List.{All};
 ghost use Rattle.layer_plan.specs.Dependencies.{AreItems};
 
 use crate::draws::Draws;
-use crate::stop::Stop;
+use bench_texts::Stop;
 use cbl_base::NoMemory;
 use layer_plan::{Layers, PlanStop, plan};
 use std::alloc::Global;

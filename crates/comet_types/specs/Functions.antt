@@ -23,7 +23,8 @@ use Rattle.type_scopes.specs.Functions.{learn, begin, is_settled, settle}
 use Rattle.type_scopes.specs.Names.{is_new, opened, declare, declare_with, closed}
 use Rattle.type_scopes.specs.State.{State, Outcome, Went, Refused, Check, give, refuse, then_do, ◌>>=◌, each}
 use Rattle.type_declarations.specs.Parts.{ruled}
-use Rattle.comet_types.specs.Statements.{Does, block_of, within_own}
+use Rattle.type_heads.specs.Heads.{Does}
+use Rattle.type_statements.specs.Statements.{block_of, within_own}
 
 -- at the top of a program
 abbrev pub top : Scope

@@ -1,4 +1,3 @@
-pub mod Statements
 pub mod Functions
 pub mod Program
 pub mod View

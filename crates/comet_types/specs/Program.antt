@@ -14,7 +14,7 @@ use Rattle.type_scopes.specs.State.{State, Outcome, Went, Refused, Check, give, 
 use Rattle.comet_types.specs.declared.program.CheckStop.{CheckStop}
 use Rattle.comet_types.specs.declared.program.CheckStop.TheVariants as stops
 use Rattle.comet_types.specs.Functions.{top, function_form}
-use Rattle.comet_types.specs.Statements.{statement_of}
+use Rattle.type_statements.specs.Statements.{statement_of}
 
 -- a part, behind those before it; imports have no effect
 unfoldable pub part_form : TopPart → Whole → Check Whole

@@ -6,10 +6,9 @@ ghost use Rattle.type_scopes.specs.Did.{Did};
 ghost use Rattle.type_scopes.specs.Names as names;
 ghost use Rattle.type_expressions.specs.Expressions as expressions;
 ghost use Rattle.comet_types.specs.Functions as functions;
-ghost use Rattle.comet_types.specs.Statements.{block_of};
+ghost use Rattle.type_statements.specs.Statements.{block_of};
 ghost use Rattle.comet_types.specs.View.{kinds_in};
 
-use crate::statements::check_block;
 use cbl_base::Text;
 use checked_tree::{Cause, Function as CheckedFunction, Kind, Stop, Task};
 use comet_syntax::tree::{Block, Function, Parameter, ResultKind, Statement};
@@ -18,6 +17,7 @@ use type_declarations::rule;
 use type_rules::Context;
 use type_rules::classes::{parameter_is_ls, parameter_kind};
 use type_scopes::{Checker, Effects, Frame, Kinds, Scope, Signature, Slots};
+use type_statements::check_block;
 
 /// At the top of a program.
 pub(crate) fn top() -> Scope

@@ -6,8 +6,6 @@
 #![tactic(auto)]
 
 mod functions;
-mod heads;
 mod program;
-mod statements;
 
 pub use program::{CheckStop, check};

@@ -7,12 +7,12 @@ ghost use Rattle.comet_types.specs.Program as program;
 ghost use Rattle.comet_types.specs.Program.{Answers, judged};
 
 use crate::functions::{check_function, top};
-use crate::statements::check_statement;
 use cbl_base::Place;
 use checked_tree::{Cause, Checked, Stop};
 use comet_syntax::tree::{Program, TopPart};
 use std::alloc::Global;
 use type_scopes::Checker;
+use type_statements::check_statement;
 
 /// Why a program has no checked tree: it is refused at a place, with a code from 1 to 12, or for want of memory.
 #[derive(Clone, Copy, PartialEq, Eq, Debug)]

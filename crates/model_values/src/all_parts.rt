@@ -14,9 +14,9 @@ ghost use Rattle.term_model.specs.declared.model.Posted.{Posted};
 
 use crate::evaluation::Setting;
 use crate::failure::Failure;
-use crate::users::UserValues;
 use crate::wholes::{PartsHeld, Sum, Whole, add_posted, no_parts, sum_of};
 use cbl_base::NoMemory;
+use operation_values::UserValues;
 use std::alloc::Global;
 use std::mem;
 use term_model::{Posted, Side, Total, posting_of, totals_by};

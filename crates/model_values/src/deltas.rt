@@ -15,9 +15,9 @@ use crate::asked::AskStop;
 use crate::evaluation::Setting;
 use crate::least_failure::least_failure_below;
 use crate::settling::{Tables, outcomes_of, tables_of};
-use crate::users::UserValues;
 use crate::wholes::{Sum, Whole, place_of, sum_in};
 use cbl_base::{NoMemory, Place, RunFault, sub};
+use operation_values::UserValues;
 use std::alloc::Global;
 use term_model::{Model, definitions_of};
 

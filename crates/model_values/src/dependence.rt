@@ -7,8 +7,8 @@ ghost use Rattle.model_values.specs.Settling.{AreTables};
 ghost use Rattle.term_model.specs.Wellformed.{IsWellFormed};
 
 use crate::settling::Tables;
-use crate::users::UserValues;
 use cbl_base::NoMemory;
+use operation_values::UserValues;
 use term_model::order_of;
 
 /// Whether a variable has a mark.

@@ -10,9 +10,8 @@ ghost use Rattle.term_model.specs.Users.{user_rules};
 ghost use Rattle.term_model.specs.declared.term.Term.{Term};
 
 use crate::failure::Failure;
-use crate::operation::value_of;
-use crate::users::UserValues;
 use cbl_base::{Input, IntSet, NoMemory};
+use operation_values::{UserValues, value_of};
 use std::alloc::Global;
 use term_model::{Model, Term};
 

@@ -12,9 +12,9 @@ use crate::evaluation::{Gathered, Outcome, Setting, copied_outcome, gather};
 use crate::failure::Failure;
 use crate::least_failure::least_failure;
 use crate::settling::{outcomes_of, tables_of};
-use crate::users::{NoUsers, UserValues};
 use crate::values::{ModelStop, Values};
 use cbl_base::{Input, NoMemory};
+use operation_values::{NoUsers, UserValues};
 use std::alloc::Global;
 use term_model::{Model, Side};
 

@@ -22,9 +22,9 @@ use crate::evaluation::{Failing, Setting, evaluate};
 use crate::failure::Failure;
 use crate::reach::{reached, roots_of};
 use crate::settling::Tables;
-use crate::users::UserValues;
 use crate::wholes::{Whole, member_in};
 use cbl_base::NoMemory;
+use operation_values::UserValues;
 use term_model::{Definition, Model, Posted, Term, same_term, term_posted};
 
 /// Puts the subterms that fail in what was posted behind those in the list.

@@ -5,8 +5,7 @@
 //! (what a term, a variable, a system and an objective come to, on which subterms a system or an objective
 //! stands, and which of several failing subterms counts), and that `fresh` and `fresh_with` give exactly the
 //! values that these say, or the fault of the least numbered failing subterm with its place, `delta` what a move
-//! changes, and `variable_violations` how much of a system's violations is a variable's; and that `value_of` and
-//! `violation_at` give one operation's value and violation at a place exactly as its rule says.
+//! changes, and `variable_violations` how much of a system's violations is a variable's.
 #![tactic(auto)]
 
 mod all_parts;
@@ -18,15 +17,10 @@ mod failure;
 mod fresh_values;
 mod laws;
 mod least_failure;
-mod operation;
-mod places;
 mod reach;
 mod settling;
 mod shares;
 mod system_shares;
-#[cfg(test)]
-mod tests;
-mod users;
 mod values;
 mod wholes;
 
@@ -35,9 +29,7 @@ pub use deltas::{Move, delta};
 pub use failure::Failure;
 pub use fresh_values::{fresh, fresh_with};
 pub use laws::{closed_model_law, defined_variable_law};
-pub use operation::value_of;
-pub use places::violation_at;
+pub use operation_values::{NoUsers, UserValues};
 pub use system_shares::variable_violations;
-pub use users::{NoUsers, UserValues};
 pub use values::{ModelStop, Values};
 pub use wholes::Whole;

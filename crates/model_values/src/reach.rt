@@ -8,9 +8,9 @@ ghost use Rattle.term_model.specs.Definitions.{IsAcyclic};
 ghost use Rattle.term_model.specs.Wellformed.{IsWellFormed};
 
 use crate::settling::Tables;
-use crate::users::UserValues;
 use crate::wholes::{Whole, member_in};
 use cbl_base::NoMemory;
+use operation_values::UserValues;
 use term_model::{Model, Posted, push_variables};
 
 /// Marks a variable that has no mark yet, and puts it on the stack.

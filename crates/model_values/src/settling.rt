@@ -13,8 +13,8 @@ ghost use Rattle.model_values.specs.VarOutcomes.{outcome_of_var};
 ghost use Rattle.term_model.specs.Wellformed.{IsWellFormed, HasDefinedSets};
 
 use crate::evaluation::{Outcome, Setting, term_outcome};
-use crate::users::UserValues;
 use cbl_base::{Input, NoMemory};
+use operation_values::UserValues;
 use std::alloc::Global;
 use term_model::{Definition, Model, definitions_of, dependencies_of, order_of};
 

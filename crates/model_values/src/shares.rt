@@ -12,12 +12,10 @@ ghost use Rattle.model_values.specs.VariableViolations.{combination_of, gather_v
 
 use crate::dependence::is_marked;
 use crate::evaluation::{Outcome, Setting, copied_set, gather, outcome_at};
-use crate::operation::{number_of, value_of};
-use crate::places::violation_at;
-use crate::users::UserValues;
 use cbl_base::{Input, NoMemory, RunFault};
 use cbl_operations::{Op, greatest_value};
 use cbl_violations::all_of_violations;
+use operation_values::{UserValues, number_of, value_of, violation_at};
 use std::alloc::Global;
 use term_model::Term;
 

@@ -15,10 +15,10 @@ use crate::dependence::marks_of;
 use crate::evaluation::Setting;
 use crate::settling::{outcomes_of, tables_of};
 use crate::shares::{gather_violation, term_share};
-use crate::users::UserValues;
 use crate::wholes::{Sum, Whole, member_in, place_of};
 use cbl_base::{NoMemory, RunFault};
 use cbl_violations::weighted_total_value;
+use operation_values::UserValues;
 use std::alloc::Global;
 use term_model::{Model, Posted};
 

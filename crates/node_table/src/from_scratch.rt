@@ -9,8 +9,8 @@ use crate::subject::Subject;
 use cbl_base::{Input, NoMemory, RunFault};
 use cbl_operations::Op;
 use cbl_violations::{repeat_value, weighted_total_value};
-use model_values::{NoUsers, value_of, violation_at};
 use node_states::takes;
+use operation_values::{NoUsers, value_of, violation_at};
 use std::alloc::Global;
 
 /// Where there are no such inputs. No node has this fault.

@@ -5,21 +5,14 @@
 //! many there are, and ends with the status 1 where one differs or where the table isn't in form.
 #![tactic(auto)]
 
-mod declarations;
-mod expressions;
 mod notation;
-mod part;
-mod programs;
 mod reading;
-mod statements;
-mod words;
-mod writer;
 
 use crate::notation::bytes_of;
 use crate::reading::answer_of;
-use crate::writer::Places;
 use std::process::ExitCode;
 use table_file::{Stop, status_of, table_of};
+use tree_writer::Places;
 
 /// What the answers of a table are compared with.
 #[derive(Clone, Copy, PartialEq, Eq, Debug)]

@@ -1,13 +1,12 @@
 //! What comes of reading a text.
 
-use crate::programs::write_program;
-use crate::writer::{Places, Writer};
 use cbl_base::{NoMemory, Place};
 use comet_parse::{ParseStop, parse};
 use comet_syntax::tree::Program;
 use comet_syntax::{FormCause, LexStop, MOST_BYTES, Token, lex, place_behind};
 use std::alloc::Global;
 use std::cmp::min;
+use tree_writer::{Places, Writer, write_program};
 
 /// Why a text has no tree.
 #[derive(Drop)]

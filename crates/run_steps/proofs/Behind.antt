@@ -1,5 +1,5 @@
 -- What follows a part of a program.
-use Rattle.std.proofs.Common.{◌≡◌, refl, sym, subst, ap, Result, Ok, Err}
+use Rattle.std.proofs.Common.{◌≡◌, sym, subst, ap, Result, Ok, Err}
 use Rattle.comet_meaning.specs.State.{State}
 use Rattle.comet_meaning.specs.Outcome.{Outcome, Went, Act, then_do, give}
 use Rattle.comet_meaning.specs.Onward.{IsFront, left_by, GoesOn}

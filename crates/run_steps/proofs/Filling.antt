@@ -5,8 +5,7 @@ use Rattle.std.specs.Prelude.{int_lt, nat_abs, slice_get, option_map}
 use Rattle.std.proofs.lemmas.List.{at_drop_more, at_drop_all, take_rest}
 use Rattle.std.proofs.lemmas.Nat.{mul-le}
 use Rattle.checked_tree.specs.declared.expressions.Slot.{Slot}
-use Rattle.cbl_base.specs.declared.place.Place.{Place}
-use Rattle.comet_meaning.specs.Values.{Value, Range, Bounds, size_of}
+use Rattle.comet_meaning.specs.Values.{size_of}
 use Rattle.comet_meaning.specs.Limits.{most_cells}
 use Rattle.comet_meaning.specs.State.{State}
 use Rattle.comet_meaning.specs.Outcome.{Outcome, Went, Act, then_do, give, each_from, each_in, always}

@@ -27,10 +27,12 @@ use Rattle.comet_meaning.specs.Levels.{Code, Level}
 use Rattle.comet_meaning.specs.Expressions.{value_of_expression, value_of_form}
 use Rattle.comet_meaning.specs.Parts.{value, number, truth, read, read_place}
 use Rattle.comet_meaning.specs.Program.{level}
+use Rattle.comet_meaning.specs.Writes.{name_target, target_of_form, target_of_expression}
+use Rattle.run_state.specs.declared.targets.Target.{Target}
 use Rattle.run_values.specs.declared.values.Value.{Value as declared}
 use Rattle.run_values.specs.Views.{value_seen}
 use Rattle.run_state.specs.Plain.{IsPlain, IsHeld, IsHeldNumber}
-use Rattle.run_steps.specs.Plainly.{GivesNumber, GivesTruth, GivesValue, GivesWhole, IsArithmetic, Results}
+use Rattle.run_steps.specs.Plainly.{GivesNumber, GivesTarget, GivesValue, GivesWhole, IsArithmetic, Results}
 use Rattle.run_steps.specs.Views.{links_seen, part}
 use Rattle.run_steps.proofs.Forms.{link_is, link_goes_on}
 use Rattle.run_steps.proofs.Shapes.{form_chain, form_name}
@@ -144,3 +146,13 @@ compared c room e o a b x y s h is u v =
 pub whole_plain : (c : Code) (room : ℕ) (e : Shape) (s : State) (found : Option ℤ) → GivesNumber found s (value (level c room) e s) → GivesWhole found s (number (level c room) e s)
 whole_plain c room e s None h = tt
 whole_plain c room e s (Some z) h = number_plain c room e s z h
+
+-- what a name stands for where it is written
+target_of_name : (c : Code) (room : ℕ) (e : Typed) (x : Shape) (s : State) → (room ≡ 0 → ⊥) → shape_of e.form ≡ x → (level c room).target (part e) s ≡ target_of_form (level c (room - 1)) e.place e.kind x s
+unfolding level target_of_expression
+target_of_name c zero e x s h is = absurd (h refl)
+target_of_name c (suc d) e x s h is = rw sub-one (ap (λ (y : Shape). target_of_form (level c d) e.place e.kind y s) is)
+
+pub named_target : (c : Code) (room : ℕ) (e : Typed) (slot : Slot) (s : State) (t : Option Target) → (room ≡ 0 → ⊥) → e.form ≡ forms.Name slot → GivesTarget t s (name_target e.kind slot s) → GivesTarget t s ((level c room).target (part e) s)
+unfolding target_of_form
+named_target c room e slot s t h is given = subst (GivesTarget t s) (sym (target_of_name c room e (shapes.name slot) s h (ap shape_of is ∙ form_name slot))) given

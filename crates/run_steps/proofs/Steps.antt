@@ -1,5 +1,5 @@
 -- One layer of what is executed.
-use Rattle.std.proofs.Common.{Bor, option_map, ◌≡◌, refl, sym, subst, ap, ◌∙◌, ℕ, zero, suc, ◌+◌, ◌-◌, ◌<◌, ◌≤◌, List, ◌++◌, length, get_or, Option, Some, None, Result, Ok, Err, Bool, true, false, if◌then◌else◌, sub-one, arith}
+use Rattle.std.proofs.Common.{Bor, option_map, ◌≡◌, refl, sym, subst, ap, ◌∙◌, ℕ, zero, suc, ◌-◌, ◌<◌, List, ◌++◌, length, get_or, Option, Some, None, Result, Ok, Err, if◌then◌else◌, sub-one, arith}
 use Rattle.cbl_base.specs.declared.place.Place.{Place}
 use Rattle.cbl_base.specs.declared.faults.RunFault.TheVariants.{Depth}
 use Rattle.checked_tree.specs.declared.expressions.Slot.{Slot}
@@ -8,7 +8,7 @@ use Rattle.checked_tree.specs.declared.kind.Kind.TheVariants as kinds
 use Rattle.checked_tree.specs.declared.statements.Task.{Task}
 use Rattle.std.specs.Option.{option_copied}
 use Rattle.checked_tree.specs.declared.expressions.Typed.{Typed}
-use Rattle.checked_tree.specs.Shape.{Shape, Seen, optional, seen, whole}
+use Rattle.checked_tree.specs.Shape.{Seen, optional, seen, whole}
 use Rattle.checked_tree.specs.Actions as deeds
 use Rattle.checked_tree.specs.Actions.{Deed, Shown, Sized}
 use Rattle.checked_tree.specs.Tasks.{Work, work_of, work_of_act}
@@ -23,7 +23,7 @@ use Rattle.comet_meaning.specs.Declarations.{Dimension, scalar_form, copied_form
 use Rattle.comet_meaning.specs.Loops.{end_or, repeated}
 use Rattle.comet_meaning.specs.Statements.{work_place, meaning_of_statement, meaning_of_form, action_form, deed_form, return_form}
 use Rattle.comet_meaning.specs.Onward.{GoesOn, IsFront, left_by}
-use Rattle.comet_meaning.specs.Printing.{print, print_form, shown_form}
+use Rattle.comet_meaning.specs.Printing.{print, shown_form}
 use Rattle.comet_meaning.proofs.GoingOn.{goes_cells, goes_charge, goes_give, goes_new_array, goes_put, goes_then, goes_unless}
 use Rattle.comet_meaning.proofs.GoingParts.{LevelGoesOn}
 use Rattle.comet_meaning.proofs.GoingStatements.{goes_repeated, goes_end_or}

@@ -1,9 +1,9 @@
 -- Where a part ends the run, the whole ends it so.
-use Rattle.std.proofs.Common.{◌≡◌, refl, sym, ap, ◌∙◌, ℕ, List, [], ◌++◌, append_assoc, Result, Ok, Err}
+use Rattle.std.proofs.Common.{◌≡◌, sym, ap, ◌∙◌, ℕ, List, [], ◌++◌, append_assoc, Result, Ok, Err}
 use Rattle.std.proofs.lemmas.List.{append-nil}
-use Rattle.comet_meaning.specs.State.{State, Left, left}
+use Rattle.comet_meaning.specs.State.{State}
 use Rattle.comet_meaning.specs.Outcome.{Outcome, Went, Halted, Act, then_do}
-use Rattle.comet_meaning.specs.Onward.{IsFront, IsOnward, left_by, GoesOn}
+use Rattle.comet_meaning.specs.Onward.{IsFront, left_by, GoesOn}
 use Rattle.run_values.specs.declared.stop.Stop.{Stop}
 use Rattle.run_values.specs.declared.stop.Stop.TheVariants.{Fault, Spent, NoMemory, Output}
 use Rattle.run_values.specs.Did.{Did, Stopped}

@@ -1,5 +1,5 @@
 -- What each statement of the tree is without its pointers.
-use Rattle.std.proofs.Common.{◌≡◌, refl, sym, ap, ◌∙◌, map, Option, option_map}
+use Rattle.std.proofs.Common.{◌≡◌, sym, ap, ◌∙◌, map, Option, option_map}
 use Rattle.std.specs.declared.boxed.Box.{Box}
 use Rattle.std.specs.declared.alloc.Global.{Global}
 use Rattle.std.specs.declared.vec.Vec.{Vec}
@@ -11,7 +11,6 @@ use Rattle.checked_tree.specs.declared.expressions.Generator.{Generator}
 use Rattle.checked_tree.specs.declared.statements.Action.{Action}
 use Rattle.checked_tree.specs.declared.statements.Counter.{Counter}
 use Rattle.checked_tree.specs.declared.statements.EventSlots.{EventSlots}
-use Rattle.checked_tree.specs.declared.statements.Act.{Act}
 use Rattle.checked_tree.specs.declared.statements.Act.TheOpen as layers
 use Rattle.checked_tree.specs.declared.statements.Act.TheVariants as trees
 use Rattle.checked_tree.specs.declared.statements.Act.TheFolds.{fold-roll-Act}

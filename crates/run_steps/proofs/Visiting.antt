@@ -1,5 +1,5 @@
 -- A loop over tuples that ends where the body returns.
-use Rattle.std.proofs.Common.{◌≡◌, refl, sym, subst, ap, ◌∙◌, ℕ, ◌<◌, ◌≤◌, ℤ, List, [], ◌∷◌, map, drop, length, get_or, Option, Some, None, arith}
+use Rattle.std.proofs.Common.{◌≡◌, refl, sym, subst, ap, ◌∙◌, ◌≤◌, ℤ, List, [], ◌∷◌, map, drop, Option, Some, None}
 use Rattle.std.specs.Prelude.{slice_get}
 use Rattle.cbl_base.specs.declared.place.Place.{Place}
 use Rattle.checked_tree.specs.declared.expressions.Generator.{Generator, fold_out-Generator}
@@ -9,19 +9,19 @@ use Rattle.checked_tree.specs.Shape.{Shape, Seen, seen, whole, shape_of, shape_o
 use Rattle.checked_tree.specs.Tasks.{Work}
 use Rattle.comet_meaning.specs.Values.{Value}
 use Rattle.comet_meaning.specs.State.{State, left}
-use Rattle.comet_meaning.specs.Outcome.{Outcome, Went, Act, then_do}
+use Rattle.comet_meaning.specs.Outcome.{Outcome, Went, then_do}
 use Rattle.comet_meaning.specs.Levels.{Level, Flow, Next, Returned}
 use Rattle.comet_meaning.specs.Loops.{is_next, visited, for_all_form}
 use Rattle.comet_meaning.specs.Parts.{value}
 use Rattle.comet_meaning.specs.Generators.{Bound, each_tuple}
 use Rattle.comet_meaning.specs.Odometer.{Pending, opened, pending_of, rest_of, stack_of}
-use Rattle.comet_meaning.specs.Onward.{IsOnward, left_by, GoesOn}
+use Rattle.comet_meaning.specs.Onward.{IsOnward, left_by}
 use Rattle.comet_meaning.proofs.GoingParts.{LevelGoesOn}
 use Rattle.comet_meaning.proofs.GoingStatements.{goes_visited}
 use Rattle.comet_meaning.proofs.Rows.{found_stands}
 use Rattle.comet_meaning.proofs.Tuples.{rest_is_over, tuples_start}
 use Rattle.comet_meaning.proofs.TupleSteps.{goes_rest}
-use Rattle.comet_meaning.proofs.TupleStack.{is_generator, tuples_none, tuples_open}
+use Rattle.comet_meaning.proofs.TupleStack.{is_generator, tuples_open}
 use Rattle.comet_meaning.proofs.Endings.{went_then}
 use Rattle.run_values.specs.declared.stop.Stop.{Stop}
 use Rattle.run_steps.specs.Does.{Ends}

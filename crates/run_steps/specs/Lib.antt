@@ -8,3 +8,4 @@ pub mod Extents
 pub mod Following
 pub mod Operands
 pub mod Plainly
+pub mod Inside

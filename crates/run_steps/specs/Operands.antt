@@ -1,5 +1,5 @@
 -- What forms do once their last operand has its value. From the language.
-use Rattle.std.specs.Prelude.{ℤ, List, Bool, if◌then◌else◌}
+use Rattle.std.specs.Prelude.{ℤ, List, if◌then◌else◌}
 use Rattle.cbl_base.specs.declared.place.Place.{Place}
 use Rattle.comet_syntax.specs.declared.tree.statements.Step.{Step}
 use Rattle.checked_tree.specs.declared.kind.Kind.{Kind}

@@ -1,13 +1,15 @@
 -- The answer of a part that is evaluated without a change of the state: it is the part's value, and the state is as it
 -- was. Where nothing is answered nothing is said. A rule of this project.
-use Rattle.std.specs.Prelude.{◌≡◌, ℤ, Bool, Option, Some, None, Result, Ok}
-use Rattle.cbl_base.specs.declared.faults.RunFault.{RunFault}
+use Rattle.std.specs.Prelude.{◌≡◌, ℤ, Bool, Option, Some, None, Ok}
 use Rattle.comet_syntax.specs.declared.tree.expressions.ChainOperator.{ChainOperator}
 use Rattle.comet_syntax.specs.declared.tree.expressions.ChainOperator.TheVariants as chains
 use Rattle.comet_meaning.specs.Arithmetic.{result_of}
 use Rattle.comet_meaning.specs.Values.{Value, Number}
 use Rattle.comet_meaning.specs.State.{State}
 use Rattle.comet_meaning.specs.Outcome.{Outcome, Went}
+use Rattle.comet_meaning.specs.Levels as levels
+use Rattle.run_state.specs.declared.targets.Target.{Target}
+use Rattle.run_state.specs.Targets.{target_seen}
 use Rattle.run_values.specs.declared.values.Value.{Value as declared}
 use Rattle.run_values.specs.Views.{value_seen}
 
@@ -27,6 +29,11 @@ GivesWhole (Some z) s o = o ≡ Went z s
 abbrev pub GivesTruth : Option Bool → State → Outcome Bool → Type 0
 GivesTruth None s o = Unit {0}
 GivesTruth (Some b) s o = o ≡ Went b s
+
+-- what a part stands for where it is written
+abbrev pub GivesTarget : Option Target → State → Outcome levels.Target → Type 0
+GivesTarget None s o = Unit {0}
+GivesTarget (Some t) s o = o ≡ Went (target_seen t) s
 
 -- a result of an arithmetic operator that fits
 abbrev pub IsArithmetic : ChainOperator → Type 0

@@ -15,7 +15,7 @@ use Rattle.run_steps.specs.declared.code.Flow.{Flow}
 use Rattle.run_steps.specs.declared.code.Flow.TheVariants.{Next, Returned}
 
 abbrev pub code_seen : Code → meant.Code
-code_seen c = record { functions = map function_of c.functions.now; pure = c.pure.now }
+code_seen c = record { functions = map function_of c.lists.value.functions.now; pure = c.lists.value.pure.now }
 
 abbrev pub flow_seen : Flow → meant.Flow
 flow_seen Next = meant.Next

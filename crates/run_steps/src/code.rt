@@ -1,5 +1,5 @@
 //! What the parts of a program are executed with, and how they end.
-ghost use Rattle.std.specs.Prelude.{◌≡◌, slice_get, slice_index_or, false};
+ghost use Rattle.std.specs.Prelude.{◌≡◌, IfOk, map, slice_get, slice_index_or, false};
 ghost use Rattle.std.specs.Option.{option_copied, option_map};
 ghost use Rattle.checked_tree.specs.Tasks.{function_of};
 ghost use Rattle.comet_meaning.specs.Calls as calls;
@@ -7,16 +7,38 @@ ghost use Rattle.run_steps.specs.Parts.{is_handed_itself};
 ghost use Rattle.run_steps.specs.Views.{code_seen, flow_seen};
 ghost use Rattle.run_values.specs.Views.{value_seen};
 
+use cbl_base::NoMemory;
 use checked_tree::{Function, Kind};
 use run_values::Value;
 use run_values::values::{as_kind, first_value};
 use std::alloc::Global;
 
-/// The functions of a program by their numbers from 0, and for each whether it is pure.
-#[derive(Clone, Copy)]
+/// The functions of a program by their numbers from 0, and for each whether it is pure. They lie behind a box, so that
+/// what holds this is small.
+#[derive(Drop)]
 pub struct Code<'a> {
-    pub functions: &'a [Function],
-    pub pure: &'a [bool],
+    lists: Box<Lists<'a>>,
+}
+
+/// The lists themselves.
+#[derive(Clone, Copy)]
+struct Lists<'a> {
+    functions: &'a [Function],
+    pure: &'a [bool],
+}
+
+impl<'a> Code<'a> {
+    /// These functions, of which these are pure. `Err` only where there is no memory.
+    pub fn new(
+        alloc: Global,
+        functions: &'a [Function],
+        pure: &'a [bool],
+    ) -> Result<Code<'a>, NoMemory>
+        ensures { IfOk result (λ c. code_seen c ≡ record { functions = map function_of functions.now; pure = pure.now }) }
+    {
+        let lists = Box::new(alloc, Lists { functions, pure })?;
+        Ok(Code { lists })
+    }
 }
 
 /// How a statement ends: the next one follows, or the call returns, with a value or without.
@@ -30,14 +52,14 @@ pub enum Flow {
 pub fn function_at<'a>(code: &Code<'a>, function: usize) -> Option<&'a Function>
     ensures { option_map function_of (option_copied result) ≡ slice_get (code_seen code.now).functions function }
 {
-    code.functions.get(function)
+    code.lists.functions.get(function)
 }
 
 /// Whether a function is known to be pure.
 pub fn is_pure(code: &Code<'_>, function: usize) -> bool
-    ensures { result ≡ slice_index_or code.now.pure.now function false }
+    ensures { result ≡ slice_index_or (code_seen code.now).pure function false }
 {
-    match code.pure.get(function) {
+    match code.lists.pure.get(function) {
         Some(pure) => *pure,
         None => false,
     }

@@ -8,6 +8,7 @@
 pub mod cells;
 pub mod code;
 pub mod effects;
+pub mod inside;
 pub mod leaves;
 pub mod operands;
 pub mod plain;

@@ -6,14 +6,16 @@ ghost use Rattle.comet_meaning.specs.Levels as levels;
 ghost use Rattle.comet_meaning.specs.Operators as operators;
 ghost use Rattle.comet_meaning.specs.Parts as parts;
 ghost use Rattle.comet_meaning.specs.Program.{level};
+ghost use Rattle.comet_meaning.specs.State as states;
+ghost use Rattle.comet_meaning.specs.Writes.{name_target};
 ghost use Rattle.run_state.specs.Views.{state_seen};
-ghost use Rattle.run_steps.specs.Plainly.{GivesNumber, GivesTruth, GivesValue, GivesWhole, ResultsIn};
+ghost use Rattle.run_steps.specs.Plainly.{GivesNumber, GivesTarget, GivesTruth, GivesValue, GivesWhole, ResultsIn};
 ghost use Rattle.run_steps.specs.Views.{links_seen, part};
 
 use cbl_base::{add, div, mul, rem, sub};
-use checked_tree::{Form, Link, Typed};
+use checked_tree::{Form, Kind, Link, Slot, Typed};
 use comet_syntax::tree::ChainOperator;
-use run_state::State;
+use run_state::{State, Target};
 use run_values::Value;
 use run_values::operators::compare;
 
@@ -48,6 +50,31 @@ pub fn plain_number(s: &State, room: u32, e: &Typed) -> Option<i64>
     ensures given { (code : levels.Code) (printed : List ℕ) → GivesWhole result (state_seen s.now printed) (parts.number (level code room) (part e.now) (state_seen s.now printed)) }
 {
     number_within(s, room, MOST_CHAINS, e)
+}
+
+/// What a name of a number or a truth value stands for where it is written, where there is room for it: its own cell.
+pub fn plain_target(room: u32, e: &Typed) -> Option<Target>
+    ensures given { (code : levels.Code) (s : states.State) → GivesTarget result s ((level code room).target (part e.now) s) }
+{
+    if room == 0 {
+        return None;
+    }
+    match &e.form {
+        Form::Name(slot) => cell_of(e.kind, *slot),
+        _ => None,
+    }
+}
+
+/// The cell of a name, where its kind is that of a number or a truth value.
+#[tactic(auto, unfolding(comet_meaning::specs::Writes::name_target))]
+fn cell_of(kind: Kind, slot: Slot) -> Option<Target>
+    ensures { (s : states.State) → GivesTarget result s (name_target kind slot s) }
+{
+    match kind {
+        Kind::Int => Some(Target::Name(slot)),
+        Kind::Bool => Some(Target::Name(slot)),
+        _ => None,
+    }
 }
 
 /// The truth value of a relation of plain numbers, where there is room for it.

@@ -27,8 +27,9 @@ use Rattle.type_expressions.specs.Expressions.{Judge, judge, Generating}
 use Rattle.type_declarations.specs.Parts.{ruled}
 use Rattle.type_simples.specs.declared.simples.Standing.{Standing}
 use Rattle.type_simples.specs.Simples.{Acted}
-use Rattle.comet_types.specs.Statements as forms
-use Rattle.comet_types.specs.Statements.{Does, alone}
+use Rattle.type_heads.specs.Heads as heads
+use Rattle.type_statements.specs.Statements as forms
+use Rattle.type_heads.specs.Heads.{Does, alone}
 use Rattle.type_laws.specs.Behaves.{Behaves}
 use Rattle.type_laws.proofs.Allowed.{AllOf, behaves_then, behaves_give, behaves_refuse, behaves_at, behaves_each, behaves_where, behaves_act, act_free, shows_first, shows_second, behaves_with}
 use Rattle.type_laws.proofs.Forms.{Good, GoodGenerating, generators_good, condition_good}
@@ -40,12 +41,12 @@ use Rattle.statement_laws.proofs.Leaves.{simple_good}
 abbrev pub GoodDoes : Does → Type 0
 GoodDoes d = (scope : Scope) → Behaves scope (d scope)
 
-pub deed_good : (place : Place) (d : Scope → Check Deed) → ((scope : Scope) → Behaves scope (d scope)) → GoodDoes (forms.deed_form place d)
-unfolding forms.deed_form
+pub deed_good : (place : Place) (d : Scope → Check Deed) → ((scope : Scope) → Behaves scope (d scope)) → GoodDoes (heads.deed_form place d)
+unfolding heads.deed_form
 deed_good place d h scope = behaves_then scope _ _ (h scope) (λ x. behaves_give scope _)
 
-pub acted_good : (a : Standing → Scope → Check Acted) → ((scope : Scope) → Behaves scope (a alone scope)) → GoodDoes (forms.acted_form a)
-unfolding forms.acted_form
+pub acted_good : (a : Standing → Scope → Check Acted) → ((scope : Scope) → Behaves scope (a alone scope)) → GoodDoes (heads.acted_form a)
+unfolding heads.acted_form
 acted_good a h scope = behaves_then scope _ _ (h scope) (λ x. behaves_give scope _)
 
 pub own_good : (d : Does) → GoodDoes d → GoodDoes (forms.within_own d)
@@ -85,19 +86,19 @@ unfolding forms.while_form
 while_good place t b g h scope =
     behaves_then scope _ _ (g scope) (λ x. behaves_then scope _ _ (ruled_good scope _ _) (λ _. behaves_then scope _ _ (own_good b h scope) (λ y. behaves_give scope _)))
 
-counter_good : (x : Option ForStart) (scope : Scope) → Behaves scope (forms.counter_form x scope)
-unfolding forms.counter_form
+counter_good : (x : Option ForStart) (scope : Scope) → Behaves scope (heads.counter_form x scope)
+unfolding heads.counter_form
 counter_good None scope = behaves_give scope None
 counter_good (Some x) scope =
     behaves_then scope _ _ (expression_good x.value scope) (λ e s y t h. behaves_then scope _ _ (declare_good scope x.name.text kind.Int 0 []) (λ _. behaves_give {A = Option Counted} scope (Some (record { slot = slot_of scope (length s.names); start = e }))) s y t h)
 
-step_good : (place : Place) (holds : Bool) (x : Option Simple) (scope : Scope) → Behaves scope (forms.step_part place holds x scope)
-unfolding forms.step_part
+step_good : (place : Place) (holds : Bool) (x : Option Simple) (scope : Scope) → Behaves scope (heads.step_part place holds x scope)
+unfolding heads.step_part
 step_good place holds None scope = behaves_give scope None
 step_good place holds (Some x) scope = behaves_then scope _ _ (simple_good x (record { at = Some place; holds = holds }) scope) (λ a. behaves_give scope _)
 
-head_good : (place : Place) (h : ForHead) (scope : Scope) → Behaves scope (forms.head_form place h scope)
-unfolding forms.head_form
+head_good : (place : Place) (h : ForHead) (scope : Scope) → Behaves scope (heads.head_form place h scope)
+unfolding heads.head_form
 head_good place h scope =
     behaves_then scope _ _ (counter_good h.start scope) (λ c. behaves_then scope _ _ (start_good scope (option_map judge h.test) (judged_start h.test)) (λ t.
     behaves_then scope _ _ (step_good place _ h.step scope) (λ x. behaves_then scope _ _ (ruled_good scope _ _) (λ _. behaves_give scope _))))
@@ -112,8 +113,8 @@ for_good place h b g = own_good (forms.for_within place h b) (for_within_good pl
 
 -- generators
 
-chosen_good : (g : Generating) → GoodGenerating g → (at scope : Scope) → at.parall ≡ scope.parall → (is_pure scope.context ≡ true → is_pure at.context ≡ true) → Behaves scope (forms.chosen_form g at scope)
-unfolding forms.chosen_form
+chosen_good : (g : Generating) → GoodGenerating g → (at scope : Scope) → at.parall ≡ scope.parall → (is_pure scope.context ≡ true → is_pure at.context ≡ true) → Behaves scope (heads.chosen_form g at scope)
+unfolding heads.chosen_form
 chosen_good g h at scope same pure =
     behaves_then scope _ _ (generators_good scope g.generators h.generators) (λ gs.
     behaves_then scope _ _ (behaves_where scope at _ same pure (condition_good at g.condition h.condition)) (λ c. behaves_give scope _))
@@ -149,16 +150,16 @@ select_by_good place x g j b h f k = own_good (forms.select_by_within place x g 
 
 -- statements on a name
 
-written_found_good : (place : Place) (k : Kind) (fit : Bool) (scope : Scope) (f : Option Found) → Behaves scope (forms.written_found place k fit scope f)
+written_found_good : (place : Place) (k : Kind) (fit : Bool) (scope : Scope) (f : Option Found) → Behaves scope (heads.written_found place k fit scope f)
 written_found_good place k fit scope None = behaves_refuse scope place _
 written_found_good place k fit scope (Some f) = behaves_then scope _ _ (ruled_good scope _ _) (λ _. behaves_then scope _ _ (behaves_act scope place _ _) (λ _. behaves_give scope _))
 
-written_good : (place : Place) (k : Kind) (fit : Bool) (n : Name) (scope : Scope) → Behaves scope (forms.written_name place k fit n scope)
-unfolding forms.written_name
-written_good place k fit n scope = behaves_at scope (λ s. forms.written_found place k fit scope (look n.text s.names)) (λ s. written_found_good place k fit scope (look n.text s.names))
+written_good : (place : Place) (k : Kind) (fit : Bool) (n : Name) (scope : Scope) → Behaves scope (heads.written_name place k fit n scope)
+unfolding heads.written_name
+written_good place k fit n scope = behaves_at scope (λ s. heads.written_found place k fit scope (look n.text s.names)) (λ s. written_found_good place k fit scope (look n.text s.names))
 
-apart_good : (scope : Scope) (d : Does) → GoodDoes d → Behaves scope (forms.within_own d (forms.apart scope))
-apart_good scope d h = behaves_where scope (forms.apart scope) _ refl (λ p. p) (own_good d h (forms.apart scope))
+apart_good : (scope : Scope) (d : Does) → GoodDoes d → Behaves scope (forms.within_own d (heads.apart scope))
+apart_good scope d h = behaves_where scope (heads.apart scope) _ refl (λ p. p) (own_good d h (heads.apart scope))
 
 pub neighbor_good : (place : Place) (j : Judge) (n : Name) (b : Does) → Good j → GoodDoes b → GoodDoes (forms.neighbor_form place j n b)
 unfolding forms.neighbor_form
@@ -169,14 +170,14 @@ pub with_good : (place : Place) (m : WithMode) (n : Name) (b : Does) → GoodDoe
 unfolding forms.with_form
 with_good place m n b h scope = behaves_then scope _ _ (written_good place kind.Solver true n scope) (λ slot. behaves_then scope _ _ (apart_good scope b h) (λ y. behaves_give scope _))
 
-events_at : (x : Events) (scope : Scope) → Behaves scope (forms.events_form (Some x) scope)
-unfolding forms.events_form
+events_at : (x : Events) (scope : Scope) → Behaves scope (heads.events_form (Some x) scope)
+unfolding heads.events_form
 events_at x scope s y t h =
     behaves_then scope _ _ (declare_good scope x.old.text kind.Int 0 []) (λ _. behaves_then scope _ _ (declare_good scope x.new.text kind.Int 0 [])
     (λ _. behaves_give {A = Option EventSlots} scope (Some (record { old = slot_of scope (length s.names); new = slot_of scope (suc (length s.names)) })))) s y t h
 
-events_good : (ns : Option Events) (scope : Scope) → Behaves scope (forms.events_form ns scope)
-unfolding forms.events_form
+events_good : (ns : Option Events) (scope : Scope) → Behaves scope (heads.events_form ns scope)
+unfolding heads.events_form
 events_good None scope = behaves_give scope None
 events_good (Some x) scope = events_at x scope
 
@@ -184,8 +185,8 @@ watching_good : (place : Place) (v : Seen) (ns : Option Events) (b : Does) → G
 unfolding forms.watching_within
 watching_good place v ns b h scope = behaves_then scope _ _ (events_good ns scope) (λ slots. behaves_then scope _ _ (own_good b h scope) (λ y. behaves_give scope _))
 
-watched_good : (place : Place) (w : Watched) (scope : Scope) → Behaves scope (forms.watched_form place w scope)
-unfolding forms.watched_form
+watched_good : (place : Place) (w : Watched) (scope : Scope) → Behaves scope (heads.watched_form place w scope)
+unfolding heads.watched_form
 watched_good place w scope =
     behaves_then scope _ _ (expression_good w.variable scope) (λ v. behaves_then scope _ _ (ruled_good scope _ _) (λ _. behaves_then scope _ _ (behaves_act scope place _ _) (λ _. behaves_give scope v)))
 
@@ -213,21 +214,21 @@ and_true : (a : Bool) → a && true ≡ false → a ≡ false
 and_true true h = h
 and_true false h = refl
 
-parall_free : (scope : Scope) (place : Place) (s : State) (x : Unit {0}) (t : State) → act_on place scope forms.parall_doing [] s ≡ Went x t → IsFree scope
-parall_free scope place s x t h = let f = act_free scope place forms.parall_doing [] s t x h in record { impure = f.impure; alone = and_true (is_there scope.parall) f.forbidden }
+parall_free : (scope : Scope) (place : Place) (s : State) (x : Unit {0}) (t : State) → act_on place scope heads.parall_doing [] s ≡ Went x t → IsFree scope
+parall_free scope place s x t h = let f = act_free scope place heads.parall_doing [] s t x h in record { impure = f.impure; alone = and_true (is_there scope.parall) f.forbidden }
 
-shared_good : (place : Place) (j : Judge) → Good j → (scope : Scope) → Behaves scope (forms.shared_form place j scope)
-unfolding forms.shared_form
+shared_good : (place : Place) (j : Judge) → Good j → (scope : Scope) → Behaves scope (heads.shared_form place j scope)
+unfolding heads.shared_form
 shared_good place j g scope =
-    behaves_then scope _ _ (g scope) (λ d. behaves_then scope _ _ (ruled_good scope _ _) (λ _. behaves_then scope _ _ (behaves_act scope place forms.parall_doing []) (λ _. behaves_give scope d)))
+    behaves_then scope _ _ (g scope) (λ d. behaves_then scope _ _ (ruled_good scope _ _) (λ _. behaves_then scope _ _ (behaves_act scope place heads.parall_doing []) (λ _. behaves_give scope d)))
 
-shared_free : (place : Place) (j : Judge) (scope : Scope) (s : State) (d : Seen) (t : State) → forms.shared_form place j scope s ≡ Went d t → IsFree scope
-unfolding forms.shared_form
+shared_free : (place : Place) (j : Judge) (scope : Scope) (s : State) (d : Seen) (t : State) → heads.shared_form place j scope s ≡ Went d t → IsFree scope
+unfolding heads.shared_form
 shared_free place j scope =
-    shows_second {A = Seen} (IsFree scope) (j scope) _ (λ x. shows_second {A = Unit {0}} (IsFree scope) (ruled place (forms.domain_fault x.kind)) _
-    (λ y. shows_first {A = Unit {0}} (IsFree scope) (act_on place scope forms.parall_doing []) (λ _. give x) (λ s z t h. parall_free scope place s z t h)))
+    shows_second {A = Seen} (IsFree scope) (j scope) _ (λ x. shows_second {A = Unit {0}} (IsFree scope) (ruled place (heads.domain_fault x.kind)) _
+    (λ y. shows_first {A = Unit {0}} (IsFree scope) (act_on place scope heads.parall_doing []) (λ _. give x) (λ s z t h. parall_free scope place s z t h)))
 
 pub parall_good : (place : Place) (n : Name) (j : Judge) (b : Does) → Good j → GoodDoes b → GoodDoes (forms.parall_form place n j b)
 unfolding forms.parall_form
 parall_good place n j b g h scope =
-    behaves_with (IsFree scope) scope (forms.shared_form place j scope) _ (shared_good place j g scope) (shared_free place j scope) (λ f d. nothing_asked scope _ f)
+    behaves_with (IsFree scope) scope (heads.shared_form place j scope) _ (shared_good place j g scope) (shared_free place j scope) (λ f d. nothing_asked scope _ f)

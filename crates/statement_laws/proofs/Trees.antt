@@ -9,7 +9,8 @@ use Rattle.comet_syntax.specs.declared.tree.statements.Statement.TheOpen as laye
 use Rattle.comet_syntax.specs.declared.tree.statements.Statement.TheFolds.{fold-roll-Statement, map-Statement, map-Block, ind-Statement}
 use Rattle.comet_syntax.specs.declared.tree.statements.Block.{Block, roll-Block, fold-roll-Block}
 use Rattle.type_expressions.specs.Expressions.{judge}
-use Rattle.comet_types.specs.Statements.{Does, alone, statement_layer, block_layer, statement_of, block_of}
+use Rattle.type_heads.specs.Heads.{Does, alone}
+use Rattle.type_statements.specs.Statements.{statement_layer, block_layer, statement_of, block_of}
 use Rattle.type_laws.proofs.Allowed.{AllOf, behaves_give}
 use Rattle.type_laws.proofs.Trees.{expression_good, generating_good}
 use Rattle.statement_laws.proofs.Parts.{GoodStart}

@@ -5,7 +5,7 @@ ghost use Rattle.checked_tree.specs.Tasks.{Work};
 ghost use Rattle.type_scopes.specs.declared.scope.Scope.{Scope};
 ghost use Rattle.type_scopes.specs.State.{State, Went};
 ghost use Rattle.type_laws.specs.Behaves.{IsInside};
-ghost use Rattle.comet_types.specs.Statements.{statement_of};
+ghost use Rattle.type_statements.specs.Statements.{statement_of};
 
 /// An accepted statement in a `parall` writes no name from outside it, also not through calls, and does nothing that
 /// is forbidden there: the effects of the function around it stay as they were.

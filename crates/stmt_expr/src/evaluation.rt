@@ -33,8 +33,8 @@ pub fn eval(
     e: &Typed,
     fuel: &mut Fuel,
 ) -> Result<Value, EvalStop>
-    requires known { code.now.pure.now ≡ pure_functions (code_seen code.now).functions }
-    requires pure { is_pure code.now.pure.now (part e.now) ≡ true }
+    requires known { (code_seen code.now).pure ≡ pure_functions (code_seen code.now).functions }
+    requires pure { is_pure (code_seen code.now).pure (part e.now) ≡ true }
     ensures { (printed : List ℕ) → Evaluates ((level (code_seen code.now) room).expr (part e.now)) (state_seen s.now printed) fuel.old.left result fuel.new.left }
 {
     let mut copy = match s.without_data(fuel.left) {

@@ -87,11 +87,10 @@ fn state(alloc: Global) -> Result<State, Stop> {
 
 /// The number that a pure expression without calls gives, and the fuel that is left.
 fn given(s: &State, room: u32, e: &Typed, fuel: u64) -> (Result<i64, EvalStop>, u64) {
-    let code = Code {
-        functions: &[],
-        pure: &[],
+    let Ok(code) = Code::new(s.alloc, &[], &[]) else {
+        return (Err(EvalStop::NoMemory), 0);
     };
-    if !is_pure(code.pure, e) {
+    if !is_pure(&[], e) {
         return (Err(EvalStop::NoMemory), 0);
     }
     let mut left = Fuel { left: fuel };

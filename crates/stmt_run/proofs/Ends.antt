@@ -39,13 +39,13 @@ run_ends p r s t did = ended r t (meaning_of_program p s) did
 abbrev coded : List Function → List Bool → levels.Code
 coded fs ps = record { functions = map function_of fs; pure = ps }
 
-pub executed : (program : Checked) (fs gs : List Function) (ts : List Task) (ps : List Bool) (r : Result Flow Stop) (s t : State) →
-    fs ≡ program.functions.items → gs ≡ program.functions.items → ts ≡ program.tasks.items → ps ≡ pure_functions (map function_of gs) →
-    Does flow_seen r t (tasks_form (level (coded fs ps) most_depth) (map work_of ts) s) → Does flow_seen r t (meaning_of_program (program_of program) s)
+pub executed : (program : Checked) (code : levels.Code) (fs gs : List Function) (ts : List Task) (ps : List Bool) (r : Result Flow Stop) (s t : State) →
+    code ≡ coded fs ps → fs ≡ program.functions.items → gs ≡ program.functions.items → ts ≡ program.tasks.items → ps ≡ pure_functions (map function_of gs) →
+    Does flow_seen r t (tasks_form (level code most_depth) (map work_of ts) s) → Does flow_seen r t (meaning_of_program (program_of program) s)
 unfolding meaning_of_program
-executed program fs gs ts ps r s t first second third known did =
-    let code_is : coded fs ps ≡ code_of (map function_of program.functions.items) =
-    ap (λ xs. coded xs ps) first ∙ ap (λ q. coded program.functions.items q) (known ∙ ap (λ xs. pure_functions (map function_of xs)) second) in
+executed program code fs gs ts ps r s t is first second third known did =
+    let code_is : code ≡ code_of (map function_of program.functions.items) =
+    is ∙ ap (λ xs. coded xs ps) first ∙ ap (λ q. coded program.functions.items q) (known ∙ ap (λ xs. pure_functions (map function_of xs)) second) in
     subst (λ o. Does flow_seen r t (o s))
     (ap (λ c. tasks_form (level c most_depth) (map work_of ts)) code_is ∙ ap (λ xs. tasks_form (level (code_of (map function_of program.functions.items)) most_depth) (map work_of xs)) third)
     did

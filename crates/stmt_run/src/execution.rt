@@ -67,9 +67,6 @@ fn execute(alloc: Global, program: &Checked, s: &mut State, out: &mut Bytes) -> 
     ensures { Does flow_seen result (state_seen s.new out.new.bytes.items) (programs.meaning_of_program (program_of program.now) (state_seen s.old out.old.bytes.items)) }
 {
     let pure = pure_functions(alloc, program.functions.as_slice())?;
-    let code = Code {
-        functions: program.functions.as_slice(),
-        pure: pure.as_slice(),
-    };
+    let code = Code::new(alloc, program.functions.as_slice(), pure.as_slice())?;
     run_tasks(s, out, &code, program.tasks.as_slice())
 }

@@ -6,14 +6,14 @@ use cbl_operations::Op;
 
 /// What an operation keeps beside its inputs.
 #[derive(Clone, Copy)]
-struct Fields<'a> {
-    numbers: [i64; 4],
-    first: &'a [i64],
-    second: &'a [i64],
+pub struct Fields<'a> {
+    pub numbers: [i64; 4],
+    pub first: &'a [i64],
+    pub second: &'a [i64],
 }
 
-/// The name of an operation, as a number.
-fn name_of(op: &Op) -> u8
+/// The name of an operation, as a number: names differ where the operations do.
+pub fn name_of(op: &Op) -> u8
     ensures { result ≡ name_of op.now }
 {
     match op {
@@ -92,8 +92,8 @@ fn kept<'a>(numbers: [i64; 4], first: &'a [i64], second: &'a [i64]) -> Fields<'a
     }
 }
 
-/// The numbers and lists that an operation keeps.
-fn fields_of(op: &Op) -> Fields<'_>
+/// The numbers and lists that an operation keeps beside its inputs. With its name they tell which it is.
+pub fn fields_of(op: &Op) -> Fields<'_>
     ensures numbers { result.numbers ≡ numbers_of op.now }
     ensures first { result.first.now ≡ first_of op.now }
     ensures second { result.second.now ≡ second_of op.now }

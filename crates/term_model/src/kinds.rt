@@ -182,7 +182,7 @@ fn node_kind(op: &Op, kinds: &[VarKind]) -> Option<VarKind>
 }
 
 /// The kind of a variable, where there is one.
-pub(crate) fn kind_at(vars: &[VarDecl], index: u32) -> Option<VarKind>
+pub fn kind_at(vars: &[VarDecl], index: u32) -> Option<VarKind>
     ensures { option_map kind_of_var result ≡ kinds_in vars.now index }
 {
     match vars.get(index as usize) {
@@ -193,7 +193,7 @@ pub(crate) fn kind_at(vars: &[VarDecl], index: u32) -> Option<VarKind>
 
 /// The kind of a term, if it is well kinded and no deeper than the limit.
 #[tactic(auto, using(crate::proofs::KindSteps::none_so_far, crate::proofs::KindSteps::one_so_far, crate::proofs::KindSteps::node_so_far, crate::proofs::KindSteps::var_within, crate::proofs::KindSteps::node_too_deep, crate::proofs::KindSteps::arg_without))]
-pub(crate) fn kind_within(
+pub fn kind_within(
     alloc: Global,
     vars: &[VarDecl],
     limit: usize,

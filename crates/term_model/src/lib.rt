@@ -23,11 +23,12 @@ mod usable;
 
 pub use cbl_operations::Op;
 pub use definitions::{definitions_of, dependencies_of, push_variables};
-pub use equal_operations::same_operation;
+pub use equal_operations::{Fields, fields_of, name_of, same_operation};
 pub use equal_terms::same_term;
-pub use kinds::term_kind;
+pub use kinds::{kind_at, kind_within, term_kind};
 pub use laws::{acyclic_law, distinct_subterms_law, equal_terms_law};
 pub use model::{Definition, Member, Model, Posted, Total, VarDecl, VarKind};
+pub use naming::push_users;
 pub use order::order_of;
 pub use posting::{Posting, Side, posting_of, term_posted, totals_by};
 pub use term::Term;

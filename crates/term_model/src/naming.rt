@@ -90,7 +90,7 @@ fn push_user(op: &Op, into: &mut Vec<u32>) -> Result<(), NoMemory>
 }
 
 /// Puts the numbers of the users' constraints in a term, in post-order, behind those in the list.
-fn push_users(term: &Term, into: &mut Vec<u32>) -> Result<(), NoMemory>
+pub fn push_users(term: &Term, into: &mut Vec<u32>) -> Result<(), NoMemory>
     ensures { OnOk result (into.new.items ≡ into.old.items ++ users_of term.now) }
 {
     match term {

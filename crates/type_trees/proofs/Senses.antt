@@ -19,7 +19,8 @@ use Rattle.type_simples.specs.declared.simples.Standing.{Standing}
 use Rattle.type_simples.specs.Simples.{Acted, write_form, swap_form, step_form, alone_form, choice_form}
 use Rattle.checked_tree.specs.Tasks as works
 use Rattle.checked_tree.specs.Tasks.{Whole}
-use Rattle.comet_types.specs.Statements.{Does, deed_form, acted_form, within_own, opened_tasks, while_form, for_all_form, select_form, select_by_form, neighbor_form, with_form, parall_form}
+use Rattle.type_heads.specs.Heads.{Does, deed_form, acted_form}
+use Rattle.type_statements.specs.Statements.{within_own, opened_tasks, while_form, for_all_form, select_form, select_by_form, neighbor_form, with_form, parall_form}
 use Rattle.type_simples.specs.Simples.{return_form}
 use Rattle.parse_unique.specs.Bare.{Bare}
 use Rattle.type_trees.proofs.Works.{if_by, Count, for_by, whenever_by, single_by, function_by, statement_part, function_part, no_effect}

@@ -22,7 +22,8 @@ use Rattle.type_scopes.specs.Functions.{nothing_known}
 use Rattle.type_scopes.specs.State.{Check}
 use Rattle.type_expressions.specs.Expressions.{Judge, judge, judge_generators, is_one}
 use Rattle.type_simples.specs.Simples.{simple_form, return_form}
-use Rattle.comet_types.specs.Statements.{Does, deed_form, acted_form, within_own, opened_tasks, if_form, if_else_form, while_form, for_form, for_within, head_form, counter_form, step_part, for_all_form, select_form, select_by_form, neighbor_form, whenever_form, watched_form, with_form, parall_form, statement_layer, block_layer, statement_of, block_of}
+use Rattle.type_heads.specs.Heads.{Does, deed_form, acted_form, head_form, counter_form, step_part, watched_form}
+use Rattle.type_statements.specs.Statements.{within_own, opened_tasks, if_form, if_else_form, while_form, for_form, for_within, for_all_form, select_form, select_by_form, neighbor_form, whenever_form, with_form, parall_form, statement_layer, block_layer, statement_of, block_of}
 use Rattle.comet_types.specs.Functions.{gives_layer, none_gives, gives_value, first_gives, is_single, function_form, named_form, opened_form, function_within, signature_of}
 use Rattle.comet_types.specs.Program.{part_form, next_part, no_part, program_form, verdict_of, judged}
 use Rattle.parse_unique.specs.Bare as bares

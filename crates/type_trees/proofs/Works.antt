@@ -27,7 +27,8 @@ use Rattle.type_expressions.specs.Expressions.{Judge, is_one}
 use Rattle.type_declarations.specs.Parts.{ruled, wrong_unless, start_form}
 use Rattle.type_simples.specs.declared.simples.Standing.{Standing}
 use Rattle.type_simples.specs.Simples.{Acted, through_doing}
-use Rattle.comet_types.specs.Statements.{Does, within_own, if_form, if_else_form, Headed, counter_fits, test_fits, same_events, is_change, apart, watching_within}
+use Rattle.type_heads.specs.Heads.{Does, Headed, counter_fits, test_fits, same_events, is_change, apart}
+use Rattle.type_statements.specs.Statements.{within_own, if_form, if_else_form, watching_within}
 use Rattle.comet_types.specs.Functions.{top, result_kind, parameters_form, parameter_form, settled_form, body_scope, new_fault, kinds_of}
 
 -- a part that may have an `else`

@@ -23,7 +23,8 @@ use Rattle.type_scopes.specs.State.{give}
 use Rattle.type_expressions.specs.Expressions.{judge, judge_generators}
 use Rattle.type_declarations.specs.Declarations.{declaration_form, declaration_place}
 use Rattle.type_simples.specs.Simples.{simple_form, return_form}
-use Rattle.comet_types.specs.Statements.{Does, statement_layer, block_layer, statement_of, block_of, deed_form, acted_form, within_own, opened_tasks, if_form, if_else_form, while_form, for_form, for_all_form, select_form, select_by_form, neighbor_form, whenever_form, with_form, parall_form}
+use Rattle.type_heads.specs.Heads.{Does, deed_form, acted_form}
+use Rattle.type_statements.specs.Statements.{statement_layer, block_layer, statement_of, block_of, within_own, opened_tasks, if_form, if_else_form, while_form, for_form, for_all_form, select_form, select_by_form, neighbor_form, whenever_form, with_form, parall_form}
 
 pub does_block : (b : Block) → statement_of (statements.Block b) ≡ within_own (block_of b)
 unfolding statement_of block_of

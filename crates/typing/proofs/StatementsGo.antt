@@ -35,7 +35,8 @@ use Rattle.type_expressions.specs.Expressions.{Judge, judge, some_form, judge_ge
 use Rattle.type_declarations.specs.Parts.{wrong_unless, start_form}
 use Rattle.type_simples.specs.Simples.{Acted, simple_form, return_form, return_fault, through_doing}
 use Rattle.type_simples.specs.declared.simples.Standing.{Standing}
-use Rattle.comet_types.specs.Statements.{Does, deed_form, alone, acted_form, within_own, task_form, tasks_form, opened_tasks, truth_fault, if_form, if_else_form, while_form, counter_form, counter_fits, test_fits, step_part, Headed, head_form, for_within, for_form, Chosen, chosen_form, condition_fault, for_all_within, for_all_form, select_within, select_form, key_fault, select_by_within, select_by_form, written_found, written_name, apart, neighbor_form, with_form, watch_fault, events_form, watching_within, watched_form, whenever_form, parall_doing, domain_fault, in_parall, parall_within, shared_form, parall_form, statement_of, block_of}
+use Rattle.type_heads.specs.Heads.{Does, deed_form, alone, acted_form, truth_fault, counter_form, counter_fits, test_fits, step_part, Headed, head_form, Chosen, chosen_form, condition_fault, key_fault, written_found, written_name, apart, watch_fault, events_form, watched_form, parall_doing, domain_fault, in_parall, shared_form}
+use Rattle.type_statements.specs.Statements.{within_own, task_form, tasks_form, opened_tasks, if_form, if_else_form, while_form, for_within, for_form, for_all_within, for_all_form, select_within, select_form, select_by_within, select_by_form, neighbor_form, with_form, watching_within, whenever_form, parall_within, parall_form, statement_of, block_of}
 use Rattle.typing.specs.Calls.{having_done}
 use Rattle.typing.specs.Rules as expression_rules
 use Rattle.typing.specs.Rules.{ConditionIsTyped, having_closed}

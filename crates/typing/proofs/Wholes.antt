@@ -16,7 +16,7 @@ use Rattle.type_scopes.specs.Names.{is_new, opened, closed, declare, declare_wit
 use Rattle.type_scopes.specs.State.{State, Outcome, Went, Refused, Check, give, ◌>>=◌, then_do, each}
 use Rattle.type_rules.specs.Classes.{parameter_kind, parameter_is_ls}
 use Rattle.type_declarations.specs.Parts.{ruled}
-use Rattle.comet_types.specs.Statements.{block_of, within_own, statement_of}
+use Rattle.type_statements.specs.Statements.{block_of, within_own, statement_of}
 use Rattle.comet_types.specs.Functions.{top, parameter_fault, parameter_form, next_parameter, turn_form, settled_form, function_within, signature_of, new_fault, named_form, opened_form, function_form}
 use Rattle.comet_types.specs.Program.{part_form, next_part, program_form, accepted, verdict_of, judged}
 use Rattle.typing.specs.Rules.{having_closed}

@@ -37,7 +37,7 @@ use Rattle.type_calls.specs.Roots.{roots_of}
 use Rattle.type_declarations.specs.Parts.{wrong_unless}
 use Rattle.type_declarations.specs.Declarations.{declaration_place}
 use Rattle.type_simples.specs.Simples.{Acted, through_doing, return_fault}
-use Rattle.comet_types.specs.Statements.{alone, truth_fault, counter_fits, test_fits, Headed, Chosen, condition_fault, key_fault, apart, watch_fault, parall_doing, domain_fault, in_parall}
+use Rattle.type_heads.specs.Heads.{alone, truth_fault, counter_fits, test_fits, Headed, Chosen, condition_fault, key_fault, apart, watch_fault, parall_doing, domain_fault, in_parall}
 use Rattle.typing.specs.Calls.{having_done}
 use Rattle.typing.specs.Rules.{IsTyped, GeneratorsAreTyped, ConditionIsTyped, generators_in, condition_in, having_closed}
 use Rattle.typing.specs.Declarations.{OptionalIsTyped, DeclarationIsTyped, having_declared_as}

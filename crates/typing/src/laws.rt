@@ -16,7 +16,7 @@ ghost use Rattle.type_expressions.specs.Expressions.{judge};
 ghost use Rattle.type_declarations.specs.Declarations.{declaration_form};
 ghost use Rattle.type_simples.specs.declared.simples.Standing.{Standing};
 ghost use Rattle.type_simples.specs.Simples.{Acted, simple_form};
-ghost use Rattle.comet_types.specs.Statements.{statement_of};
+ghost use Rattle.type_statements.specs.Statements.{statement_of};
 ghost use Rattle.typing.specs.Rules.{IsTyped};
 ghost use Rattle.typing.specs.Declarations.{DeclarationIsTyped};
 ghost use Rattle.typing.specs.Simples.{SimpleIsTyped};

@@ -1,7 +1,7 @@
 //! The kinds of nodes, and what inputs each is timed with.
 use crate::nodes::sample::Sample;
 use crate::nodes::timing::{Times, time_node};
-use crate::stop::Stop;
+use bench_texts::Stop;
 use cbl_base::{IntSet, NoMemory, Numbers};
 use cbl_operations::Op;
 use node_kinds::Kind;

@@ -2,7 +2,7 @@ use Rattle.std.proofs.Common.{subst, sym, ◌∙◌}
 use Rattle.checked_tree.specs.Tasks.{work_of}
 use Rattle.type_scopes.specs.Did.{Did}
 use Rattle.type_scopes.proofs.Loops.{passes}
-use Rattle.comet_types.specs.Statements.{block_of}
+use Rattle.type_statements.specs.Statements.{block_of}
 use Rattle.comet_types.proofs.Settling.{settled_stop, settled_done, settled_next, settled_last}
 use Rattle.comet_types.proofs.functions.settle.Goals as goal
 

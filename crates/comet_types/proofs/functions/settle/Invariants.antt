@@ -1,6 +1,6 @@
 use Rattle.std.proofs.Common.{◌≡◌, ℕ}
 use Rattle.comet_types.specs.Functions.{settled_form}
-use Rattle.comet_types.specs.Statements.{block_of}
+use Rattle.type_statements.specs.Statements.{block_of}
 use Rattle.comet_types.proofs.functions.settle.Given as goal
 
 abbrev pub invariant-loop-left : goal.invariant-loop-left

@@ -1,5 +1,4 @@
-use Rattle.std.proofs.Common.{arith, refl, rules}
-use Rattle.run_steps.proofs.Filling.{count_ends, count_over, count_starts, count_step, product_fits}
+use Rattle.run_steps.proofs.Filling.{count_starts, count_step}
 use Rattle.run_steps.proofs.cells.cell_count.Goals as goal
 
 pub loop-extent-init : goal.loop-extent-init

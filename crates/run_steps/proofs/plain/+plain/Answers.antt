@@ -1,8 +1,8 @@
-use Rattle.std.proofs.Common.{rules, ℕ, List, ◌≡◌, FitsSigned, w64}
+use Rattle.std.proofs.Common.{rules, FitsSigned, w64}
 use Rattle.std.proofs.lemmas.Int.{to_z-of_z}
 use Rattle.comet_meaning.specs.Program.{level}
 use Rattle.run_state.specs.Views.{state_seen}
-use Rattle.run_steps.specs.Views.{links_seen, part}
+use Rattle.run_steps.specs.Views.{part}
 use Rattle.run_steps.proofs.PlainLaws.{literal_value, named_plain, chained, chain_start, chain_step}
 use Rattle.comet_meaning.proofs.Rows.{links_end}
 use Rattle.run_steps.proofs.plain.+plain.Goals as goal

@@ -1,4 +1,4 @@
-use Rattle.std.proofs.Common.{ℕ, List, ◌≡◌, ◌+◌, ◌*◌}
+use Rattle.std.proofs.Common.{ℕ, List, ◌+◌, ◌*◌}
 use Rattle.checked_tree.specs.Shape.{shape_of_link}
 use Rattle.comet_meaning.specs.Levels.{Code}
 use Rattle.comet_meaning.specs.Operators.{chain_form}

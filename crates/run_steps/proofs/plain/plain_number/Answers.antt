@@ -1,4 +1,3 @@
-use Rattle.std.proofs.Common.{ℕ, List, ◌≡◌}
 use Rattle.run_state.specs.Views.{state_seen}
 use Rattle.run_steps.specs.Views.{part}
 use Rattle.run_steps.proofs.PlainLaws.{whole_plain}

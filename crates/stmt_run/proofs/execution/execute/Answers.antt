@@ -13,4 +13,9 @@ returns-in_err-pure c =
     rw answer ((goes_program (program_of c.args.program.now)).from (state_seen c.args.s.now c.args.out.now.bytes.items)).printed
 
 pub returns : goal.returns
-returns c = executed c.args.program.now _ _ _ _ _ _ _ c.as_slice-2.ensures.value c.as_slice.ensures.value c.as_slice-4.ensures.value (c.as_slice-3.ensures.value ∙ c.in_ok-pure.ensures) c.run.ensures.did
+returns c = executed c.args.program.now _ _ _ _ _ _ _ _ c.in_ok-code.ensures c.as_slice-2.ensures.value c.as_slice.ensures.value c.as_slice-4.ensures.value (c.as_slice-3.ensures.value ∙ c.in_ok-pure.ensures) c.run.ensures.did
+
+pub returns-in_err-code : goal.returns-in_err-code
+returns-in_err-code c =
+    let answer : c.from_residual-in_err-code.result ≡ Err NoMemory = search rules in
+    rw answer ((goes_program (program_of c.args.program.now)).from (state_seen c.args.s.now c.args.out.now.bytes.items)).printed

@@ -1,0 +1,15 @@
+use Rattle.comet_meaning.specs.Arrays.{count_form}
+use Rattle.comet_meaning.proofs.GoingOn.{goes_then}
+use Rattle.comet_meaning.proofs.GoingParts.{goes_number}
+use Rattle.comet_meaning.proofs.GoingStatements.{goes_level}
+use Rattle.run_steps.proofs.Exits.{after, call_exit}
+use Rattle.run_steps.proofs.Goes.{goes_counted}
+use Rattle.expression_forms.proofs.arrays.evaluate_count.Goals as goal
+
+pub returns-in_err-array : goal.returns-in_err-array
+unfolding count_form
+returns-in_err-array g c = record { did = call_exit _ _ _ _ _ _ c.from_residual.ensures.1 c.in_err-array.ensures.did (λ v. goes_then (goes_number _ (goes_level _ _) _) (λ z. goes_counted _ _ v z)) }
+
+pub returns : goal.returns
+unfolding count_form
+returns g c = record { did = after _ _ _ _ c.in_ok-array.ensures.did (c.count_in_array.ensures.did _ _ c.number_of-number.ensures.did) }

@@ -1,0 +1,20 @@
+use Rattle.comet_meaning.proofs.GoingStatements.{goes_level}
+use Rattle.comet_meaning.proofs.Rows.{items_rows, terms_start, terms_end, terms_step, terms_err, terms_onward}
+use Rattle.run_steps.proofs.Exits.{ends_passes, exit, memory_exit}
+use Rattle.run_steps.proofs.Forms.{link_is, terms_same}
+use Rattle.expression_forms.proofs.terms.join_links.Goals as goal
+
+pub loop-link-init : goal.loop-link-init
+loop-link-init g c = terms_start _ _ _ _ _ _ (items_rows _)
+
+pub returns-in_err-right : goal.returns-in_err-right
+returns-in_err-right g c = record { did = exit _ _ _ _ _ c.from_residual.ensures.1 (terms_err c.loop-link.invariant _ c.loop-link-test.true c.link-item.is (link_is _) _ (ends_passes _ _) (goes_level _ _) c.in_err-right.ensures.did) }
+
+pub returns-in_err-term : goal.returns-in_err-term
+returns-in_err-term g c = record { did = memory_exit _ _ _ _ c.from_residual-in_err-term.ensures.1 (terms_onward (terms_step c.loop-link.invariant _ c.loop-link-test.true c.link-item.is (link_is _) c.in_ok-right.ensures.did) (goes_level _ _)).printed }
+
+pub loop-link-preserved : goal.loop-link-preserved
+loop-link-preserved g c = terms_same _ _ _ _ _ _ _ c.in_ok-term.ensures (terms_step c.loop-link.invariant _ c.loop-link-test.true c.link-item.is (link_is _) c.in_ok-right.ensures.did)
+
+pub returns : goal.returns
+returns g c = record { did = terms_end c.loop-link.invariant c.loop-link-test.false }

@@ -1,0 +1,204 @@
+//! The values of expressions.
+ghost use Rattle.std.specs.Prelude.{◌≡◌, ℕ, List, [], map};
+ghost use Rattle.checked_tree.specs.Shape.{optional, shape_of};
+ghost use Rattle.comet_meaning.specs.Expressions.{value_of_form};
+ghost use Rattle.comet_meaning.specs.Parts as parts;
+ghost use Rattle.comet_meaning.specs.Program.{level};
+ghost use Rattle.run_steps.specs.Does.{Does};
+ghost use Rattle.run_steps.specs.Parts.{value_as};
+ghost use Rattle.run_steps.specs.Views.{code_seen, part, part_or_none, row};
+ghost use Rattle.run_state.specs.Views.{state_seen};
+ghost use Rattle.run_values.specs.Views.{bounds_seen, value_seen};
+
+use crate::aggregates::evaluate_aggregate;
+use crate::arrays::{evaluate_builtin, evaluate_cell, evaluate_index, evaluate_list, evaluate_set};
+use crate::calls::{evaluate_call, evaluate_method};
+use crate::operators::{
+    evaluate_chain, evaluate_compare, evaluate_conditional, evaluate_range, evaluate_unary,
+};
+use cbl_base::Place;
+use checked_tree::{Form, Kind, Typed};
+use run_state::{Out, State};
+use run_steps::code::Code;
+use run_steps::inside::Within;
+use run_steps::operands::{as_bounds, as_held, as_number, as_truth, read_part};
+use run_steps::plain::{plain_number, plain_truth, plain_value};
+use run_values::{Bounds, Stop, Value};
+
+/// The value of a form of an expression of this kind at this place.
+#[tactic(auto, unfolding(checked_tree::specs::Shape::shape_of, comet_meaning::specs::Expressions::value_of_form))]
+pub fn evaluate_form<O: Out, W: Within<O>>(
+    s: &mut State,
+    out: &mut O,
+    inside: &W,
+    code: &Code<'_>,
+    at: Place,
+    kind: Kind,
+    form: &Form,
+) -> Result<Value, Stop>
+    requires ready { W.is_ready inside.now }
+    requires same_code { W.code inside.now ≡ code_seen code.now }
+    ensures did { Does value_seen result (state_seen s.new (O.taken out.new)) (value_of_form (W.code inside.now) (level (W.code inside.now) (W.depth inside.now)) at kind (shape_of form.now) (state_seen s.old (O.taken out.old))) }
+{
+    match form {
+        Form::Number(number) => Ok(Value::Number(*number)),
+        Form::Truth(truth) => Ok(Value::Truth(*truth)),
+        Form::Text(_) => Ok(Value::Nothing),
+        Form::Name(slot) => s.look(*slot),
+        Form::Unary { operator, operand } => {
+            evaluate_unary(s, out, inside, at, *operator, operand)
+        }
+        Form::Parentheses(inner) => inside.evaluate(s, out, inner),
+        Form::Chain { first, links } => evaluate_chain(s, out, inside, first, links),
+        Form::Compare {
+            comparison,
+            left,
+            right,
+        } => evaluate_compare(s, out, inside, *comparison, left, right),
+        Form::Range { low, high } => evaluate_range(s, out, inside, low, high),
+        Form::Conditional {
+            test,
+            then,
+            otherwise,
+        } => evaluate_conditional(s, out, inside, kind, test, then, otherwise),
+        Form::Index { array, index } => evaluate_index(s, out, inside, at, array, index),
+        Form::Cell { grid, row, column } => { evaluate_cell(s, out, inside, at, grid, row, column) }
+        Form::List(cells) => evaluate_list(s, out, inside, cells),
+        Form::Set(members) => evaluate_set(s, out, inside, members),
+        Form::Aggregate {
+            aggregate,
+            generators,
+            condition,
+            body,
+        } => evaluate_aggregate(s, out, inside, at, *aggregate, generators, condition, body),
+        Form::Builtin { builtin, arguments } => {
+            evaluate_builtin(s, out, inside, at, *builtin, arguments)
+        }
+        Form::Call {
+            function,
+            arguments,
+        } => evaluate_call(s, out, inside, code, at, *function, arguments),
+        Form::Method {
+            method,
+            object,
+            arguments,
+        } => evaluate_method(s, out, inside, at, *method, object, arguments),
+    }
+}
+
+/// The value of a part, where a variable is read.
+#[tactic(auto, unfolding(comet_meaning::specs::Parts::value))]
+pub fn value_of<O: Out, W: Within<O>>(
+    s: &mut State,
+    out: &mut O,
+    inside: &W,
+    e: &Typed,
+) -> Result<Value, Stop>
+    requires ready { W.is_ready inside.now }
+    ensures did { Does value_seen result (state_seen s.new (O.taken out.new)) (parts.value (level (W.code inside.now) (W.depth inside.now)) (part e.now) (state_seen s.old (O.taken out.old))) }
+{
+    match plain_value(s, inside.room(), e) {
+        Some(value) => Ok(value),
+        None => {
+            let value = inside.evaluate(s, out, e);
+            read_part(s, e, value)
+        }
+    }
+}
+
+/// The number that a part gives; a truth value stands as 1 or 0.
+#[tactic(auto, unfolding(comet_meaning::specs::Parts::number))]
+pub fn number_of<O: Out, W: Within<O>>(
+    s: &mut State,
+    out: &mut O,
+    inside: &W,
+    e: &Typed,
+) -> Result<i64, Stop>
+    requires ready { W.is_ready inside.now }
+    ensures did { Does (λ z. z) result (state_seen s.new (O.taken out.new)) (parts.number (level (W.code inside.now) (W.depth inside.now)) (part e.now) (state_seen s.old (O.taken out.old))) }
+{
+    match plain_number(s, inside.room(), e) {
+        Some(number) => Ok(number),
+        None => as_number(value_of(s, out, inside, e)),
+    }
+}
+
+/// The truth value that a part gives.
+#[tactic(auto, unfolding(comet_meaning::specs::Parts::truth))]
+pub fn truth_of<O: Out, W: Within<O>>(
+    s: &mut State,
+    out: &mut O,
+    inside: &W,
+    e: &Typed,
+) -> Result<bool, Stop>
+    requires ready { W.is_ready inside.now }
+    ensures did { Does (λ b. b) result (state_seen s.new (O.taken out.new)) (parts.truth (level (W.code inside.now) (W.depth inside.now)) (part e.now) (state_seen s.old (O.taken out.old))) }
+{
+    match plain_truth(s, inside.room(), e) {
+        Some(truth) => Ok(truth),
+        None => as_truth(value_of(s, out, inside, e)),
+    }
+}
+
+/// The bounds of the range that a part gives.
+#[tactic(auto, unfolding(comet_meaning::specs::Parts::bounds))]
+pub fn bounds_of<O: Out, W: Within<O>>(
+    s: &mut State,
+    out: &mut O,
+    inside: &W,
+    e: &Typed,
+) -> Result<Bounds, Stop>
+    requires ready { W.is_ready inside.now }
+    ensures did { Does bounds_seen result (state_seen s.new (O.taken out.new)) (parts.bounds (level (W.code inside.now) (W.depth inside.now)) (part e.now) (state_seen s.old (O.taken out.old))) }
+{
+    as_bounds(value_of(s, out, inside, e))
+}
+
+/// Whether a condition holds, as it does where it is left out.
+#[tactic(auto, unfolding(comet_meaning::specs::Parts::condition))]
+pub fn condition<O: Out, W: Within<O>>(
+    s: &mut State,
+    out: &mut O,
+    inside: &W,
+    test: Option<&Typed>,
+) -> Result<bool, Stop>
+    requires ready { W.is_ready inside.now }
+    ensures did { Does (λ b. b) result (state_seen s.new (O.taken out.new)) (parts.condition (level (W.code inside.now) (W.depth inside.now)) (optional (λ e. part e.now) test.entry) (state_seen s.old (O.taken out.old))) }
+{
+    match test {
+        None => Ok(true),
+        Some(test) => truth_of(s, out, inside, test),
+    }
+}
+
+/// The value of a part, as a name of this kind holds it.
+pub fn value_as<O: Out, W: Within<O>>(
+    s: &mut State,
+    out: &mut O,
+    inside: &W,
+    kind: Kind,
+    e: &Typed,
+) -> Result<Value, Stop>
+    requires ready { W.is_ready inside.now }
+    ensures did { Does value_seen result (state_seen s.new (O.taken out.new)) (value_as (level (W.code inside.now) (W.depth inside.now)) kind (part e.now) (state_seen s.old (O.taken out.old))) }
+{
+    as_held(kind, value_of(s, out, inside, e))
+}
+
+/// The values of parts, from the left.
+pub fn values_of<O: Out, W: Within<O>>(
+    s: &mut State,
+    out: &mut O,
+    inside: &W,
+    es: &[Typed],
+) -> Result<Vec<Value>, Stop>
+    requires ready { W.is_ready inside.now }
+    ensures did { Does (λ values. map value_seen values.items) result (state_seen s.new (O.taken out.new)) (parts.values (level (W.code inside.now) (W.depth inside.now)) (row es.now) [] (state_seen s.old (O.taken out.old))) }
+{
+    let mut values = Vec::new(s.alloc);
+    for e in es {
+        let value = value_of(s, out, inside, e)?;
+        values.push(value)?;
+    }
+    Ok(values)
+}

@@ -1,0 +1,14 @@
+pub mod ListLaws
+pub mod TermLaws
+pub mod KindLaws
+pub mod ModelLaws
+pub mod DefinitionLaws
+pub mod KeptLaws
+pub mod CountLaws
+pub mod MarkLaws
+pub mod PlanLaws
+pub mod FreshLaws
+pub mod ChangeLaws
+pub mod CommitLaws
+pub mod ReadLaws
+pub mod DefineLaws

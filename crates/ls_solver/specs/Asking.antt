@@ -1,0 +1,10 @@
+-- The kind of a variable of the solver. A rule of this project.
+use Rattle.std.specs.Prelude.{Option, None, if◌then◌else◌}
+use Rattle.cbl_base.specs.Inputs.{InputKind}
+use Rattle.cbl_base.specs.declared.ids.VarId.{VarId}
+use Rattle.ls_solver.specs.Ids.{is_own}
+use Rattle.ls_solver.specs.State.{SolverState}
+use Rattle.term_model.specs.Kinds.{kinds_in}
+
+abbrev pub own_kind : SolverState → VarId → Option InputKind
+own_kind s x = if is_own s x then kinds_in s.model.vars.items x.index else None

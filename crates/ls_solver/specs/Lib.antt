@@ -1,0 +1,16 @@
+pub mod Answers
+pub mod Asking
+pub mod Changes
+pub mod Closing
+pub mod Committing
+pub mod Declaring
+pub mod Defining
+pub mod Dependencies
+pub mod Evaluating
+pub mod Ids
+pub mod Kept
+pub mod KeptChanges
+pub mod NamedCycle
+pub mod Reading
+pub mod State
+pub mod Telling

@@ -1,0 +1,27 @@
+//! A solver: a model that grows until it is closed, and an assignment that commits change.
+//!
+//! It knows nothing of programs, statements or handlers. The layers above use that a solver is seen as its model, its
+//! assignment, and whether it is closed and usable; that each call makes of these exactly what it says, or refuses
+//! exactly where and as it says; that what is read of a variable is its fresh value; and that a commit tells the
+//! variables whose fresh values differ, in order of declaration.
+//!
+//! Each commit of a closed solver evaluates the whole model. What is read is kept, and wants no memory.
+#![tactic(auto)]
+
+mod asking;
+mod changes;
+mod closing;
+mod committing;
+mod cycle;
+mod declaring;
+mod defining;
+mod evaluating;
+mod fault;
+mod ids;
+mod reading;
+mod solver;
+#[cfg(test)]
+mod tests;
+
+pub use fault::SolverFault;
+pub use solver::Solver;

@@ -1,0 +1,87 @@
+//! The solver, and what it keeps.
+ghost use Rattle.std.specs.Prelude.{◌≡◌, []};
+ghost use Rattle.ls_solver.specs.State.{IsNew};
+
+use cbl_base::Input;
+use std::alloc::Global;
+use std::marker::Model;
+use term_count::Subterms;
+
+/// A solver: its number, a model, an assignment with a number for each variable, whether it is closed, and whether it
+/// may still be used. It is seen as these. Every call but `usable` needs that it may.
+#[derive(Drop)]
+pub struct Solver {
+    pub(crate) alloc: Global,
+    pub(crate) number: u32,
+    pub(crate) model: term_model::Model,
+    pub(crate) assignment: Vec<i64>,
+    /// Whether each variable has a definition.
+    pub(crate) marks: Vec<bool>,
+    /// The distinct subterms of the model; none where a count was broken off.
+    pub(crate) terms: Option<Subterms>,
+    /// The value of each variable of a closed solver.
+    pub(crate) values: Vec<Input>,
+    pub(crate) closed: bool,
+    pub(crate) usable: bool,
+}
+
+impl Model for Solver {
+    ghost use Rattle.ls_solver.specs.State.{SolverState};
+
+    ghost Value = { SolverState };
+
+    ghost use Rattle.std.specs.Coded.{codes};
+    ghost use Rattle.term_model.specs.contracts.term.Term as terms_seen;
+
+    ghost coded = { Prim.hlevel (codes, terms_seen.the_row.coded) };
+
+    ghost use Rattle.ls_solver.specs.Kept.{IsKept};
+
+    ghost view = { λ a. record { number = a.number; model = a.model; assignment = a.assignment.items; closed = a.closed; usable = a.usable } };
+
+    ghost invariant = { λ a. IsKept a.model a.assignment.items a.marks.items a.terms a.values.items a.closed a.usable };
+}
+
+/// A model of nothing.
+fn empty_model(alloc: Global) -> term_model::Model
+    ensures vars { result.vars.items ≡ [] }
+    ensures defs { result.defs.items ≡ [] }
+    ensures systems { result.systems.items ≡ [] }
+    ensures objectives { result.objectives.items ≡ [] }
+    ensures posted { result.posted.items ≡ [] }
+{
+    term_model::Model {
+        vars: Vec::new(alloc),
+        defs: Vec::new(alloc),
+        systems: Vec::new(alloc),
+        objectives: Vec::new(alloc),
+        posted: Vec::new(alloc),
+    }
+}
+
+impl Solver {
+    /// A solver without variables, which is open. Its ids carry its number.
+    #[tactic(auto, using(crate::proofs::KeptLaws::empty_kept))]
+    pub fn new(alloc: Global, number: u32) -> Solver
+        ensures { IsNew number result }
+    {
+        Solver {
+            alloc,
+            number,
+            model: empty_model(alloc),
+            assignment: Vec::new(alloc),
+            marks: Vec::new(alloc),
+            terms: None,
+            values: Vec::new(alloc),
+            closed: false,
+            usable: true,
+        }
+    }
+
+    /// Whether it may still be used: `false` exactly after `At` and `NoMemory` from `close` and `commit`.
+    pub fn usable(&self) -> bool
+        ensures { result ≡ self.now.usable }
+    {
+        self.usable
+    }
+}

@@ -1,0 +1,6 @@
+//! Models that are built and asked, with the values that the language's description gives. It has tests alone, so that
+//! the crates that they speak of are proved once and not twice.
+#![tactic(auto)]
+
+#[cfg(test)]
+mod tests;

@@ -1,0 +1,160 @@
+//! The value of an operation of a list of inputs.
+ghost use Rattle.std.specs.Prelude.{◌≡◌, ◌<◌, Some, IsTrue, IfOk, length, pos, slice_get, slice_index_or};
+ghost use Rattle.cbl_base.specs.Inputs.{kinds_of, numbers_of, number_of, number_kind, set_kind};
+ghost use Rattle.cbl_base.specs.NumberRule.{as_value};
+ghost use Rattle.cbl_base.specs.declared.input.Input.TheVariants.{Int, Set};
+ghost use Rattle.cbl_operations.specs.RuleOf.{rule_of};
+ghost use Rattle.cbl_operations.specs.SetForms.{members_at};
+ghost use Rattle.term_model.specs.Users.{user_rules};
+
+use crate::users::UserValues;
+use cbl_base::{Input, IntSet, NoMemory, RunFault};
+use cbl_operations as operations;
+use cbl_operations::Op;
+use cbl_violations as violations;
+use std::alloc::Global;
+
+/// The numbers of the inputs, 0 for a set.
+pub fn numbers_of(alloc: Global, inputs: &[Input]) -> Result<Vec<i64>, NoMemory>
+    ensures { IfOk result (λ v. v.items ≡ numbers_of inputs.now) }
+{
+    Ok(inputs.iter().map(number_of).collect(alloc)?)
+}
+
+/// The number of an input, 0 for a set.
+pub fn number_of(input: &Input) -> i64
+    ensures { result ≡ number_of input.now }
+{
+    match input {
+        Input::Int(x) => *x,
+        Input::Set(_) => 0,
+    }
+}
+
+/// The number at a place, 0 for a set.
+fn number_at(inputs: &[Input], place: usize) -> i64
+    requires { place < length inputs.now }
+    ensures { result ≡ number_of (slice_index_or inputs.now place (Int (pos 0))) }
+{
+    number_of(&inputs[place])
+}
+
+/// The set at a place.
+fn set_at(inputs: &[Input], place: usize) -> &IntSet
+    requires { slice_get (kinds_of inputs.now) place ≡ Some set_kind }
+    ensures { result.now ≡ members_at inputs.now place }
+{
+    match &inputs[place] {
+        Input::Set(set) => set,
+        Input::Int(_) => unreachable!(),
+    }
+}
+
+/// A number, or the fault, as the value of an operation.
+fn as_value(value: Result<i64, RunFault>) -> Result<Input, RunFault>
+    ensures { result ≡ as_value value }
+{
+    value.map(Input::Int)
+}
+
+#[tactic(auto, using(crate::proofs::KeyedValues::arg_min_again, crate::proofs::KeyedValues::arg_max_again, crate::proofs::KeyedValues::set_of_again))]
+/// The value of an operation that takes these inputs: the value of its rule.
+pub fn value_of<U: UserValues>(
+    alloc: Global,
+    users: &U,
+    op: &Op,
+    inputs: &[Input],
+) -> Result<Result<Input, RunFault>, NoMemory>
+    requires { IsTrue ((rule_of (user_rules (U.viol_of users.now) (U.viol_at users.now)) op.now).takes (kinds_of inputs.now)) }
+    ensures { IfOk result (λ v. v ≡ (rule_of (user_rules (U.viol_of users.now) (U.viol_at users.now)) op.now).value inputs.now) }
+{
+    let xs = numbers_of(alloc, inputs)?;
+    let number = match op {
+        Op::ArgMin { keys } => {
+            let set = operations::arg_min_value(alloc, keys.as_slice(), &xs)?;
+            return Ok(Ok(Input::Set(set)));
+        }
+        Op::ArgMax { keys } => {
+            let set = operations::arg_max_value(alloc, keys.as_slice(), &xs)?;
+            return Ok(Ok(Input::Set(set)));
+        }
+        Op::SetOf { keys } => {
+            let set = operations::set_of_value(alloc, keys.as_slice(), &xs)?;
+            return Ok(Ok(Input::Set(set)));
+        }
+        Op::Union => {
+            let set = operations::union_value(alloc, set_at(inputs, 0), set_at(inputs, 1))?;
+            return Ok(Ok(Input::Set(set)));
+        }
+        Op::Inter => {
+            let set = operations::inter_value(alloc, set_at(inputs, 0), set_at(inputs, 1))?;
+            return Ok(Ok(Input::Set(set)));
+        }
+        Op::Minus => {
+            let set = operations::minus_value(alloc, set_at(inputs, 0), set_at(inputs, 1))?;
+            return Ok(Ok(Input::Set(set)));
+        }
+        Op::Card => Ok(operations::card_value(set_at(inputs, 0))),
+        Op::Member => Ok(operations::member_value(number_at(inputs, 0), set_at(inputs, 1))),
+        Op::Add => operations::add_value(&xs),
+        Op::Sub => operations::sub_value(&xs),
+        Op::Mul => operations::mul_value(&xs),
+        Op::Div => operations::div_value(&xs),
+        Op::Rem => operations::rem_value(&xs),
+        Op::Neg => operations::neg_value(&xs),
+        Op::Abs => operations::abs_value(&xs),
+        Op::Least => operations::least_value(&xs),
+        Op::Greatest => operations::greatest_value(&xs),
+        Op::Sum => operations::sum_value(&xs),
+        Op::Count => operations::count_value(&xs),
+        Op::Element { low, len } => operations::element_value(*low, *len, &xs),
+        Op::Element2 {
+            low1,
+            len1,
+            low2,
+            len2,
+        } => { operations::element2_value(*low1, *len1, *low2, *len2, &xs) }
+        Op::Eq => operations::eq_value(&xs),
+        Op::Ne => operations::ne_value(&xs),
+        Op::Le => operations::le_value(&xs),
+        Op::Lt => operations::lt_value(&xs),
+        Op::And => operations::and_value(&xs),
+        Op::Or => operations::or_value(&xs),
+        Op::Not => operations::not_value(&xs),
+        Op::ViolEq => violations::eq_violations(&xs),
+        Op::ViolNe => violations::ne_violations(&xs),
+        Op::ViolLe => violations::le_violations(&xs),
+        Op::ViolLt => violations::lt_violations(&xs),
+        Op::AllDifferent => violations::all_different_violations(&xs),
+        Op::AtMost { low, bounds } => violations::at_most_violations(&xs, *low, bounds.as_slice()),
+        Op::AtLeast { low, bounds } => {
+            violations::at_least_violations(&xs, *low, bounds.as_slice())
+        }
+        Op::Exactly { low, bounds } => {
+            violations::exactly_violations(&xs, *low, bounds.as_slice())
+        }
+        Op::Knapsack { weights, capacity } => {
+            violations::knapsack_violations(&xs, weights.as_slice(), *capacity)
+        }
+        Op::MultiKnapsack {
+            sizes,
+            low,
+            capacities,
+        } => violations::multi_knapsack_violations(
+            &xs,
+            sizes.as_slice(),
+            *low,
+            capacities.as_slice(),
+        ),
+        Op::Sequence {
+            values,
+            most,
+            window,
+        } => { violations::sequence_violations(&xs, values.as_slice(), *most, *window) }
+        Op::AllOf => violations::all_of_violations(&xs),
+        Op::AnyOf => violations::any_of_violations(&xs),
+        Op::NotHeld => violations::not_held_violations(&xs),
+        Op::User { number } => Ok(users.value(*number, &xs)?),
+    };
+    Ok(as_value(number))
+}

@@ -1,0 +1,209 @@
+//! What statements do.
+ghost use Rattle.std.specs.Prelude.{◌≡◌, ℕ, List, map, option_map};
+ghost use Rattle.checked_tree.specs.Actions.{deed_of};
+ghost use Rattle.checked_tree.specs.Shape.{seen};
+ghost use Rattle.checked_tree.specs.Tasks.{work_of, work_of_act};
+ghost use Rattle.comet_meaning.specs.Limits.{most_depth};
+ghost use Rattle.comet_meaning.specs.Loops.{if_form, if_else_form, tasks_form};
+ghost use Rattle.comet_meaning.specs.Program.{level};
+ghost use Rattle.comet_meaning.specs.Statements.{action_form, alone_form, deed_form, meaning_of_form, return_form};
+ghost use Rattle.run_steps.specs.Does.{Does};
+ghost use Rattle.run_steps.specs.Views.{flow_seen};
+ghost use Rattle.run_state.specs.Views.{state_seen};
+
+use crate::array_declarations::declare_array;
+use crate::declarations::{declare, declare_variable};
+use crate::for_all::execute_for_all;
+use crate::loops::{execute_for, execute_while};
+use crate::printing::print_all;
+use crate::writes::{step_target, write_value};
+use cbl_base::Place;
+use checked_tree::{Act, Action, Task, Typed};
+use expression_forms::expressions::{truth_of, value_of};
+use run_state::{Out, State};
+use run_steps::code::Flow;
+use run_steps::effects::{as_done, as_next, as_returned};
+use run_steps::inside::{Around, Within};
+use run_steps::leaves::{declare_object, returned};
+use run_values::Stop;
+
+/// How many statements and expressions may be executed inside each other.
+const MOST_DEPTH: u32 = 1000;
+
+/// A statement at a place, by its form. What isn't there yet does nothing.
+pub fn execute_act<O: Out, W: Around<O>>(
+    s: &mut State,
+    out: &mut O,
+    inside: &W,
+    at: Place,
+    act: &Act,
+) -> Result<Flow, Stop>
+    requires ready { W.is_ready inside.now }
+    requires defines { W.can_define inside.now }
+    requires locates { W.can_locate inside.now }
+    ensures did { Does flow_seen result (state_seen s.new (O.taken out.new)) (meaning_of_form (level (W.code inside.now) (W.depth inside.now)) at (work_of_act act.now) (state_seen s.old (O.taken out.old))) }
+{
+    match act {
+        Act::Action(action) => execute_action(s, out, inside, at, action),
+        Act::Block(tasks) => execute_all(s, out, inside, tasks),
+        Act::If { test, then } => execute_if(s, out, inside, test, then),
+        Act::IfElse {
+            test,
+            then,
+            otherwise,
+        } => execute_if_else(s, out, inside, test, then, otherwise),
+        Act::While { test, body } => execute_while(s, out, inside, at, test, body),
+        Act::For {
+            counter,
+            test,
+            step,
+            body,
+        } => execute_for(s, out, inside, at, counter, test, step, body),
+        Act::ForAll {
+            generators,
+            condition,
+            body,
+        } => execute_for_all(s, out, inside, at, generators, condition, body),
+        Act::Select { .. } => Ok(Flow::Next),
+        Act::SelectBy { .. } => Ok(Flow::Next),
+        Act::Neighbor { .. } => Ok(Flow::Next),
+        Act::Whenever { .. } => Ok(Flow::Next),
+        Act::With { .. } => Ok(Flow::Next),
+        Act::Parall { .. } => Ok(Flow::Next),
+    }
+}
+
+/// Statements in order, to the first that returns.
+pub fn execute_all<O: Out, W: Within<O>>(
+    s: &mut State,
+    out: &mut O,
+    inside: &W,
+    tasks: &[Task],
+) -> Result<Flow, Stop>
+    requires ready { W.is_ready inside.now }
+    ensures did { Does flow_seen result (state_seen s.new (O.taken out.new)) (tasks_form (level (W.code inside.now) (W.depth inside.now)) (map work_of tasks.now) (state_seen s.old (O.taken out.old))) }
+{
+    for task in tasks {
+        let flow = inside.execute(s, out, task)?;
+        match flow {
+            Flow::Next => {}
+            Flow::Returned(value) => return Ok(Flow::Returned(value)),
+        }
+    }
+    Ok(Flow::Next)
+}
+
+#[tactic(auto, unfolding(comet_meaning::specs::Loops::if_form))]
+fn execute_if<O: Out, W: Within<O>>(
+    s: &mut State,
+    out: &mut O,
+    inside: &W,
+    test: &Typed,
+    then: &Task,
+) -> Result<Flow, Stop>
+    requires ready { W.is_ready inside.now }
+    ensures did { Does flow_seen result (state_seen s.new (O.taken out.new)) (if_form (level (W.code inside.now) (W.depth inside.now)) (seen test.now) (work_of «then».now) (state_seen s.old (O.taken out.old))) }
+{
+    let test = truth_of(s, out, inside, test)?;
+    if test {
+        inside.execute(s, out, then)
+    } else {
+        Ok(Flow::Next)
+    }
+}
+
+#[tactic(auto, unfolding(comet_meaning::specs::Loops::if_else_form))]
+fn execute_if_else<O: Out, W: Within<O>>(
+    s: &mut State,
+    out: &mut O,
+    inside: &W,
+    test: &Typed,
+    then: &Task,
+    otherwise: &Task,
+) -> Result<Flow, Stop>
+    requires ready { W.is_ready inside.now }
+    ensures did { Does flow_seen result (state_seen s.new (O.taken out.new)) (if_else_form (level (W.code inside.now) (W.depth inside.now)) (seen test.now) (work_of «then».now) (work_of otherwise.now) (state_seen s.old (O.taken out.old))) }
+{
+    let test = truth_of(s, out, inside, test)?;
+    if test {
+        inside.execute(s, out, then)
+    } else {
+        inside.execute(s, out, otherwise)
+    }
+}
+
+/// A statement at a place that holds no statement.
+pub fn execute_action<O: Out, W: Around<O>>(
+    s: &mut State,
+    out: &mut O,
+    inside: &W,
+    at: Place,
+    action: &Action,
+) -> Result<Flow, Stop>
+    requires ready { W.is_ready inside.now }
+    requires defines { W.can_define inside.now }
+    requires locates { W.can_locate inside.now }
+    ensures did { Does flow_seen result (state_seen s.new (O.taken out.new)) (action_form (level (W.code inside.now) (W.depth inside.now)) at (deed_of action.now) (state_seen s.old (O.taken out.old))) }
+{
+    match returned(action) {
+        Some(value) => execute_return(s, out, inside, value),
+        None => as_next(perform(s, out, inside, at, action)),
+    }
+}
+
+#[tactic(auto, unfolding(comet_meaning::specs::Statements::return_form))]
+fn execute_return<O: Out, W: Within<O>>(
+    s: &mut State,
+    out: &mut O,
+    inside: &W,
+    value: &Option<Typed>,
+) -> Result<Flow, Stop>
+    requires ready { W.is_ready inside.now }
+    ensures did { Does flow_seen result (state_seen s.new (O.taken out.new)) (return_form (level (W.code inside.now) (W.depth inside.now)) (option_map seen value.now) (state_seen s.old (O.taken out.old))) }
+{
+    match value {
+        None => Ok(Flow::Returned(None)),
+        Some(value) => as_returned(value_of(s, out, inside, value)),
+    }
+}
+
+/// What a statement at a place does that holds no statement, and doesn't return. What isn't there yet does nothing.
+#[tactic(auto, unfolding(comet_meaning::specs::Statements::deed_form, checked_tree::specs::Actions::deed_of))]
+pub(crate) fn perform<O: Out, W: Around<O>>(
+    s: &mut State,
+    out: &mut O,
+    inside: &W,
+    at: Place,
+    action: &Action,
+) -> Result<(), Stop>
+    requires ready { W.is_ready inside.now }
+    requires defines { W.can_define inside.now }
+    requires locates { W.can_locate inside.now }
+    ensures did { Does (λ _. tt) result (state_seen s.new (O.taken out.new)) (deed_form (level (W.code inside.now) (W.depth inside.now)) at (deed_of action.now) (state_seen s.old (O.taken out.old))) }
+{
+    match action {
+        Action::Empty => Ok(()),
+        Action::Declare { slot, kind, start } => {
+            declare(s, out, inside, at, *slot, *kind, start)
+        }
+        Action::DeclareArray {
+            slot,
+            kind: _,
+            dimensions,
+            start,
+        } => declare_array(s, out, inside, at, *slot, dimensions, start),
+        Action::DeclareVariable(variable) => { declare_variable(s, out, inside, at, variable) }
+        Action::Make { slot, kind, .. } => declare_object(s, out, *slot, *kind),
+        Action::Write {
+            target,
+            operator,
+            value,
+        } => write_value(s, out, inside, at, *operator, target, value),
+        Action::Swap { .. } => Ok(()),
+        Action::Step { target, step } => step_target(s, out, inside, at, *step, target),
+        Action::Do(e) => as_done(value_of(s, out, inside, e)),
+        Action::Choose(_) => Ok(()),
+        Action::Print(items) => print_all(s, out, inside, items),
+        Action::Return(_) => Ok(()),
+    }
+}

@@ -1,0 +1,119 @@
+//! Writes.
+ghost use Rattle.std.specs.Prelude.{◌≡◌, ◌+ℤ◌, ◌-ℤ◌, ℕ, List};
+ghost use Rattle.checked_tree.specs.Shape.{seen};
+ghost use Rattle.comet_meaning.specs.Program.{level};
+ghost use Rattle.comet_meaning.specs.Writes.{add_form, assign_form, step_form, write_form};
+ghost use Rattle.run_steps.specs.Does.{Does};
+ghost use Rattle.run_state.specs.Views.{state_seen};
+
+use crate::targets::target_of;
+use cbl_base::Place;
+use checked_tree::Typed;
+use comet_syntax::tree::{Step, WriteOperator};
+use expression_forms::expressions::{number_of, value_of};
+use run_state::{Out, State};
+use run_steps::effects::{add_part, assign_part, step_part, subtract_part};
+use run_steps::inside::Around;
+use run_values::Stop;
+
+/// `target = value` and its like, at a place.
+#[tactic(auto, unfolding(comet_meaning::specs::Writes::write_form))]
+pub(crate) fn write_value<O: Out, W: Around<O>>(
+    s: &mut State,
+    out: &mut O,
+    inside: &W,
+    at: Place,
+    operator: WriteOperator,
+    target: &Typed,
+    value: &Typed,
+) -> Result<(), Stop>
+    requires ready { W.is_ready inside.now }
+    requires locates { W.can_locate inside.now }
+    ensures did { Does (λ _. tt) result (state_seen s.new (O.taken out.new)) (write_form (level (W.code inside.now) (W.depth inside.now)) at operator (seen target.now) (seen value.now) (state_seen s.old (O.taken out.old))) }
+{
+    match operator {
+        WriteOperator::Set => assign(s, out, inside, at, target, value),
+        WriteOperator::Assign => assign(s, out, inside, at, target, value),
+        WriteOperator::Add => add_value(s, out, inside, at, target, value),
+        WriteOperator::Subtract => subtract_value(s, out, inside, at, target, value),
+        WriteOperator::Define => Ok(()),
+    }
+}
+
+/// `target = value` and `target := value`
+#[tactic(auto, unfolding(comet_meaning::specs::Writes::assign_form))]
+fn assign<O: Out, W: Around<O>>(
+    s: &mut State,
+    out: &mut O,
+    inside: &W,
+    at: Place,
+    target: &Typed,
+    value: &Typed,
+) -> Result<(), Stop>
+    requires ready { W.is_ready inside.now }
+    requires locates { W.can_locate inside.now }
+    ensures did { Does (λ _. tt) result (state_seen s.new (O.taken out.new)) (assign_form (level (W.code inside.now) (W.depth inside.now)) at (seen target.now) (seen value.now) (state_seen s.old (O.taken out.old))) }
+{
+    let kind = target.kind;
+    let target = target_of(s, out, inside, target)?;
+    let value = value_of(s, out, inside, value);
+    assign_part(s, at, kind, &target, value)
+}
+
+/// `target += value`
+#[tactic(auto, unfolding(comet_meaning::specs::Writes::add_form))]
+fn add_value<O: Out, W: Around<O>>(
+    s: &mut State,
+    out: &mut O,
+    inside: &W,
+    at: Place,
+    target: &Typed,
+    value: &Typed,
+) -> Result<(), Stop>
+    requires ready { W.is_ready inside.now }
+    requires locates { W.can_locate inside.now }
+    ensures did { Does (λ _. tt) result (state_seen s.new (O.taken out.new)) (add_form (level (W.code inside.now) (W.depth inside.now)) at ◌+ℤ◌ (seen target.now) (seen value.now) (state_seen s.old (O.taken out.old))) }
+{
+    let target = target_of(s, out, inside, target)?;
+    let old = s.old_value(&target)?;
+    let number = number_of(s, out, inside, value);
+    add_part(s, at, &target, &old, number)
+}
+
+/// `target -= value`
+#[tactic(auto, unfolding(comet_meaning::specs::Writes::add_form))]
+fn subtract_value<O: Out, W: Around<O>>(
+    s: &mut State,
+    out: &mut O,
+    inside: &W,
+    at: Place,
+    target: &Typed,
+    value: &Typed,
+) -> Result<(), Stop>
+    requires ready { W.is_ready inside.now }
+    requires locates { W.can_locate inside.now }
+    ensures did { Does (λ _. tt) result (state_seen s.new (O.taken out.new)) (add_form (level (W.code inside.now) (W.depth inside.now)) at ◌-ℤ◌ (seen target.now) (seen value.now) (state_seen s.old (O.taken out.old))) }
+{
+    let target = target_of(s, out, inside, target)?;
+    let old = s.old_value(&target)?;
+    let number = number_of(s, out, inside, value);
+    subtract_part(s, at, &target, &old, number)
+}
+
+/// `target++` and `target--`
+#[tactic(auto, unfolding(comet_meaning::specs::Writes::step_form))]
+pub(crate) fn step_target<O: Out, W: Around<O>>(
+    s: &mut State,
+    out: &mut O,
+    inside: &W,
+    at: Place,
+    step: Step,
+    target: &Typed,
+) -> Result<(), Stop>
+    requires ready { W.is_ready inside.now }
+    requires locates { W.can_locate inside.now }
+    ensures did { Does (λ _. tt) result (state_seen s.new (O.taken out.new)) (step_form (level (W.code inside.now) (W.depth inside.now)) at step (seen target.now) (state_seen s.old (O.taken out.old))) }
+{
+    let target = target_of(s, out, inside, target);
+    step_part(s, at, step, target)
+}

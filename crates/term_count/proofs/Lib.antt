@@ -1,0 +1,3 @@
+pub mod CodeLaws
+pub mod PlaceLaws
+pub mod Numbered
