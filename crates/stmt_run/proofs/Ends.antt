@@ -26,6 +26,7 @@ front_of printed (Halted e t) h = h
 
 ended : (r : Result Flow Stop) (s : State) (o : Outcome levels.Flow) → Does flow_seen r s o → EndsAs (end_seen r) s.fuel s.printed (meant o)
 ended (Ok flow) s o did = ap meant did
+ended (Err (stops.Cyclic place names)) s o did = ap meant did
 ended (Err (stops.Fault place f)) s o did = ap meant did
 ended (Err (stops.Spent place)) s o did = ap meant did
 ended (Err stops.NoMemory) s o did = front_of s.printed o did

@@ -2,6 +2,7 @@
 -- out, what was printed is a front of what the program prints. A rule of this project.
 use Rattle.std.specs.Prelude.{◌≡◌, ℕ, List, Result, Ok, Err}
 use Rattle.comet_meaning.specs.Outcome.{Faulted, SpentAt}
+use Rattle.comet_meaning.specs.Outcome as outcomes
 use Rattle.comet_meaning.specs.Onward.{IsFront}
 use Rattle.comet_meaning.specs.Program.{End, Meant}
 use Rattle.comet_meaning.specs.Program as programs
@@ -9,13 +10,14 @@ use Rattle.run_steps.specs.declared.code.Flow.{Flow}
 use Rattle.run_values.specs.declared.stop.Stop.{Stop}
 use Rattle.run_values.specs.declared.stop.Stop.TheVariants as stops
 use Rattle.stmt_run.specs.declared.execution.RunEnd.{RunEnd}
-use Rattle.stmt_run.specs.declared.execution.RunEnd.TheVariants.{Done, Run, Spent, NoMemory}
+use Rattle.stmt_run.specs.declared.execution.RunEnd.TheVariants.{Done, Cyclic, Run, Spent, NoMemory}
 
 abbrev pub Is : End → ℕ → List ℕ → Meant → Type 0
 Is end fuel printed m = m ≡ record { end = end; fuel = fuel; printed = printed }
 
 abbrev pub EndsAs : RunEnd → ℕ → List ℕ → Meant → Type 0
 EndsAs Done fuel printed m = Is programs.Done fuel printed m
+EndsAs (Cyclic place names) fuel printed m = Is (programs.Stopped (outcomes.Cyclic place names)) fuel printed m
 EndsAs (Run place f) fuel printed m = Is (programs.Stopped (Faulted place f)) fuel printed m
 EndsAs (Spent place) fuel printed m = Is (programs.Stopped (SpentAt place)) fuel printed m
 EndsAs NoMemory fuel printed m = IsFront printed m.printed
@@ -23,6 +25,7 @@ EndsAs NoMemory fuel printed m = IsFront printed m.printed
 -- the end of a run whose statements ended so; an output over memory stops only where memory runs out
 abbrev pub end_seen : Result Flow Stop → RunEnd
 end_seen (Ok flow) = Done
+end_seen (Err (stops.Cyclic place names)) = Cyclic place names
 end_seen (Err (stops.Fault place f)) = Run place f
 end_seen (Err (stops.Spent place)) = Spent place
 end_seen (Err stops.NoMemory) = NoMemory

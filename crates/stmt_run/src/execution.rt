@@ -7,7 +7,7 @@ ghost use Rattle.run_steps.specs.Views.{flow_seen};
 ghost use Rattle.run_state.specs.Views.{state_seen};
 ghost use Rattle.stmt_run.specs.Ending.{EndsAs, end_seen};
 
-use cbl_base::{Place, RunFault};
+use cbl_base::{Names, Place, RunFault};
 use checked_tree::Checked;
 use interpreter::{Code, Flow, run as run_tasks};
 use program_forms::pure_functions;
@@ -16,10 +16,12 @@ use run_values::Stop;
 use std::alloc::Global;
 
 /// How a run ends.
-#[derive(Clone, Copy, PartialEq, Eq, Debug)]
+#[derive(Drop, Debug)]
 pub enum RunEnd {
     /// The program ran to its end.
     Done,
+    /// A cycle of definitions at this `close`, with the names of its variables in order.
+    Cyclic(Place, Names),
     /// A fault, with its place.
     Run(Place, RunFault),
     /// The fuel is spent, at this place.
@@ -44,20 +46,21 @@ pub fn run(alloc: Global, program: &Checked, state: State, out: &mut Bytes) -> E
     let mut state = state;
     let flow = execute(alloc, program, &mut state, out);
     Ended {
-        end: end_of(&flow),
+        end: end_of(flow),
         fuel: state.fuel,
         state,
     }
 }
 
 /// How a run ends whose statements ended so.
-fn end_of(flow: &Result<Flow, Stop>) -> RunEnd
-    ensures { result ≡ end_seen flow.now }
+fn end_of(flow: Result<Flow, Stop>) -> RunEnd
+    ensures { result ≡ end_seen flow }
 {
     match flow {
         Ok(_) => RunEnd::Done,
-        Err(Stop::Fault(place, fault)) => RunEnd::Run(*place, *fault),
-        Err(Stop::Spent(place)) => RunEnd::Spent(*place),
+        Err(Stop::Cyclic(place, names)) => RunEnd::Cyclic(place, names),
+        Err(Stop::Fault(place, fault)) => RunEnd::Run(place, fault),
+        Err(Stop::Spent(place)) => RunEnd::Spent(place),
         Err(Stop::NoMemory | Stop::Output(_)) => RunEnd::NoMemory,
     }
 }
