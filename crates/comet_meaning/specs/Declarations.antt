@@ -66,10 +66,6 @@ each_cell visit (d ∷ ds) is x = each_in always (λ z y. put_named d.slot z >>=
 unfoldable pub every_cell : {A : Type 0} → (List ℤ → List A → Act (List A)) → List Dimension → Act (List A)
 every_cell visit ds = if nat_eq (cell_count ds) 0 then give [] else each_cell visit ds [] []
 
--- the numbers of all cells from the first; where there is no cell nothing is done, however many rows there are
-unfoldable pub every_cell : (List ℤ → Act (List ℤ)) → List Dimension → Act (List ℤ)
-every_cell visit ds = if nat_eq (cell_count ds) 0 then give [] else each_cell visit ds []
-
 -- the number of a cell; without a start it is 0
 unfoldable pub start_number : Level → Option Seen → Act ℤ
 start_number l None = give (pos 0)
