@@ -5,14 +5,13 @@ use Rattle.checked_tree.specs.declared.kind.Kind.{Kind}
 use Rattle.checked_tree.specs.declared.kind.Kind.TheVariants as kinds
 use Rattle.checked_tree.specs.declared.expressions.Builtin.{Builtin}
 use Rattle.checked_tree.specs.Shape.{Shape}
-use Rattle.comet_meaning.specs.Values.{Value, as_kind, number_of}
-use Rattle.comet_meaning.specs.Terms.{Term, constant}
+use Rattle.comet_meaning.specs.Values.{Value, as_kind}
+use Rattle.comet_meaning.specs.Terms.{InTerm, standing}
 use Rattle.comet_meaning.specs.Outcome.{Act, ◌>>=◌, give, charge}
 use Rattle.comet_meaning.specs.Levels.{Code, Level}
 use Rattle.comet_meaning.specs.Parts.{value, values}
 use Rattle.comet_meaning.specs.Builtins.{builtin_value}
 use Rattle.comet_meaning.specs.Expressions.{value_of_form}
-use Rattle.comet_meaning.specs.TermForms.{joined_form}
 
 -- the value of a part, as a name of this kind holds it
 abbrev pub value_as : Level → Kind → Shape → Act Value
@@ -31,10 +30,6 @@ plain_builtin l at f es = do
   _ ← charge 1 at
   builtin_value at f vs
 
--- the constant of an expression without incremental variables
-abbrev pub constant_form : Code → Level → Place → Kind → Shape → Act Term
-constant_form c l at kind form = value_of_form c l at kind form >>= λ v. give (constant (number_of v))
-
--- operands joined by operators, as one term
-abbrev pub joined_from : Level → Shape → List Shape → Act Term
-joined_from l first links = l.term first >>= joined_form l links
+-- what an expression without incremental variables stands for in a term
+abbrev pub constant_form : Code → Level → Place → Kind → Shape → Act InTerm
+constant_form c l at kind form = value_of_form c l at kind form >>= standing
