@@ -15,3 +15,4 @@ pub mod Filling
 pub mod Visiting
 pub mod Behind
 pub mod PlainLaws
+pub mod ListLaws

@@ -164,7 +164,8 @@ fn numbers_of_list(
     ensures did { (printed : List ℕ) → Does (λ numbers. numbers.items) result (state_seen s.now printed) (exactly at place count (value_seen list.now) (state_seen s.now printed)) }
 {
     let numbers = s.read_numbers(place, list)?;
-    if numbers.len() as u128 != count {
+    let cells = numbers.len();
+    if cells as u128 != count {
         return Err(Stop::Fault(at, RunFault::OutOfRange));
     }
     Ok(numbers)
