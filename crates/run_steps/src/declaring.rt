@@ -6,7 +6,7 @@ ghost use Rattle.comet_meaning.specs.Outcome.{give};
 ghost use Rattle.comet_meaning.specs.State as states;
 ghost use Rattle.comet_meaning.specs.Variables as meaning;
 ghost use Rattle.comet_meaning.specs.Variables.{beginning_with, declared, variable_kind};
-ghost use Rattle.run_solvers.specs.Views.{beginning_seen, built_seen};
+ghost use Rattle.run_solvers.specs.Views.{beginning_seen};
 ghost use Rattle.run_state.specs.Views.{state_seen};
 ghost use Rattle.run_steps.specs.Does.{Does};
 ghost use Rattle.run_steps.specs.Extents.{extent_seen};
@@ -47,7 +47,7 @@ pub fn as_free(alloc: Global, kind: VarKind, number: Result<i64, Stop>) -> Resul
 
 /// A variable begins with a definition.
 pub fn as_defined(term: Result<Built, Stop>) -> Result<Beginning, Stop>
-    ensures did { (s : states.State) → Follows built_seen beginning_seen term result s s (λ t. give (meaning.defined t)) }
+    ensures did { (s : states.State) → Follows (λ t. t) beginning_seen term result s s (λ t. give (meaning.defined t)) }
 {
     match term {
         Err(stop) => Err(stop),

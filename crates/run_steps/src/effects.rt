@@ -8,7 +8,6 @@ ghost use Rattle.comet_meaning.specs.State as states;
 ghost use Rattle.comet_meaning.specs.Values as values;
 ghost use Rattle.comet_meaning.specs.Values.{as_kind, number_of};
 ghost use Rattle.comet_meaning.specs.Writes as writes;
-ghost use Rattle.run_solvers.specs.Views.{built_seen};
 ghost use Rattle.run_state.specs.Acts.{listed, shown};
 ghost use Rattle.run_state.specs.Targets.{target_seen};
 ghost use Rattle.run_state.specs.Views.{state_seen};
@@ -244,7 +243,7 @@ pub fn step_part(
 
 /// `target <- term`, where the target is a variable.
 fn define_at(s: &mut State, at: Place, target: &Target, term: Built) -> Result<(), Stop>
-    ensures did { (printed : List ℕ) → Did (λ _. tt) result (state_seen s.new printed) (writes.defined_at at (target_seen target.now) (built_seen term) (state_seen s.old printed)) }
+    ensures did { (printed : List ℕ) → Did (λ _. tt) result (state_seen s.new printed) (writes.defined_at at (target_seen target.now) term (state_seen s.old printed)) }
 {
     match target {
         Target::Moved(variable) => define(s, at, *variable, term),
@@ -261,7 +260,7 @@ pub fn define_part(
     target: &Target,
     term: Result<Built, Stop>,
 ) -> Result<(), Stop>
-    ensures did { (printed : List ℕ) → Follows built_seen (λ _. tt) term result (state_seen s.old printed) (state_seen s.new printed) (writes.defined_at at (target_seen target.now)) }
+    ensures did { (printed : List ℕ) → Follows (λ t. t) (λ _. tt) term result (state_seen s.old printed) (state_seen s.new printed) (writes.defined_at at (target_seen target.now)) }
 {
     match term {
         Err(stop) => Err(stop),

@@ -9,7 +9,6 @@ ghost use Rattle.comet_meaning.specs.State as states;
 ghost use Rattle.comet_meaning.specs.Terms.{several_of, single_of, standing};
 ghost use Rattle.comet_meaning.specs.Values.{as_kind, bounds_of, number_of, truth_of};
 ghost use Rattle.run_state.specs.Acts.{cell_written, counted, index_written, indexed, indexed_twice};
-ghost use Rattle.run_solvers.specs.Views.{built_seen};
 ghost use Rattle.run_state.specs.InTerms.{in_term_seen, term_cells_seen};
 ghost use Rattle.run_state.specs.Targets.{target_seen};
 ghost use Rattle.run_state.specs.Views.{state_seen};
@@ -255,7 +254,7 @@ pub fn name_term(s: &State, slot: Slot) -> Result<InTerm, Stop>
 
 /// The term that stands there, and that of 0 where an array stands.
 fn single_of(term: InTerm) -> Built
-    ensures { built_seen result ≡ single_of (in_term_seen term) }
+    ensures { result ≡ single_of (in_term_seen term) }
 {
     match term {
         InTerm::Single(term) => term,
@@ -265,7 +264,7 @@ fn single_of(term: InTerm) -> Built
 
 /// What a part stands for, as one term.
 pub fn as_single(term: Result<InTerm, Stop>) -> Result<Built, Stop>
-    ensures did { (s : states.State) → Follows in_term_seen built_seen term result s s (λ t. give (single_of t)) }
+    ensures did { (s : states.State) → Follows in_term_seen (λ t. t) term result s s (λ t. give (single_of t)) }
 {
     match term {
         Err(stop) => Err(stop),
