@@ -12,7 +12,7 @@ use Rattle.run_values.specs.declared.values.Value.{Value}
 use Rattle.run_values.specs.Views.{value_seen}
 use Rattle.run_state.specs.declared.state.State.{State}
 use Rattle.run_state.specs.declared.targets.Target.{Target}
-use Rattle.run_state.specs.declared.terms.InTerm.{InTerm}
+use Rattle.run_state.specs.declared.standing.InTerm.{InTerm}
 use Rattle.run_state.specs.InTerms.{in_term_seen}
 use Rattle.run_state.specs.Targets.{target_seen}
 use Rattle.run_state.specs.Views.{state_seen}

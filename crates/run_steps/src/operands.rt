@@ -226,8 +226,8 @@ pub fn call_on(
 }
 
 /// What a value stands for in a term: a variable for itself, and an array for its cells.
-fn standing(s: &State, value: &Value) -> Result<InTerm, Stop>
-    ensures did { (printed : List ℕ) → Does in_term_seen result (state_seen s.now printed) (standing (value_seen value.now) (state_seen s.now printed)) }
+fn standing(s: &State, value: Value) -> Result<InTerm, Stop>
+    ensures did { (printed : List ℕ) → Does in_term_seen result (state_seen s.now printed) (standing (value_seen value) (state_seen s.now printed)) }
 {
     s.standing(value)
 }
@@ -238,7 +238,7 @@ pub fn as_standing(s: &State, value: Result<Value, Stop>) -> Result<InTerm, Stop
 {
     match value {
         Err(stop) => Err(stop),
-        Ok(value) => standing(s, &value),
+        Ok(value) => standing(s, value),
     }
 }
 
@@ -248,17 +248,7 @@ pub fn name_term(s: &State, slot: Slot) -> Result<InTerm, Stop>
 {
     match s.look(slot) {
         Err(stop) => Err(stop),
-        Ok(value) => standing(s, &value),
-    }
-}
-
-/// The term that stands there, and that of 0 where an array stands.
-fn single_of(term: InTerm) -> Built
-    ensures { result ≡ single_of (in_term_seen term) }
-{
-    match term {
-        InTerm::Single(term) => term,
-        InTerm::Several(_) => Built::constant(0),
+        Ok(value) => standing(s, value),
     }
 }
 
@@ -268,17 +258,7 @@ pub fn as_single(term: Result<InTerm, Stop>) -> Result<Built, Stop>
 {
     match term {
         Err(stop) => Err(stop),
-        Ok(term) => Ok(single_of(term)),
-    }
-}
-
-/// The terms of an array that stands there, and none where a single term stands.
-fn several_of(alloc: Global, term: InTerm) -> TermCells
-    ensures { term_cells_seen result ≡ several_of (in_term_seen term) }
-{
-    match term {
-        InTerm::Several(cells) => cells,
-        InTerm::Single(_) => TermCells::row(Vec::new(alloc)),
+        Ok(term) => Ok(term.single()),
     }
 }
 
@@ -288,6 +268,6 @@ pub fn as_several(alloc: Global, term: Result<InTerm, Stop>) -> Result<TermCells
 {
     match term {
         Err(stop) => Err(stop),
-        Ok(term) => Ok(several_of(alloc, term)),
+        Ok(term) => Ok(term.several(alloc)),
     }
 }

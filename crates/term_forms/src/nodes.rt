@@ -5,14 +5,14 @@ ghost use Rattle.comet_meaning.specs.Outcome.{◌>>=◌, give};
 ghost use Rattle.comet_meaning.specs.State as states;
 ghost use Rattle.comet_meaning.specs.TermForms as forms;
 ghost use Rattle.comet_meaning.specs.TermForms.{chain_op, grid_op, index_op, node_form, unary_op};
-ghost use Rattle.comet_meaning.specs.Terms.{Several, Single, term_at, term_extent, term_row};
+ghost use Rattle.comet_meaning.specs.Terms.{Several, Single, term_at, term_row};
 ghost use Rattle.comet_meaning.specs.Values.{size_of};
 ghost use Rattle.model_view.specs.Building.{constant};
 ghost use Rattle.run_state.specs.InTerms.{in_term_seen, term_cells_seen};
 ghost use Rattle.run_state.specs.Views.{state_seen};
 ghost use Rattle.run_steps.specs.Does.{Does};
 ghost use Rattle.run_steps.specs.Following.{Follows};
-ghost use Rattle.run_values.specs.Views.{bounds_seen, extent_seen};
+ghost use Rattle.run_values.specs.Views.{bounds_seen};
 ghost use Rattle.run_values.specs.declared.stop.Stop.TheVariants.{NoMemory};
 ghost use Rattle.term_forms.specs.Steps.{called_node, compared, count_node, element_node, grid_node, joined, picked, picked_twice, plane_op, unary_node};
 
@@ -22,7 +22,7 @@ use checked_tree::Builtin;
 use comet_syntax::tree::{ChainOperator, Comparison, UnaryOperator};
 use run_solvers::Built;
 use run_state::{InTerm, State, TermCells};
-use run_values::{Bounds, Extent, Stop};
+use run_values::{Bounds, Stop};
 use std::alloc::Global;
 
 /// An operation of these terms, at a place. `TooMany` term nodes there exactly where it is deeper than a term may be.
@@ -324,22 +324,13 @@ pub fn grid_with(
     }
 }
 
-/// The bounds of the indices of an array of terms.
-fn extent(cells: &TermCells) -> Extent
-    ensures { extent_seen result ≡ term_extent (term_cells_seen cells.now) }
-{
-    Extent {
-        rows: cells.rows,
-        columns: cells.columns,
-    }
-}
-
 /// The term in a cell, and that of 0 where there is no such cell.
 fn term_in(terms: Vec<Built>, cell: u128) -> Built
     ensures { result ≡ slice_index_or terms.items cell (constant (pos 0)) }
 {
     let mut terms = terms;
-    if cell < terms.len() as u128 {
+    let is_there = cell < terms.len() as u128;
+    if is_there {
         terms.swap_remove(cell as usize)
     } else {
         Built::constant(0)
@@ -363,7 +354,7 @@ pub fn pick(at: Place, cells: TermCells, index: Result<i64, Stop>) -> Result<Bui
     match index {
         Err(stop) => Err(stop),
         Ok(index) => {
-            let cell = extent(&cells).at_index(index);
+            let cell = cells.extent().at_index(index);
             cell_at(at, cells, cell)
         }
     }
@@ -381,7 +372,7 @@ pub fn pick_twice(
     match column {
         Err(stop) => Err(stop),
         Ok(column) => {
-            let cell = extent(&cells).at_indices(row, column);
+            let cell = cells.extent().at_indices(row, column);
             cell_at(at, cells, cell)
         }
     }

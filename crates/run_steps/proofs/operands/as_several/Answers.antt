@@ -9,4 +9,4 @@ pub returns-in-Err : goal.returns-in-Err
 returns-in-Err c = record { did = λ s. err_passes in_term_seen c.args.term c.in-Err.stop _ (λ t. give (several_of t)) c.in-Err.is (λ t. goes_give) }
 
 pub returns-in-Ok : goal.returns-in-Ok
-returns-in-Ok c = record { did = λ s. ok_gives in_term_seen term_cells_seen c.args.term c.in-Ok.term c.several_of.result _ several_of c.in-Ok.is c.several_of.ensures }
+returns-in-Ok c = record { did = λ s. ok_gives in_term_seen term_cells_seen c.args.term c.in-Ok.term c.several.result _ several_of c.in-Ok.is c.several.ensures }

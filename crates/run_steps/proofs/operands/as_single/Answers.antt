@@ -10,4 +10,4 @@ pub returns-in-Err : goal.returns-in-Err
 returns-in-Err c = record { did = λ s. err_passes in_term_seen c.args.term c.in-Err.stop _ (λ t. give (single_of t)) c.in-Err.is (λ t. goes_give) }
 
 pub returns-in-Ok : goal.returns-in-Ok
-returns-in-Ok c = record { did = λ s. ok_gives in_term_seen (λ (t : Term). t) c.args.term c.in-Ok.term c.single_of.result _ single_of c.in-Ok.is c.single_of.ensures }
+returns-in-Ok c = record { did = λ s. ok_gives in_term_seen (λ (t : Term). t) c.args.term c.in-Ok.term c.single.result _ single_of c.in-Ok.is c.single.ensures }
