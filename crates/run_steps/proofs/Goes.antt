@@ -1,27 +1,28 @@
 -- The parts that the code evaluates in functions of their own go onward.
-use Rattle.std.proofs.Common.{ℕ, ℤ, Bool, List, [], Option, Some, None}
+use Rattle.std.proofs.Common.{ℕ, ℤ, Bool, true, false, List, [], Option, Some, None}
 use Rattle.cbl_base.specs.declared.ids.VarId.{VarId}
 use Rattle.cbl_base.specs.declared.place.Place.{Place}
 use Rattle.checked_tree.specs.declared.kind.Kind.{Kind}
 use Rattle.checked_tree.specs.declared.expressions.Builtin.{Builtin}
 use Rattle.checked_tree.specs.declared.expressions.Slot.{Slot}
 use Rattle.checked_tree.specs.Actions.{Varying}
+use Rattle.checked_tree.specs.Tasks.{Work}
 use Rattle.checked_tree.specs.Shape.{Shape}
 use Rattle.term_model.specs.declared.model.VarDecl.{VarDecl}
 use Rattle.comet_meaning.specs.Values.{Value, Bounds}
-use Rattle.comet_meaning.specs.Outcome.{Act}
 use Rattle.comet_meaning.specs.Levels.{Code, Level, Flow}
 use Rattle.comet_meaning.specs.Declarations.{Dimension}
 use Rattle.comet_meaning.specs.Variables.{Beginning}
 use Rattle.comet_meaning.specs.Onward.{GoesOn}
-use Rattle.comet_meaning.proofs.GoingOn.{goes_then, goes_give, goes_if, goes_unless, goes_charge, goes_extent, goes_cell_of, goes_found_at, goes_new_variables, goes_put}
+use Rattle.comet_meaning.proofs.GoingOn.{goes_then, goes_give, goes_unless, goes_charge, goes_extent, goes_cell_of, goes_found_at, goes_new_variables, goes_put}
 use Rattle.comet_meaning.proofs.GoingParts.{LevelGoesOn, goes_value, goes_values, goes_read_array, goes_taken_whole}
 use Rattle.comet_meaning.proofs.GoingExpressions.{goes_builtin_value, goes_form}
 use Rattle.comet_meaning.proofs.GoingTerms.{goes_standing}
 use Rattle.comet_meaning.proofs.GoingStatements.{goes_element}
 use Rattle.comet_meaning.proofs.GoingVariables.{goes_variable_in, goes_next_variable, goes_listed_variable, goes_commit_waiting}
 use Rattle.run_state.specs.Acts.{indexed, indexed_twice, index_written, cell_written, counted, numbers_read}
-use Rattle.run_steps.specs.Operands.{added_variable, added_cell, variable_cell, exactly, made_variables, closed_block, block_body}
+use Rattle.run_steps.specs.Operands.{added_variable, added_cell, variable_cell, exactly, made_variables, closed_block}
+use Rattle.run_objects.specs.WithBlocks.{block}
 use Rattle.run_steps.specs.Parts.{value_as, plain_builtin, constant_form}
 
 pub goes_indexed : (at : Place) (v : Value) (z : ℤ) → GoesOn (indexed at v z)
@@ -74,5 +75,6 @@ goes_made_variables slot ds xs = goes_then (goes_new_variables _) (λ a. goes_pu
 pub goes_closed_block : (k : ℕ) (flow : Flow) → GoesOn (closed_block k flow)
 goes_closed_block k flow = goes_then (goes_commit_waiting k) (λ _. goes_give)
 
-pub goes_block_body : {body : Act Flow} → GoesOn body → (k : ℕ) (outermost : Bool) → GoesOn (block_body body k outermost)
-goes_block_body g k outermost = goes_if outermost (goes_then g (λ flow. goes_closed_block k flow)) g
+pub goes_block : (l : Level) → LevelGoesOn l → (k : ℕ) (body : Work) (outermost : Bool) → GoesOn (block l k body outermost)
+goes_block l h k body true = goes_then (h.stmt body) (λ flow. goes_closed_block k flow)
+goes_block l h k body false = h.stmt body

@@ -1,5 +1,5 @@
 -- What forms do once their last operand has its value. From the language.
-use Rattle.std.specs.Prelude.{ℕ, ℤ, Bool, List, [], ◌∷◌, ◌++◌, length, Option, None, Some, nat_eq, if◌then◌else◌}
+use Rattle.std.specs.Prelude.{ℕ, ℤ, List, [], ◌∷◌, ◌++◌, length, Option, None, Some, nat_eq, if◌then◌else◌}
 use Rattle.cbl_base.specs.declared.ids.VarId.{VarId}
 use Rattle.cbl_base.specs.declared.place.Place.{Place}
 use Rattle.cbl_base.specs.declared.faults.RunFault.TheVariants.{OutOfRange}
@@ -84,7 +84,3 @@ stepped_target at x t = old_value t >>= λ old. changed at t (stepped x (number_
 -- the end of the outermost `with` on a solver, whose body ended so
 abbrev pub closed_block : ℕ → Flow → Act Flow
 closed_block k flow = commit_waiting k >>= λ _. give flow
-
--- the body of a `with`, and its end where it is the outermost one
-abbrev pub block_body : Act Flow → ℕ → Bool → Act Flow
-block_body body k outermost = if outermost then (body >>= closed_block k) else body

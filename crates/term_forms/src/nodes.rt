@@ -303,8 +303,8 @@ fn grid_of(
     s.charge(count as u64, place)?;
     let op = grid_operation(&cells)?;
     let terms = before(column, cells.terms)?;
-    let terms = before(row, terms)?;
-    node_of(at, op, terms)
+    let all = before(row, terms)?;
+    node_of(at, op, all)
 }
 
 /// The same with the column's answer.
