@@ -9,12 +9,13 @@ use Rattle.checked_tree.specs.declared.expressions.Builtin.{Builtin}
 use Rattle.checked_tree.specs.declared.expressions.Method.{Method}
 use Rattle.checked_tree.specs.declared.expressions.Slot.{Slot}
 use Rattle.checked_tree.specs.Actions.{Varying}
-use Rattle.checked_tree.specs.Shape.{Shape}
+use Rattle.checked_tree.specs.Shape.{Seen, Shape, whole}
 use Rattle.comet_meaning.specs.Builtins.{builtin_value}
 use Rattle.comet_meaning.specs.Blocks.{commit_waiting}
 use Rattle.comet_meaning.specs.Cells.{look, new_array, new_variables, put}
 use Rattle.comet_meaning.specs.Declarations.{Dimension, array_of}
 use Rattle.comet_meaning.specs.Methods.{method_value}
+use Rattle.comet_meaning.specs.Parts.{value}
 use Rattle.comet_meaning.specs.Outcome.{Act, ◌>>=◌, charge, give, unless}
 use Rattle.comet_meaning.specs.Terms.{InTerm, standing}
 use Rattle.comet_meaning.specs.Values.{Bounds, Value, Variable, as_kind, number_of}
@@ -64,6 +65,10 @@ exactly at place count v = do
   xs ← numbers_read place v
   _ ← unless (nat_eq (length xs) count) at OutOfRange
   give xs
+
+-- the numbers of a list of exactly so many
+abbrev pub exact_list : Level → Place → ℕ → Seen → Act (List ℤ)
+exact_list l at count e = value l (whole e) >>= exactly at e.place count
 
 -- a new array of these variables
 abbrev pub made_variables : Slot → List Dimension → List VarId → Act (Unit {0})

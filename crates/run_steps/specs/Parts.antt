@@ -9,8 +9,10 @@ use Rattle.comet_meaning.specs.Values.{Value, as_kind}
 use Rattle.comet_meaning.specs.Terms.{InTerm, standing}
 use Rattle.comet_meaning.specs.Outcome.{Act, ◌>>=◌, give, charge}
 use Rattle.comet_meaning.specs.Levels.{Code, Level}
-use Rattle.comet_meaning.specs.Parts.{value, values}
+use Rattle.comet_meaning.specs.Parts.{number, value, values}
 use Rattle.comet_meaning.specs.Builtins.{builtin_value}
+use Rattle.comet_meaning.specs.Variables.{Beginning, beginning_with}
+use Rattle.term_model.specs.declared.model.VarKind.{VarKind}
 use Rattle.comet_meaning.specs.Expressions.{value_of_form}
 
 -- the value of a part, as a name of this kind holds it
@@ -33,3 +35,7 @@ plain_builtin l at f es = do
 -- what an expression without incremental variables stands for in a term
 abbrev pub constant_form : Code → Level → Place → Kind → Shape → Act InTerm
 constant_form c l at kind form = value_of_form c l at kind form >>= standing
+
+-- the number that a variable of this kind begins with
+abbrev pub begun_number : Level → VarKind → Shape → Act Beginning
+begun_number l k e = number l e >>= λ z. give (beginning_with k z)
