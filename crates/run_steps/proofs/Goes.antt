@@ -1,5 +1,5 @@
 -- The parts that the code evaluates in functions of their own go onward.
-use Rattle.std.proofs.Common.{ℕ, ℤ, Bool, true, false, List, [], Option, Some, None}
+use Rattle.std.proofs.Common.{◌≡◌, sym, subst, is_some, ℕ, ℤ, Bool, true, false, List, [], Option, Some, None}
 use Rattle.cbl_base.specs.declared.ids.VarId.{VarId}
 use Rattle.cbl_base.specs.declared.place.Place.{Place}
 use Rattle.checked_tree.specs.declared.kind.Kind.{Kind}
@@ -13,8 +13,14 @@ use Rattle.comet_meaning.specs.Values.{Value, Bounds}
 use Rattle.comet_meaning.specs.Levels.{Code, Level, Flow}
 use Rattle.comet_meaning.specs.Declarations.{Dimension}
 use Rattle.comet_meaning.specs.Variables.{Beginning}
-use Rattle.comet_meaning.specs.Onward.{GoesOn}
-use Rattle.comet_meaning.proofs.GoingOn.{goes_then, goes_give, goes_unless, goes_charge, goes_extent, goes_cell_of, goes_found_at, goes_new_variables, goes_put}
+use Rattle.comet_meaning.specs.Onward.{GoesOn, IsOnward, left_by}
+use Rattle.comet_meaning.specs.Blocks.{together_in}
+use Rattle.comet_meaning.specs.Outcome.{Act}
+use Rattle.comet_meaning.specs.Parts.{solver_at}
+use Rattle.comet_meaning.specs.Solvers.{SolverState}
+use Rattle.comet_meaning.specs.State.{State, left}
+use Rattle.cbl_base.specs.declared.faults.RunFault.TheVariants.{NotClosed}
+use Rattle.comet_meaning.proofs.GoingOn.{goes_then, goes_give, goes_if, goes_at, goes_unless, goes_charge, goes_extent, goes_cell_of, goes_found_at, goes_new_variables, goes_put}
 use Rattle.comet_meaning.proofs.GoingParts.{LevelGoesOn, goes_value, goes_values, goes_read_array, goes_taken_whole}
 use Rattle.comet_meaning.proofs.GoingExpressions.{goes_builtin_value, goes_form}
 use Rattle.comet_meaning.proofs.GoingTerms.{goes_standing}
@@ -23,6 +29,9 @@ use Rattle.comet_meaning.proofs.GoingVariables.{goes_variable_in, goes_next_vari
 use Rattle.run_state.specs.Acts.{indexed, indexed_twice, index_written, cell_written, counted, numbers_read}
 use Rattle.run_steps.specs.Operands.{added_variable, added_cell, variable_cell, exactly, made_variables, closed_block}
 use Rattle.run_objects.specs.WithBlocks.{block}
+use Rattle.run_objects.proofs.WithLaws.{together_law}
+use Rattle.run_solvers.specs.Opening.{opened, opening}
+use Rattle.comet_meaning.proofs.GoingModels.{goes_put_solver}
 use Rattle.run_steps.specs.Parts.{value_as, plain_builtin, constant_form}
 
 pub goes_indexed : (at : Place) (v : Value) (z : ℤ) → GoesOn (indexed at v z)
@@ -78,3 +87,14 @@ goes_closed_block k flow = goes_then (goes_commit_waiting k) (λ _. goes_give)
 pub goes_block : (l : Level) → LevelGoesOn l → (k : ℕ) (body : Work) (outermost : Bool) → GoesOn (block l k body outermost)
 goes_block l h k body true = goes_then (h.stmt body) (λ flow. goes_closed_block k flow)
 goes_block l h k body false = h.stmt body
+
+goes_opening : (k : ℕ) (m : SolverState) → GoesOn (opening k m)
+goes_opening k m = goes_if (is_some m.waiting) goes_give (goes_then (goes_put_solver k _) (λ _. goes_give))
+
+pub goes_opened : (at : Place) (k : ℕ) → GoesOn (opened at k)
+goes_opened at k = goes_at (λ s. goes_then (goes_unless (solver_at s k).closed at NotClosed) (λ _. goes_opening k (solver_at s k)))
+
+pub goes_together_in : (l : Level) → LevelGoesOn l → (at : Place) (k : ℕ) (body : Work) → GoesOn (together_in l at k body)
+goes_together_in l h at k body = goes_same (λ s. together_law l at k body s) (goes_then (goes_opened at k) (λ b. goes_block l h k body b)) where
+  goes_same : {m n : Act Flow} → ((s : State) → m s ≡ n s) → GoesOn n → GoesOn m
+  goes_same e g = record { from = λ s. subst (λ o. IsOnward (left s) (left_by o)) (sym (e s)) (g.from s) }

@@ -16,3 +16,4 @@ pub mod Visiting
 pub mod Behind
 pub mod PlainLaws
 pub mod ListLaws
+pub mod VariableLaws
