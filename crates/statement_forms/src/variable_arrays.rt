@@ -242,7 +242,7 @@ fn make_along<O: Out, W: Defining<O>>(
     }
     let mut made = cells;
     let mut index = extent.bounds.low;
-    'indices: loop {
+    'sides: loop {
         made = make_at(
             s,
             out,
