@@ -4,6 +4,7 @@ use Rattle.std.proofs.lemmas.Int.{ints}
 use Rattle.std.specs.Prelude.{int_lt, nat_abs, nat_eq, slice_get, option_map}
 use Rattle.std.proofs.lemmas.List.{at_drop_more, at_drop_all, take_rest}
 use Rattle.std.proofs.lemmas.Nat.{mul-le}
+use Rattle.std.proofs.lemmas.Bool.{ne_eqb}
 use Rattle.cbl_base.specs.declared.ids.VarId.{VarId}
 use Rattle.checked_tree.specs.declared.expressions.Slot.{Slot}
 use Rattle.comet_meaning.specs.Values.{size_of}
@@ -125,13 +126,9 @@ module _ {A : Type 0} (visit : List ℤ → A → Act A) (is : List ℤ) (x : A)
 
 -- all cells, where there is one
 module _ {A : Type 0} (visit : List ℤ → List A → Act (List A)) (ds : List Dimension) (s : State) where
-  chosen : (n : ℕ) (m k : Act (List A)) → (n ≡ 0 → ⊥) → (if nat_eq n 0 then m else k) s ≡ k s
-  chosen zero m k h = absurd (h refl)
-  chosen (suc n) m k h = refl
-
   pub all_cells : (cell_count ds ≡ 0 → ⊥) → every_cell visit ds s ≡ each_cell visit ds [] [] s
   unfolding every_cell
-  all_cells h = chosen (cell_count ds) (give []) (each_cell visit ds [] []) h
+  all_cells h = ap (λ (b : Bool). (if b then give [] else each_cell visit ds [] []) s) (ne_eqb (cell_count ds) 0 h)
 
 -- along a dimension
 

@@ -47,7 +47,7 @@ read_then (Went w t) at place n f = listed_then (read_array place w t) n at f
 read_then (Halted h k) at place n f = refl
 
 module _ (l : Level) (at : Place) (v : Varying) (d : VarDecl) (ds : List meaning.Dimension) (e : Seen) (s : State) where
-  cells : List ℤ → Act (List VarId)
+  abbrev cells : List ℤ → Act (List VarId)
   cells xs = every_cell (listed_cell at v d xs) ds
 
   pub listed_as : (n : ℕ) → n ≡ cell_count ds → listed_cells l at v d ds e s ≡ then_do (exact_list l at n e s) (λ xs. every_cell (listed_cell at v d xs) ds)
