@@ -1,5 +1,7 @@
+use Rattle.std.proofs.Common.{sym, ap}
+use Rattle.comet_meaning.specs.Outcome.{Went}
 use Rattle.comet_meaning.specs.TermForms.{moving_term}
-use Rattle.run_steps.proofs.Shapes.{form_name, form_parentheses, form_unary, form_chain, form_compare, form_index, form_cell, form_list, form_aggregate, form_builtin}
+use Rattle.run_steps.proofs.Shapes.{form_name, form_parentheses, form_unary, form_chain, form_compare, form_index, form_cell, form_list, form_set, form_aggregate, form_builtin, form_call, form_method}
 use Rattle.term_forms.proofs.terms.moving_term.Goals as goal
 
 pub returns-in-Name : goal.returns-in-Name
@@ -41,3 +43,15 @@ returns-in-Aggregate g c = record { did = rw (c.in-Aggregate.is, form_aggregate 
 pub returns-in-Builtin : goal.returns-in-Builtin
 unfolding moving_term
 returns-in-Builtin g c = record { did = rw (c.in-Builtin.is, form_builtin _ _) (c.as_in_term-in-Builtin.ensures.did _ _ (rw c.deref-in-Builtin.ensures.value at c.builtin_term.ensures.did)) }
+
+pub returns-in-Set : goal.returns-in-Set
+unfolding moving_term
+returns-in-Set g c = record { did = rw (c.in-Set.is, form_set _) (ap (λ t. Went t _) (sym c.zero-in-Set.ensures)) }
+
+pub returns-in-Call : goal.returns-in-Call
+unfolding moving_term
+returns-in-Call g c = record { did = rw (c.in-Call.is, form_call _ _) (ap (λ t. Went t _) (sym c.zero-in-Call.ensures)) }
+
+pub returns-in-Method : goal.returns-in-Method
+unfolding moving_term
+returns-in-Method g c = record { did = rw (c.in-Method.is, form_method _ _ _) (ap (λ t. Went t _) (sym c.zero-in-Method.ensures)) }
