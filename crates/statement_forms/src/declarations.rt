@@ -62,7 +62,8 @@ pub(crate) fn declare_variable<O: Out, W: Defining<O>>(
     requires defines { W.can_define inside.now }
     ensures did { Does (λ _. tt) result (state_seen s.new (O.taken out.new)) (variable_form (level (W.code inside.now) (W.depth inside.now)) at (variable_of variable.now) (state_seen s.old (O.taken out.old))) }
 {
-    if variable.dimensions.len() == 0 {
+    let count = variable.dimensions.len();
+    if count == 0 {
         declare_single(s, out, inside, at, variable)
     } else {
         declare_variables(s, out, inside, at, variable)

@@ -119,7 +119,8 @@ fn operation_of(alloc: Global, at: Place, op: Op, bodies: Vec<Body>) -> Result<I
 fn extreme_of(alloc: Global, at: Place, op: Op, bodies: Vec<Body>) -> Result<InTerm, Stop>
     ensures did { (s : State) → Does in_term_seen result s (extreme_node at op (map body_seen bodies.items) s) }
 {
-    if bodies.len() == 0 {
+    let count = bodies.len();
+    if count == 0 {
         return Err(Stop::Fault(at, RunFault::EmptyRange));
     }
     operation_of(alloc, at, op, bodies)
