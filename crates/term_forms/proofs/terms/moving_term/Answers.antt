@@ -10,7 +10,7 @@ returns-in-Name g c = record { did = rw (c.in-Name.is, form_name _) (c.name_term
 
 pub returns-in-Parentheses : goal.returns-in-Parentheses
 unfolding moving_term
-returns-in-Parentheses g c = record { did = rw (c.in-Parentheses.is, form_parentheses _) (rw c.deref-in-Parentheses.ensures at c.define.ensures.did) }
+returns-in-Parentheses g c = record { did = rw (c.in-Parentheses.is, form_parentheses _) (rw c.deref.ensures at c.define.ensures.did) }
 
 pub returns-in-Unary : goal.returns-in-Unary
 unfolding moving_term
