@@ -48,10 +48,10 @@ fn execute_inside<O: Out, W: Within<O>>(
     requires ready { W.is_ready inside.now }
     ensures did { Does flow_seen result (state_seen s.new (O.taken out.new)) (block (level (W.code inside.now) (W.depth inside.now)) (solver_of (value_seen solver.now)) (work_of body.now) outermost (state_seen s.old (O.taken out.old))) }
 {
+    let flow = inside.execute(s, out, body);
     if outermost {
-        let flow = inside.execute(s, out, body);
         commit_part(s, solver, flow)
     } else {
-        inside.execute(s, out, body)
+        flow
     }
 }
