@@ -84,7 +84,7 @@ goes_started_variables : (l : Level) → LevelGoesOn l → (at : Place) (v : Var
 goes_started_variables l h at v d ds ways.List e = goes_listed_variables l h at v d ds e
 goes_started_variables l h at v d ds w e = goes_every_cell _ ds (λ is xs. goes_next_variable l h at v d is xs)
 
-goes_variable_cells : (l : Level) → LevelGoesOn l → (at : Place) (v : Varying) (d : VarDecl) (ds : List Dimension) (x : Option Started) → GoesOn (cells_form l at v d ds x)
+pub goes_variable_cells : (l : Level) → LevelGoesOn l → (at : Place) (v : Varying) (d : VarDecl) (ds : List Dimension) (x : Option Started) → GoesOn (cells_form l at v d ds x)
 goes_variable_cells l h at v d ds None = goes_every_cell _ ds (λ is xs. goes_next_variable l h at v d is xs)
 goes_variable_cells l h at v d ds (Some x) = goes_started_variables l h at v d ds x.way x.value
 

@@ -53,7 +53,7 @@ impl State {
     }
 
     /// The numbers of an array, of which each variable is read at this place.
-    pub(crate) fn read_numbers(&self, at: Place, array: &Value) -> Result<Vec<i64>, Stop>
+    pub fn read_numbers(&self, at: Place, array: &Value) -> Result<Vec<i64>, Stop>
         ensures did { (printed : List ℕ) → Did (λ numbers. numbers.items) result (state_seen self.now printed) (numbers_read at (value_seen array.now) (state_seen self.now printed)) }
         ensures stop { IfErr result IsFaultOrMemory }
     {

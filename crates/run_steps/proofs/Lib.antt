@@ -15,3 +15,5 @@ pub mod Filling
 pub mod Visiting
 pub mod Behind
 pub mod PlainLaws
+pub mod ListLaws
+pub mod VariableLaws

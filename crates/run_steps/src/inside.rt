@@ -4,6 +4,7 @@ ghost use Rattle.std.specs.Prelude.{◌≡◌, ℕ, List};
 ghost use Rattle.checked_tree.specs.Tasks.{work_of};
 ghost use Rattle.comet_meaning.specs.Levels as levels;
 ghost use Rattle.comet_meaning.specs.Program.{level};
+ghost use Rattle.run_state.specs.InTerms.{in_term_seen};
 ghost use Rattle.run_state.specs.Targets.{target_seen};
 ghost use Rattle.run_state.specs.Views.{state_seen};
 ghost use Rattle.run_steps.specs.Does.{Does};
@@ -13,8 +14,7 @@ ghost use Rattle.run_values.specs.Views.{value_seen};
 
 use crate::code::{Code, Flow};
 use checked_tree::{Task, Typed};
-use run_models::Term;
-use run_state::{Out, State, Target};
+use run_state::{InTerm, Out, State, Target};
 use run_values::{Stop, Value};
 
 /// How the parts inside a part are executed: each with the program's functions, and with room for so many parts inside
@@ -49,10 +49,10 @@ pub trait Defining<O: Out>: Within<O> {
     /// Whether terms may be asked for.
     ghost can_define: { Self → Type 0 };
 
-    /// The term of an expression.
-    fn define(&self, s: &mut State, out: &mut O, e: &Typed) -> Result<Term, Stop>
+    /// What an expression stands for in a term.
+    fn define(&self, s: &mut State, out: &mut O, e: &Typed) -> Result<InTerm, Stop>
         requires { can_define self.now }
-        ensures did { Does (λ t. t) result (state_seen s.new (O.taken out.new)) ((level (Self.code self.now) (Self.depth self.now)).term (part e.now) (state_seen s.old (O.taken out.old))) };
+        ensures did { Does in_term_seen result (state_seen s.new (O.taken out.new)) ((level (Self.code self.now) (Self.depth self.now)).term (part e.now) (state_seen s.old (O.taken out.old))) };
 }
 
 /// The same, where parts are written, too.
@@ -111,12 +111,12 @@ impl<
     O: Out,
     V: Fn(&mut State, &mut O, &Typed) -> Result<Value, Stop>,
     X: Fn(&mut State, &mut O, &Task) -> Result<Flow, Stop>,
-    T: Fn(&mut State, &mut O, &Typed) -> Result<Term, Stop>,
+    T: Fn(&mut State, &mut O, &Typed) -> Result<InTerm, Stop>,
     L,
 > Defining<O> for Inside<'a, 'p, V, X, T, L> {
     ghost can_define = { λ i. T.IsAlwaysCallable i.define × Defines O.taken (T.post i.define) (code_seen i.code.now) i.room };
 
-    fn define(&self, s: &mut State, out: &mut O, e: &Typed) -> Result<Term, Stop> {
+    fn define(&self, s: &mut State, out: &mut O, e: &Typed) -> Result<InTerm, Stop> {
         (self.define)(s, out, e)
     }
 }
@@ -127,7 +127,7 @@ impl<
     O: Out,
     V: Fn(&mut State, &mut O, &Typed) -> Result<Value, Stop>,
     X: Fn(&mut State, &mut O, &Task) -> Result<Flow, Stop>,
-    T: Fn(&mut State, &mut O, &Typed) -> Result<Term, Stop>,
+    T: Fn(&mut State, &mut O, &Typed) -> Result<InTerm, Stop>,
     L: Fn(&mut State, &mut O, &Typed) -> Result<Target, Stop>,
 > Around<O> for Inside<'a, 'p, V, X, T, L> {
     ghost can_locate = { λ i. L.IsAlwaysCallable i.locate × Locates O.taken (L.post i.locate) (code_seen i.code.now) i.room };

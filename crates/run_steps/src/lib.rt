@@ -5,8 +5,10 @@
 //! does what the meaning of programs says, and the views of functions and flows.
 #![tactic(auto)]
 
+pub mod blocks;
 pub mod cells;
 pub mod code;
+pub mod declaring;
 pub mod effects;
 pub mod inside;
 pub mod leaves;

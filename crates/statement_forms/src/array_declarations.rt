@@ -1,5 +1,5 @@
 //! Declarations of arrays with dimensions.
-ghost use Rattle.std.specs.Prelude.{◌≡◌, ◌≤◌, ◌*◌, suc, ℕ, List, [], IfOk, map, nat_le, option_map, slice_get};
+ghost use Rattle.std.specs.Prelude.{◌≡◌, ◌≤◌, ◌*◌, suc, ℕ, ℤ, List, [], IfOk, map, nat_le, option_map, slice_get};
 ghost use Rattle.std.specs.Option.{option_copied};
 ghost use Rattle.cbl_base.specs.declared.faults.Limit.TheVariants as limits;
 ghost use Rattle.cbl_base.specs.declared.faults.RunFault.TheVariants.{TooMany};
@@ -49,7 +49,7 @@ pub(crate) fn declare_array<O: Out, W: Within<O>>(
 }
 
 /// The bounds of dimensions, evaluated in order.
-fn extents_of<O: Out, W: Within<O>>(
+pub(crate) fn extents_of<O: Out, W: Within<O>>(
     s: &mut State,
     out: &mut O,
     inside: &W,
@@ -129,8 +129,9 @@ fn listed_numbers<O: Out, W: Within<O>>(
     requires ready { W.is_ready inside.now }
     ensures did { Does (λ numbers. numbers.items) result (state_seen s.new (O.taken out.new)) (listed_form (level (W.code inside.now) (W.depth inside.now)) at count (seen list.now) (state_seen s.old (O.taken out.old))) }
 {
+    let place = list.place;
     let list = value_of(s, out, inside, list);
-    take_list(s, at, count, list)
+    take_list(s, at, place, count, list)
 }
 
 /// Puts the numbers of the cells that these dimensions have behind those so far.
@@ -145,7 +146,7 @@ fn fill<O: Out, W: Within<O>>(
     numbers: Vec<i64>,
 ) -> Result<Vec<i64>, Stop>
     requires ready { W.is_ready inside.now }
-    ensures did { Does (λ numbers. numbers.items) result (state_seen s.new (O.taken out.new)) (each_cell (next_cell (level (W.code inside.now) (W.depth inside.now)) at (option_map seen (option_copied value.entry))) (map extent_seen extents.now) numbers.items (state_seen s.old (O.taken out.old))) }
+    ensures did { (is : List ℤ) → Does (λ numbers. numbers.items) result (state_seen s.new (O.taken out.new)) (each_cell (next_cell (level (W.code inside.now) (W.depth inside.now)) at (option_map seen (option_copied value.entry))) (map extent_seen extents.now) is numbers.items (state_seen s.old (O.taken out.old))) }
 {
     match extents.first() {
         None => push_cell(s, out, inside, at, value, numbers),
@@ -166,7 +167,7 @@ fn fill_along<O: Out, W: Within<O>>(
     numbers: Vec<i64>,
 ) -> Result<Vec<i64>, Stop>
     requires ready { W.is_ready inside.now }
-    ensures did { Does (λ numbers. numbers.items) result (state_seen s.new (O.taken out.new)) (along (next_cell (level (W.code inside.now) (W.depth inside.now)) at (option_map seen (option_copied value.entry))) (extent_seen extent) (map extent_seen later.now) numbers.items (state_seen s.old (O.taken out.old))) }
+    ensures did { (is : List ℤ) → Does (λ numbers. numbers.items) result (state_seen s.new (O.taken out.new)) (along (next_cell (level (W.code inside.now) (W.depth inside.now)) at (option_map seen (option_copied value.entry))) (extent_seen extent) (map extent_seen later.now) is numbers.items (state_seen s.old (O.taken out.old))) }
 {
     let is_empty = extent.bounds.up < extent.bounds.low;
     if is_empty {
@@ -199,7 +200,7 @@ fn fill_at<O: Out, W: Within<O>>(
     numbers: Vec<i64>,
 ) -> Result<Vec<i64>, Stop>
     requires ready { W.is_ready inside.now }
-    ensures did { Does (λ numbers. numbers.items) result (state_seen s.new (O.taken out.new)) (at_index (next_cell (level (W.code inside.now) (W.depth inside.now)) at (option_map seen (option_copied value.entry))) slot (map extent_seen later.now) index numbers.items (state_seen s.old (O.taken out.old))) }
+    ensures did { (is : List ℤ) → Does (λ numbers. numbers.items) result (state_seen s.new (O.taken out.new)) (at_index (next_cell (level (W.code inside.now) (W.depth inside.now)) at (option_map seen (option_copied value.entry))) slot (map extent_seen later.now) is index numbers.items (state_seen s.old (O.taken out.old))) }
 {
     put_named(s, slot, index)?;
     fill(s, out, inside, at, value, later, numbers)
@@ -216,7 +217,7 @@ fn push_cell<O: Out, W: Within<O>>(
     numbers: Vec<i64>,
 ) -> Result<Vec<i64>, Stop>
     requires ready { W.is_ready inside.now }
-    ensures did { Does (λ numbers. numbers.items) result (state_seen s.new (O.taken out.new)) (next_cell (level (W.code inside.now) (W.depth inside.now)) at (option_map seen (option_copied value.entry)) numbers.items (state_seen s.old (O.taken out.old))) }
+    ensures did { (is : List ℤ) → Does (λ numbers. numbers.items) result (state_seen s.new (O.taken out.new)) (next_cell (level (W.code inside.now) (W.depth inside.now)) at (option_map seen (option_copied value.entry)) is numbers.items (state_seen s.old (O.taken out.old))) }
 {
     s.charge(1, at)?;
     push_number(numbers, start_number(s, out, inside, value))

@@ -12,4 +12,6 @@ mod loops;
 mod printing;
 pub mod statements;
 pub mod targets;
+mod together;
+mod variable_arrays;
 mod writes;

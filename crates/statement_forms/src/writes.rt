@@ -2,7 +2,7 @@
 ghost use Rattle.std.specs.Prelude.{◌≡◌, ◌+ℤ◌, ◌-ℤ◌, ℕ, List};
 ghost use Rattle.checked_tree.specs.Shape.{seen};
 ghost use Rattle.comet_meaning.specs.Program.{level};
-ghost use Rattle.comet_meaning.specs.Writes.{add_form, assign_form, step_form, write_form};
+ghost use Rattle.comet_meaning.specs.Writes.{add_form, assign_form, define_form, step_form, swap_form, write_form};
 ghost use Rattle.run_steps.specs.Does.{Does};
 ghost use Rattle.run_state.specs.Views.{state_seen};
 
@@ -12,9 +12,10 @@ use checked_tree::Typed;
 use comet_syntax::tree::{Step, WriteOperator};
 use expression_forms::expressions::{number_of, value_of};
 use run_state::{Out, State};
-use run_steps::effects::{add_part, assign_part, step_part, subtract_part};
+use run_steps::effects::{add_part, assign_part, define_part, step_part, subtract_part, swap_part};
 use run_steps::inside::Around;
 use run_values::Stop;
+use term_forms::parts::single_term;
 
 /// `target = value` and its like, at a place.
 #[tactic(auto, unfolding(comet_meaning::specs::Writes::write_form))]
@@ -28,6 +29,7 @@ pub(crate) fn write_value<O: Out, W: Around<O>>(
     value: &Typed,
 ) -> Result<(), Stop>
     requires ready { W.is_ready inside.now }
+    requires defines { W.can_define inside.now }
     requires locates { W.can_locate inside.now }
     ensures did { Does (λ _. tt) result (state_seen s.new (O.taken out.new)) (write_form (level (W.code inside.now) (W.depth inside.now)) at operator (seen target.now) (seen value.now) (state_seen s.old (O.taken out.old))) }
 {
@@ -36,7 +38,7 @@ pub(crate) fn write_value<O: Out, W: Around<O>>(
         WriteOperator::Assign => assign(s, out, inside, at, target, value),
         WriteOperator::Add => add_value(s, out, inside, at, target, value),
         WriteOperator::Subtract => subtract_value(s, out, inside, at, target, value),
-        WriteOperator::Define => Ok(()),
+        WriteOperator::Define => define_value(s, out, inside, at, target, value),
     }
 }
 
@@ -98,6 +100,43 @@ fn subtract_value<O: Out, W: Around<O>>(
     let old = s.old_value(&target)?;
     let number = number_of(s, out, inside, value);
     subtract_part(s, at, &target, &old, number)
+}
+
+/// `target <- term`
+#[tactic(auto, unfolding(comet_meaning::specs::Writes::define_form))]
+fn define_value<O: Out, W: Around<O>>(
+    s: &mut State,
+    out: &mut O,
+    inside: &W,
+    at: Place,
+    target: &Typed,
+    term: &Typed,
+) -> Result<(), Stop>
+    requires defines { W.can_define inside.now }
+    requires locates { W.can_locate inside.now }
+    ensures did { Does (λ _. tt) result (state_seen s.new (O.taken out.new)) (define_form (level (W.code inside.now) (W.depth inside.now)) at (seen target.now) (seen term.now) (state_seen s.old (O.taken out.old))) }
+{
+    let target = target_of(s, out, inside, target)?;
+    let term = single_term(s, out, inside, term);
+    define_part(s, at, &target, term)
+}
+
+/// `left :=: right`
+#[tactic(auto, unfolding(comet_meaning::specs::Writes::swap_form))]
+pub(crate) fn swap_values<O: Out, W: Around<O>>(
+    s: &mut State,
+    out: &mut O,
+    inside: &W,
+    at: Place,
+    left: &Typed,
+    right: &Typed,
+) -> Result<(), Stop>
+    requires locates { W.can_locate inside.now }
+    ensures did { Does (λ _. tt) result (state_seen s.new (O.taken out.new)) (swap_form (level (W.code inside.now) (W.depth inside.now)) at (seen left.now) (seen right.now) (state_seen s.old (O.taken out.old))) }
+{
+    let left = target_of(s, out, inside, left)?;
+    let right = target_of(s, out, inside, right);
+    swap_part(s, at, &left, right)
 }
 
 /// `target++` and `target--`

@@ -1,6 +1,7 @@
 use Rattle.std.proofs.Common.{refl}
 use Rattle.comet_meaning.proofs.GoingOn.{goes_then, goes_new_array, goes_put, goes_unless}
-use Rattle.comet_meaning.proofs.GoingStatements.{goes_level, goes_numbers}
+use Rattle.comet_meaning.proofs.GoingStatements.{goes_level}
+use Rattle.comet_meaning.proofs.GoingDeclarations.{goes_numbers}
 use Rattle.run_state.specs.Views.{state_seen}
 use Rattle.std.proofs.lemmas.Result.{err_from_is_err_and}
 use Rattle.comet_meaning.specs.Declarations.{array_form}

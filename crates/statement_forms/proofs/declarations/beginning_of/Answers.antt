@@ -1,5 +1,11 @@
-use Rattle.comet_meaning.specs.Models.{beginning_form}
+use Rattle.std.proofs.Common.{sym, ap}
+use Rattle.comet_meaning.specs.Outcome.{Went}
+use Rattle.comet_meaning.specs.Variables.{beginning_form}
 use Rattle.statement_forms.proofs.declarations.beginning_of.Goals as goal
+
+pub returns-in-None : goal.returns-in-None
+unfolding beginning_form
+returns-in-None g c = record { did = rw c.in-None.is (ap (λ b. Went b _) (sym c.begins_with.ensures)) }
 
 pub returns-in-Some : goal.returns-in-Some
 unfolding beginning_form

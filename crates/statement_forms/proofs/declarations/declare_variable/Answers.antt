@@ -1,15 +1,10 @@
-use Rattle.comet_meaning.proofs.GoingExpressions.{goes_beginning, goes_new_variable}
-use Rattle.comet_meaning.proofs.GoingOn.{goes_then, goes_look, goes_put}
-use Rattle.comet_meaning.proofs.GoingStatements.{goes_level}
-use Rattle.std.proofs.lemmas.Result.{err_from_is_err_and}
-use Rattle.comet_meaning.specs.Models.{variable_form}
-use Rattle.run_steps.proofs.Stops.{ended_then}
+use Rattle.std.proofs.Common.{◌≡◌, sym, subst, arith, length}
+use Rattle.run_steps.specs.Does.{Does}
+use Rattle.run_steps.proofs.VariableLaws.{variable_single, variable_several}
 use Rattle.statement_forms.proofs.declarations.declare_variable.Goals as goal
 
-pub returns-in_err-domain : goal.returns-in_err-domain
-unfolding variable_form
-returns-in_err-domain g c = let p = err_from_is_err_and c.from_residual.result c.from_residual.ensures.1 in record { did = rw (p.1, p.2) (ended_then _ _ _ _ (λ d. goes_then (goes_beginning _ (goes_level _ _) _) (λ b. goes_then (goes_look _) (λ m. goes_then (goes_new_variable _ _ _ _) (λ x. goes_put _ x)))) c.in_err-domain.ensures.did) }
+pub returns-then-count-eq0 : goal.returns-then-count-eq0
+returns-then-count-eq0 g c = record { did = subst (Does _ _ _) (sym (variable_single _ _ _ _ (omega (arith, c.if-count-eq0.true, c.len-count.ensures, c.args.variable.now.dimensions.ok.0)))) c.declare_single.ensures.did }
 
-pub returns : goal.returns
-unfolding variable_form
-returns g c = record { did = rw c.in_ok-domain.ensures.did (c.begin_variable.ensures.did _ _ c.beginning_of-beginning.ensures.did) }
+pub returns-else-count-eq0 : goal.returns-else-count-eq0
+returns-else-count-eq0 g c = record { did = subst (Does _ _ _) (sym (variable_several _ _ _ _ (λ none. c.if-count-eq0.false (omega (arith, none, c.len-count.ensures, c.args.variable.now.dimensions.ok.0))))) c.declare_variables.ensures.did }

@@ -1,4 +1,4 @@
-use Rattle.comet_meaning.specs.Models.{domain_form}
+use Rattle.comet_meaning.specs.Variables.{domain_form}
 use Rattle.statement_forms.proofs.declarations.domain_of.Goals as goal
 
 pub returns-in-Some : goal.returns-in-Some

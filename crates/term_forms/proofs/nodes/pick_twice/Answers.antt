@@ -1,0 +1,14 @@
+use Rattle.std.proofs.Common.{rules, ℤ, w64, FitsSigned}
+use Rattle.std.proofs.lemmas.Int.{to_z-of_z}
+use Rattle.comet_meaning.proofs.GoingOn.{goes_then, goes_give, goes_found_at}
+use Rattle.run_state.specs.InTerms.{term_cells_seen}
+use Rattle.term_forms.specs.Steps.{picked_twice}
+use Rattle.term_model.specs.declared.term.Term.{Term}
+use Rattle.run_steps.proofs.Behind.{err_passes, ok_does}
+use Rattle.term_forms.proofs.nodes.pick_twice.Goals as goal
+
+pub returns-in-Err : goal.returns-in-Err
+returns-in-Err c = record { did = λ s. err_passes (λ (z : ℤ). z) c.args.column c.in-Err.stop _ (picked_twice c.args.at (term_cells_seen c.args.cells) c.args.row) c.in-Err.is (λ z. goes_then (goes_found_at _ _) (λ k. goes_give)) }
+
+pub returns-in-Ok : goal.returns-in-Ok
+returns-in-Ok c = record { did = λ s. let f : FitsSigned w64 c.in-Ok.column = search rules in ok_does (λ (z : ℤ). z) (λ (t : Term). t) c.args.column c.in-Ok.column _ _ _ (picked_twice c.args.at (term_cells_seen c.args.cells) c.args.row) c.in-Ok.is (rw (c.at_indices-cell.ensures, c.extent.ensures, to_z-of_z w64 c.args.row c.ranges.row, to_z-of_z w64 c.in-Ok.column f) at (c.cell_at.ensures.did s)) }
