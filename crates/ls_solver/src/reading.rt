@@ -132,7 +132,6 @@ impl Solver {
     /// isn't this solver's. It never wants memory.
     pub fn domain(&self, x: VarId) -> Result<(i64, i64), SolverFault>
         requires usable { self.now.usable ≡ true }
-        requires kind { is_own self.now x ≡ true → kinds_in self.now.model.vars.items x.index ≡ Some number_kind }
         ensures answer { Tells (domain_refusal self.now x) result }
         ensures domain { IfOk result (λ d. option_map (λ decl. (decl.low, decl.up)) (slice_get self.now.model.vars.items x.index) ≡ Some d) }
     {
