@@ -1,1 +1,12 @@
 pub mod Acts
+pub mod AddLaws
+pub mod BuiltLaws
+pub mod CloseLaws
+pub mod CommitLaws
+pub mod CycleLaws
+pub mod DefineLaws
+pub mod FoundSolvers
+pub mod NewLaws
+pub mod SeenLaws
+pub mod ValueLaws
+pub mod WaitingLaws
