@@ -38,30 +38,26 @@ module _ (S T : solvers.SolverState) (names : List (List ℕ)) (waiting : Option
   abbrev m : SolverState
   m = solver_seen S names waiting
 
-  made_by : Bool → Bool → Made
+  abbrev made_by : Bool → Bool → Made
   made_by b c = if b then refused at AlreadyClosed else (if c then Ok (with_variable m d name z) else refused at (TooMany Variables))
 
-  refusal_by : Bool → Bool → Option RunFault
+  abbrev refusal_by : Bool → Bool → Option RunFault
   refusal_by b c = if b then Some AlreadyClosed else (if c then None else Some (TooMany Variables))
 
   declared_tests : declared_one at d name z m ≡ made_by S.closed (nat_lt (length S.model.vars.items) MAX_VARIABLES)
-  unfolding made_by
   declared_tests = ap (λ n. if S.closed then refused at AlreadyClosed else (if nat_lt n MAX_VARIABLES then Ok (with_variable m d name z) else refused at (TooMany Variables))) (count_seen S names waiting)
 
   made_refused : (b c : Bool) (f : RunFault) → refusal_by b c ≡ Some f → made_by b c ≡ refused at f
-  unfolding made_by refusal_by
   made_refused true c f e = let same : AlreadyClosed ≡ f = cc in ap (refused at) same
   made_refused false true f e = let no_ : None ≡ Some f = e in cc
   made_refused false false f e = let same : TooMany Variables ≡ f = cc in ap (refused at) same
 
   made_free : (b c : Bool) → refusal_by b c ≡ None → (b ≡ false) × (made_by b c ≡ Ok (with_variable m d name z))
-  unfolding made_by refusal_by
   made_free true c e = let no_ : Some AlreadyClosed ≡ None = e in cc
   made_free false true e = (refl, refl)
   made_free false false e = let no_ : Some (TooMany Variables) ≡ None = e in cc
 
   refusal_is : variable_refusal S ≡ refusal_by S.closed (nat_lt (length S.model.vars.items) MAX_VARIABLES)
-  unfolding refusal_by
   refusal_is = refl
 
   pub declares_stops : (fault : SolverFault) (stop : Stop) → IsRefusal (variable_refusal S) fault → StopsAs at names fault stop → Ends stop (declared_one at d name z m)
