@@ -1,8 +1,9 @@
 -- Solvers by their numbers: what is done to one that is there is done to the state, and one that isn't there has no
 -- variables.
 use Rattle.std.proofs.Common.{◌≡◌, ℕ, zero, suc, ◌<◌, ◌≤◌, ◌+◌, ℤ, Bool, true, false, not, ◌&&◌, ◌||◌, List, [], ◌∷◌, ◌++◌, Option, Some, None, Result, Ok, Err, IfOk, ◌⊎◌, inl, inr, length, get_or, set, map, refl, sym, ap, ◌∙◌, subst, arith, rules, slice_get, nat_eq}
-use Rattle.std.specs.Prelude.{IfErr, is_some, nat_lt, if◌then◌else◌}
+use Rattle.std.specs.Prelude.{IfErr, OnOk, is_some, nat_lt, if◌then◌else◌}
 use Rattle.std.proofs.lemmas.List.{get_or-map, get_or_past, length-map, map-set, set_past}
+use Rattle.std.proofs.lemmas.Option.{slice_get-get_or}
 use Rattle.cbl_base.proofs.PlaceLemmas.{others_stay}
 use native.Mathlib.Decide.{ℕ_discrete}
 use Rattle.cbl_base.specs.declared.ids.VarId.{VarId}
@@ -18,25 +19,26 @@ use Rattle.term_model.proofs.VarLaws.{set_same}
 use Rattle.comet_meaning.specs.Values.{Value}
 use Rattle.comet_meaning.specs.Solvers.{SolverState, new_solver, has_variable, is_defined, fresh_values, variable_count}
 use Rattle.comet_meaning.specs.State.{State, left}
-use Rattle.comet_meaning.specs.Outcome.{Outcome, Went, Halted, Faulted, SpentAt, Cyclic, Act, fault}
+use Rattle.comet_meaning.specs.Outcome.{Outcome, Went, Halted, Faulted, SpentAt, Cyclic, Act, ◌>>=◌, fault, give}
 use Rattle.comet_meaning.specs.Parts.{solver_at, variable_value}
 use Rattle.comet_meaning.specs.Limits.{most_variables}
-use Rattle.comet_meaning.specs.Models.{owns, exchanged, term_for, has_room}
+use Rattle.comet_meaning.specs.Models.{owns, exchanged, term_for, has_room, put_solver}
 use Rattle.comet_meaning.specs.Variables.{Beginning, free, defined, next_variable, first_number, with_variable}
 use Rattle.run_values.specs.Did.{Did, Stopped, IsFaultOrMemory}
 use Rattle.run_values.specs.declared.stop.Stop.{Stop}
 use Rattle.run_values.specs.declared.stop.Stop.TheVariants as stops
 use Rattle.run_values.specs.declared.stop.Stop.TheVariants.{Fault, Spent, NoMemory, Output}
-use Rattle.run_solvers.specs.Changing.{Made, by_values, evaluated, moved_one, assigned_one, swapped_one, defined_one, begun_one, added_one, committed_one, opened_one, changed, changed_where, refused}
+use Rattle.run_solvers.specs.Changing.{Made, by_values, evaluated, moved_one, assigned_one, swapped_one, defined_one, begun_one, added_one, committed_one, opened_one, changed, changed_where, refused, waiting_now}
 use Rattle.run_solvers.specs.Kept.{AreKept, IsKept}
 use Rattle.run_solvers.specs.Makes.{Changes, Ends, Makes, Tries, made_or}
-use Rattle.run_solvers.specs.Opening.{opened}
+use Rattle.run_solvers.specs.Opening.{opened, opening}
 use Rattle.run_solvers.specs.Stopping.{IsEndOrMemory}
 use Rattle.run_solvers.specs.Views.{held_seen}
 use Rattle.run_solvers.specs.declared.held.Held.{Held}
+use Rattle.run_solvers.proofs.Acts.{tested}
 
 -- ---- a change that was made, or that was broken off
-pub finished : {X : Type 0} (old mid new : Held) (made result : Result X Stop) (meant : Made) → Tries old mid made meant → result ≡ made → IsKept new → new.number ≡ mid.number → IfOk made (λ x. new ≡ mid) → Changes old new result meant
+pub finished : {X : Type 0} (old mid new : Held) (made result : Result X Stop) (meant : Made) → Tries old mid made meant → result ≡ made → IsKept new → new.number ≡ mid.number → OnOk made (new ≡ mid) → Changes old new result meant
 finished old mid new (Ok x) result meant tried same kept number unchanged = record {
   meant = subst (λ r. Makes (held_seen new) r meant) (sym same) (subst (λ (h : Held). meant ≡ Ok (held_seen h)) (sym unchanged) tried.meant);
   kept = kept;
@@ -86,6 +88,11 @@ module _ (held : List Held) (are : AreKept held) (k : ℕ) (new : Held) where
       rules_at j h (inl old) = (are.numbered j h old, are.kept j h old)
       rules_at j h (inr e) = subst (HasRules j) e.1 (number ∙ sym e.0, kept)
 
+pub kept_there : (held : List Held) (k : ℕ) (h : Held) → AreKept held → k < length held → h ≡ get_or held k h → (h.number ≡ k) × IsKept h
+kept_there held k h are lt there =
+    let at : slice_get held k ≡ Some h = slice_get-get_or held k h lt ∙ ap Some (sym there) in
+    (are.numbered k h at, are.kept k h at)
+
 -- ---- by their numbers
 
 pub found : (held : List Held) (k : ℕ) (h : Held) (s : State) → s.solvers ≡ map held_seen held → k < length held → h ≡ get_or held k h → solver_at s k ≡ held_seen h
@@ -110,6 +117,15 @@ does view x k s held new (Ok y) meant is same h =
     ∙ ap (λ z. Went z (record s { solvers = set s.solvers k (held_seen new) })) (sym same)
     ∙ ap (λ (ms : List SolverState). Went (view y) (record s { solvers = ms })) (ap (λ (ms : List SolverState). set ms k (held_seen new)) is ∙ sym (map-set held_seen held k new))
 does view x k s held new (Err stop) meant is same h = stopped stop x k s (map held_seen (set held k new)) meant h
+
+constant : {X A : Type 0} (x : A) (r : Result X Stop) → IfOk r (λ y. x ≡ x)
+constant x (Ok y) = refl
+constant x (Err stop) = tt
+
+-- the same where what is answered is always one
+pub does_so : {X A : Type 0} (x : A) (k : ℕ) (s : State) (held : List Held) (new : Held) (r : Result X Stop) (meant : Made) →
+    s.solvers ≡ map held_seen held → Makes (held_seen new) r meant → Did (λ y. x) r (record s { solvers = map held_seen (set held k new) }) (changed x k meant s)
+does_so x k s held new r meant is h = does (λ y. x) x k s held new r meant is (constant x r) h
 
 -- ---- why it stops
 
@@ -215,14 +231,14 @@ put_back : {A : Type 0} (x : A) (k : ℕ) (s : State) → changed x k (Ok (solve
 put_back x k s = ap (λ (ms : List SolverState). Went x (record s { solvers = ms })) (same_place s.solvers k new_solver)
 
 pub opens : (at : Place) (k : ℕ) (s : State) → opened at k s ≡ changed (not (is_some (solver_at s k).waiting)) k (opened_one at (solver_at s k)) s
-opens at k s = by (solver_at s k).closed (solver_at s k).waiting refl
+opens at k s =
+    tested (solver_at s k).closed at NotClosed (not (is_some (solver_at s k).waiting)) k (λ u. opening k (solver_at s k)) (Ok (record (solver_at s k) { waiting = waiting_now (solver_at s k) })) s (inner (solver_at s k).waiting refl)
   where
-    by : (closed : Bool) (waiting : Option (List ℤ)) → (solver_at s k).waiting ≡ waiting →
-        (if closed then (if is_some waiting then Went false s else Went true (record s { solvers = set s.solvers k (record (solver_at s k) { waiting = Some (solver_at s k).assignment }) })) else Halted (Faulted at NotClosed) (left s))
-        ≡ changed (not (is_some waiting)) k (if closed then Ok (record (solver_at s k) { waiting = if is_some waiting then waiting else Some (solver_at s k).assignment }) else refused at NotClosed) s
-    by false waiting e = refl
-    by true None e = refl
-    by true (Some a) e = sym (put_back false k s) ∙ ap (λ (w : Option (List ℤ)). changed false k (Ok (record (solver_at s k) { waiting = w })) s) e
+    inner : (w : Option (List ℤ)) → (solver_at s k).waiting ≡ w →
+        (if is_some w then give false else (put_solver k (record (solver_at s k) { waiting = Some (solver_at s k).assignment }) >>= λ u. give true)) s
+        ≡ changed (not (is_some w)) k (Ok (record (solver_at s k) { waiting = if is_some w then w else Some (solver_at s k).assignment })) s
+    inner None e = refl
+    inner (Some a) e = sym (put_back false k s) ∙ ap (λ (v : Option (List ℤ)). changed false k (Ok (record (solver_at s k) { waiting = v })) s) e
 
 pub commits_or : (k : ℕ) (s : State) (made : Option Made) → changed_where k made s ≡ changed tt k (made_or (solver_at s k) made) s
 commits_or k s None = sym (put_back tt k s)

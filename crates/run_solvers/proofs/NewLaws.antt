@@ -19,6 +19,7 @@ pub new_seen : (number : ℕ) (S : solvers.SolverState) → IsNew number S → s
 new_seen number S new = rw (empty_plain S.model new.vars new.defs new.systems new.objectives new.posted, new.assignment, new.closed) refl
 
 pub new_kept : (number : ℕ) (S : solvers.SolverState) → IsNew number S → IsWhole number S [] None × HasDefinedSets S.model
-new_kept number S new =
-    (record { number_ = new.numbered; usable = new.usable; named = sym (ap length new.vars); waits_ = tt },
-     λ i lt none. absurd (let count : length S.model.vars.items ≡ 0 = ap length new.vars in omega (arith, lt, count)))
+new_kept number S new = (
+  record { number_ = new.numbered; usable = new.usable; named = sym (ap length new.vars); waits_ = tt },
+  λ i lt none. absurd (let count : length S.model.vars.items ≡ 0 = ap length new.vars in omega (arith, lt, count)),
+)

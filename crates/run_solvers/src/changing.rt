@@ -25,7 +25,7 @@ impl Held {
     pub(crate) fn assign(&mut self, at: Place, variable: VarId, number: i64) -> Result<(), Stop>
         requires kept { IsKept self.old }
         requires own { variable.solver ≡ self.old.number }
-        ensures changes { Changes self.old self.new result (assigned_one at variable number (held_seen self.old)) }
+        ensures { Changes self.old self.new result (assigned_one at variable number (held_seen self.old)) }
     {
         let made = self.try_assign(at, variable, number);
         self.finish(made)
@@ -35,7 +35,7 @@ impl Held {
     fn try_assign(&mut self, at: Place, variable: VarId, number: i64) -> Result<(), Stop>
         requires kept { IsKept self.old }
         requires own { variable.solver ≡ self.old.number }
-        ensures tries { Tries self.old self.new result (assigned_one at variable number (held_seen self.old)) }
+        ensures { Tries self.old self.new result (assigned_one at variable number (held_seen self.old)) }
     {
         if !self.solver.owns(variable) {
             return Err(Stop::Fault(at, RunFault::WrongSolver));
@@ -51,7 +51,7 @@ impl Held {
     pub(crate) fn swap(&mut self, at: Place, x: VarId, y: VarId) -> Result<(), Stop>
         requires kept { IsKept self.old }
         requires own { x.solver ≡ self.old.number }
-        ensures changes { Changes self.old self.new result (swapped_one at x y (held_seen self.old)) }
+        ensures { Changes self.old self.new result (swapped_one at x y (held_seen self.old)) }
     {
         let made = self.try_swap(at, x, y);
         self.finish(made)
@@ -61,7 +61,7 @@ impl Held {
     fn try_swap(&mut self, at: Place, x: VarId, y: VarId) -> Result<(), Stop>
         requires kept { IsKept self.old }
         requires own { x.solver ≡ self.old.number }
-        ensures tries { Tries self.old self.new result (swapped_one at x y (held_seen self.old)) }
+        ensures { Tries self.old self.new result (swapped_one at x y (held_seen self.old)) }
     {
         if !(self.solver.owns(x) && self.solver.owns(y)) {
             return Err(Stop::Fault(at, RunFault::WrongSolver));
@@ -77,7 +77,7 @@ impl Held {
         requires kept { IsKept self.old }
         requires own { (is_own self.old.solver x ≡ true) × (is_own self.old.solver y ≡ true) }
         requires free { (has_definition self.old.solver.model x.index ≡ false) × (has_definition self.old.solver.model y.index ≡ false) }
-        ensures tries { Tries self.old self.new result (moved_one ((x.index, number_now (held_seen self.old) y.index) ∷ (y.index, number_now (held_seen self.old) x.index) ∷ []) (held_seen self.old) (held_seen self.old).waiting) }
+        ensures { Tries self.old self.new result (moved_one ((x.index, number_now (held_seen self.old) y.index) ∷ (y.index, number_now (held_seen self.old) x.index) ∷ []) (held_seen self.old) (held_seen self.old).waiting) }
     {
         match self.number_of(x) {
             Err(stop) => Err(stop),
@@ -108,7 +108,7 @@ impl Held {
         requires kept { IsKept self.old }
         requires own { is_own self.old.solver variable ≡ true }
         requires free { has_definition self.old.solver.model variable.index ≡ false }
-        ensures tries { Tries self.old self.new result (moved_one ((variable.index, number) ∷ []) (held_seen self.old) (held_seen self.old).waiting) }
+        ensures { Tries self.old self.new result (moved_one ((variable.index, number) ∷ []) (held_seen self.old) (held_seen self.old).waiting) }
     {
         if let Some(waiting) = &mut self.waiting {
             wait(waiting, variable.index, number);
@@ -122,7 +122,7 @@ impl Held {
         requires kept { IsKept self.old }
         requires own { (is_own self.old.solver first.0 ≡ true) × (is_own self.old.solver second.0 ≡ true) }
         requires free { (has_definition self.old.solver.model first.0.index ≡ false) × (has_definition self.old.solver.model second.0.index ≡ false) }
-        ensures tries { Tries self.old self.new result (moved_one ((first.0.index, first.1) ∷ (second.0.index, second.1) ∷ []) (held_seen self.old) (held_seen self.old).waiting) }
+        ensures { Tries self.old self.new result (moved_one ((first.0.index, first.1) ∷ (second.0.index, second.1) ∷ []) (held_seen self.old) (held_seen self.old).waiting) }
     {
         if let Some(waiting) = &mut self.waiting {
             wait(waiting, first.0.index, first.1);
@@ -141,7 +141,7 @@ impl Held {
         requires nothing { waits self.old ≡ None }
         requires distinct { AreDistinct moves.now }
         requires free { (k : ℕ) (m : VarId × ℤ) → slice_get moves.now k ≡ Some m → (is_own self.old.solver m.0 ≡ true) × (has_definition self.old.solver.model m.0.index ≡ false) }
-        ensures tries { Tries self.old self.new result (evaluated (record (held_seen self.old) { assignment = after_moves (indexed moves.now) self.old.solver.assignment })) }
+        ensures { Tries self.old self.new result (evaluated (record (held_seen self.old) { assignment = after_moves (indexed moves.now) self.old.solver.assignment })) }
     {
         self.solver.keeps_form();
         match self.solver.commit_uncounted(moves) {
@@ -189,7 +189,7 @@ impl Held {
     /// was met.
     pub(crate) fn commit_waiting(&mut self) -> Result<(), Stop>
         requires kept { IsKept self.old }
-        ensures changes { Changes self.old self.new result (made_or (held_seen self.old) (committed_one (held_seen self.old) (held_seen self.old).waiting)) }
+        ensures { Changes self.old self.new result (made_or (held_seen self.old) (committed_one (held_seen self.old) (held_seen self.old).waiting)) }
     {
         let made = self.try_commit_waiting();
         self.finish(made)
@@ -198,7 +198,7 @@ impl Held {
     /// The same, where a solver that stops is left as it may be.
     fn try_commit_waiting(&mut self) -> Result<(), Stop>
         requires kept { IsKept self.old }
-        ensures tries { Tries self.old self.new result (made_or (held_seen self.old) (committed_one (held_seen self.old) (held_seen self.old).waiting)) }
+        ensures { Tries self.old self.new result (made_or (held_seen self.old) (committed_one (held_seen self.old) (held_seen self.old).waiting)) }
     {
         match mem::replace(&mut self.waiting, None) {
             None => Ok(()),
@@ -211,7 +211,7 @@ impl Held {
         requires kept { IsKept self.old }
         requires nothing { waits self.old ≡ None }
         requires waiting { AreWaiting self.old.solver (Some waiting.now) }
-        ensures tries { Tries self.old self.new result (evaluated (record (held_seen self.old) { assignment = overlaid self.old.solver.assignment waiting.now })) }
+        ensures { Tries self.old self.new result (evaluated (record (held_seen self.old) { assignment = overlaid self.old.solver.assignment waiting.now })) }
     {
         self.solver.keeps_form();
         match moves_of(self.alloc, self.number, waiting) {

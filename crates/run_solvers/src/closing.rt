@@ -14,8 +14,8 @@ impl Held {
     /// Closes the solver, and evaluates its variables. `AlreadyClosed` at this place exactly where it is closed, else the
     /// named cycle of its definitions at this place, and else the fault of its variables where it was met.
     pub(crate) fn close(&mut self, at: Place) -> Result<(), Stop>
-        requires kept { IsKept self.old }
-        ensures changes { Changes self.old self.new result (closed_one at (held_seen self.old)) }
+        requires { IsKept self.old }
+        ensures { Changes self.old self.new result (closed_one at (held_seen self.old)) }
     {
         let made = self.try_close(at);
         self.finish(made)
@@ -23,8 +23,8 @@ impl Held {
 
     /// The same, where a solver that stops is left as it may be.
     fn try_close(&mut self, at: Place) -> Result<(), Stop>
-        requires kept { IsKept self.old }
-        ensures tries { Tries self.old self.new result (closed_one at (held_seen self.old)) }
+        requires { IsKept self.old }
+        ensures { Tries self.old self.new result (closed_one at (held_seen self.old)) }
     {
         self.solver.keeps_form();
         match self.solver.close(1) {

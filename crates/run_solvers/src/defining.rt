@@ -34,7 +34,7 @@ impl Held {
     pub(crate) fn define(&mut self, at: Place, variable: VarId, built: Built) -> Result<(), Stop>
         requires kept { IsKept self.old }
         requires own { variable.solver ≡ self.old.number }
-        ensures changes { Changes self.old self.new result (defined_one at variable built (held_seen self.old)) }
+        ensures { Changes self.old self.new result (defined_one at variable built (held_seen self.old)) }
     {
         let made = self.try_define(at, variable, built);
         self.finish(made)

@@ -23,7 +23,6 @@ pub(crate) struct Held {
 
 impl Held {
     /// A solver without variables, which is open.
-    #[tactic(auto, using(crate::proofs::NewLaws::new_seen, crate::proofs::NewLaws::new_kept))]
     pub(crate) fn new(alloc: Global, number: u32) -> Held
         ensures seen { held_seen result ≡ new_solver }
         ensures kept { IsKept result }
@@ -59,7 +58,7 @@ impl Held {
     /// The answer of a change. Where it stopped the run is over, and the solver is emptied, since it may be of no use any
     /// more.
     pub(crate) fn finish<T: Drop>(&mut self, made: Result<T, Stop>) -> Result<T, Stop>
-        requires kept { OnOk made (IsKept self.old) }
+        requires { OnOk made (IsKept self.old) }
         ensures same { result ≡ made }
         ensures kept { IsKept self.new }
         ensures number { self.new.number ≡ self.old.number }
