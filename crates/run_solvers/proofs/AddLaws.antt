@@ -61,10 +61,10 @@ module _ (S T : solvers.SolverState) (names : List (List ℕ)) (waiting : Option
   refusal_is = refl
 
   pub declares_stops : (fault : SolverFault) (stop : Stop) → IsRefusal (variable_refusal S) fault → StopsAs at names fault stop → Ends stop (declared_one at d name z m)
-  declares_stops (faults.Run f) stop is as = subst (λ (x : Stop). Ends x (declared_one at d name z m)) (sym as) (declared_tests ∙ made_refused S.closed (nat_lt (length S.model.vars.items) MAX_VARIABLES) f (sym refusal_is ∙ is))
-  declares_stops (faults.At place f) stop is as = absurd is
-  declares_stops (faults.Cyclic ids) stop is as = absurd is
-  declares_stops faults.NoMemory stop is as = subst (λ (x : Stop). Ends x (declared_one at d name z m)) (sym as) tt
+  declares_stops (faults.Run f) stop is told = subst (λ (x : Stop). Ends x (declared_one at d name z m)) (sym told) (declared_tests ∙ made_refused S.closed (nat_lt (length S.model.vars.items) MAX_VARIABLES) f (sym refusal_is ∙ is))
+  declares_stops (faults.At place f) stop is told = absurd is
+  declares_stops (faults.Cyclic ids) stop is told = absurd is
+  declares_stops faults.NoMemory stop is told = subst (λ (x : Stop). Ends x (declared_one at d name z m)) (sym told) tt
 
   -- nothing waits in an open solver, so what waits stays as it is
   same_waiting : (w : Option (List (Option ℤ))) → S.closed ≡ false → AreWaiting S w → w ≡ None

@@ -66,11 +66,11 @@ module _ (S T : solvers.SolverState) (names : List (List ℕ)) (waiting : Option
       ∙ ap (λ (ns : List (List ℕ)). Err (Cyclic at ns)) (named_at S names list ∙ ap (names_at names) (sym c.2.1))
 
   pub closes_stops : (fault : SolverFault) (stop : Stop) → Stops S T fault → StopsAs at names fault stop → Ends stop (closed_one at m)
-  closes_stops (faults.Run fault) stop c as = subst (λ (x : Stop). Ends x (closed_one at m)) (sym as) (closes_refused fault c)
-  closes_stops (faults.At place fault) stop c as = subst (λ (x : Stop). Ends x (closed_one at m)) (sym as) (closes_fault place fault c)
-  closes_stops (faults.Cyclic ids) stop c (inl as) = subst (λ (x : Stop). Ends x (closed_one at m)) (sym as) (closes_cycle ids c)
-  closes_stops (faults.Cyclic ids) stop c (inr as) = subst (λ (x : Stop). Ends x (closed_one at m)) (sym as) tt
-  closes_stops faults.NoMemory stop c as = subst (λ (x : Stop). Ends x (closed_one at m)) (sym as) tt
+  closes_stops (faults.Run fault) stop c told = subst (λ (x : Stop). Ends x (closed_one at m)) (sym told) (closes_refused fault c)
+  closes_stops (faults.At place fault) stop c told = subst (λ (x : Stop). Ends x (closed_one at m)) (sym told) (closes_fault place fault c)
+  closes_stops (faults.Cyclic ids) stop c (inl told) = subst (λ (x : Stop). Ends x (closed_one at m)) (sym told) (closes_cycle ids c)
+  closes_stops (faults.Cyclic ids) stop c (inr told) = subst (λ (x : Stop). Ends x (closed_one at m)) (sym told) tt
+  closes_stops faults.NoMemory stop c told = subst (λ (x : Stop). Ends x (closed_one at m)) (sym told) tt
 
   -- nothing waits in an open solver
   still_waiting : (w : Option (List (Option ℤ))) → S.closed ≡ false → AreWaiting S w → AreWaiting shut w

@@ -156,10 +156,10 @@ module _ (S T : solvers.SolverState) (names : List (List ℕ)) (waiting : Option
       by true e = let c : None ≡ Some f = sym (ap (λ b. if not b then Some (TooMany TermNodes) else None) e) ∙ sym refusal_is ∙ some in cc
 
   pub defines_stops : (fault : SolverFault) (stop : Stop) → IsRefusal (define_refusal S x u) fault → StopsAs at names fault stop → Ends stop (sized_one at x (plain_term u) held)
-  defines_stops (faults.Run f) stop is as = subst (λ (s : Stop). Ends s (sized_one at x (plain_term u) held)) (sym as) (defines_refused f is)
-  defines_stops (faults.At place f) stop is as = absurd is
-  defines_stops (faults.Cyclic ids) stop is as = absurd is
-  defines_stops faults.NoMemory stop is as = subst (λ (s : Stop). Ends s (sized_one at x (plain_term u) held)) (sym as) tt
+  defines_stops (faults.Run f) stop is told = subst (λ (s : Stop). Ends s (sized_one at x (plain_term u) held)) (sym told) (defines_refused f is)
+  defines_stops (faults.At place f) stop is told = absurd is
+  defines_stops (faults.Cyclic ids) stop is told = absurd is
+  defines_stops faults.NoMemory stop is told = subst (λ (s : Stop). Ends s (sized_one at x (plain_term u) held)) (sym told) tt
 
   -- ---- what holds of it then
   open_waiting : (w : Option (List (Option ℤ))) → S.closed ≡ false → AreWaiting S w → AreWaiting T w

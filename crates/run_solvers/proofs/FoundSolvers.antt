@@ -22,7 +22,7 @@ use Rattle.comet_meaning.specs.State.{State, left}
 use Rattle.comet_meaning.specs.Outcome.{Outcome, Went, Halted, Faulted, SpentAt, Cyclic, Act, ◌>>=◌, fault, give}
 use Rattle.comet_meaning.specs.Parts.{solver_at, variable_value}
 use Rattle.comet_meaning.specs.Limits.{most_variables}
-use Rattle.comet_meaning.specs.Models.{owns, exchanged, term_for, has_room, put_solver}
+use Rattle.comet_meaning.specs.Models.{owns, exchanged, term_for, has_room, put_solver, domain_at}
 use Rattle.comet_meaning.specs.Variables.{Beginning, free, defined, next_variable, first_number, with_variable}
 use Rattle.run_values.specs.Did.{Did, Stopped, IsFaultOrMemory}
 use Rattle.run_values.specs.declared.stop.Stop.{Stop}
@@ -218,6 +218,10 @@ unfolding variable_value empty_model
 reads_nothing at x m s none = rw none (outside _ (has_variable new_solver x) (search (rules, arith))) where
   outside : (a : Act Value) (b : Bool) → b ≡ false → (if b then a else fault at WrongSolver) s ≡ Halted (Faulted at WrongSolver) (left s)
   outside a b e = rw e refl
+
+pub domain_nowhere : (at : Place) (x : VarId) (m : SolverState) (s : State) → m ≡ new_solver → domain_at at x m s ≡ Halted (Faulted at WrongSolver) (left s)
+unfolding domain_at
+domain_nowhere at x m s none = rw (none, unowned x) refl
 
 -- ---- the beginning of a `with` changes one solver, or leaves it as it is, and so does its end
 

@@ -31,32 +31,32 @@ indexed_moves a [] = refl
 indexed_moves a (m ∷ moves) = indexed_moves (solvers.moved a m) moves
 
 -- ---- what waits, as moves
-written_behind : (as : List ℤ) (b : ℤ) (bs : List ℤ) (z : ℤ) → set (as ++ b ∷ bs) (length as) z ≡ as ++ z ∷ bs
+written_behind : (front : List ℤ) (b : ℤ) (bs : List ℤ) (z : ℤ) → set (front ++ b ∷ bs) (length front) z ≡ front ++ z ∷ bs
 written_behind [] b bs z = refl
-written_behind (a ∷ as) b bs z = ap (λ zs. a ∷ zs) (written_behind as b bs z)
+written_behind (a ∷ front) b bs z = ap (λ zs. a ∷ zs) (written_behind front b bs z)
 
-pushed : (as : List ℤ) (z : ℤ) (bs : List ℤ) → as ++ z ∷ bs ≡ (as ++ z ∷ []) ++ bs
+pushed : (front : List ℤ) (z : ℤ) (bs : List ℤ) → front ++ z ∷ bs ≡ (front ++ z ∷ []) ++ bs
 pushed [] z bs = refl
-pushed (a ∷ as) z bs = ap (λ zs. a ∷ zs) (pushed as z bs)
+pushed (a ∷ front) z bs = ap (λ zs. a ∷ zs) (pushed front z bs)
 
-longer : (as : List ℤ) (z : ℤ) → length as + 1 ≡ length (as ++ z ∷ [])
+longer : (front : List ℤ) (z : ℤ) → length front + 1 ≡ length (front ++ z ∷ [])
 longer [] z = refl
-longer (a ∷ as) z = let more = longer as z in omega (arith, more)
+longer (a ∷ front) z = let more = longer front z in omega (arith, more)
 
-moves_behind : (number : ℕ) (as bs : List ℤ) (ws : List (Option ℤ)) → length bs ≡ length ws → solvers.after_moves (as ++ bs) (moves_from number (length as) ws) ≡ as ++ overlaid bs ws
-moves_behind number as [] [] e = refl
-moves_behind number as [] (w ∷ ws) e = absurd (omega (arith, e))
-moves_behind number as (b ∷ bs) [] e = absurd (omega (arith, e))
-moves_behind number as (b ∷ bs) (Some z ∷ ws) e =
-    ap (λ xs. solvers.after_moves xs (moves_from number (length as + 1) ws)) (written_behind as b bs z ∙ pushed as z bs)
-    ∙ ap (λ n. solvers.after_moves ((as ++ z ∷ []) ++ bs) (moves_from number n ws)) (longer as z)
-    ∙ moves_behind number (as ++ z ∷ []) bs ws (omega (arith, e))
-    ∙ sym (pushed as z (overlaid bs ws))
-moves_behind number as (b ∷ bs) (None ∷ ws) e =
-    ap (λ xs. solvers.after_moves xs (moves_from number (length as + 1) ws)) (pushed as b bs)
-    ∙ ap (λ n. solvers.after_moves ((as ++ b ∷ []) ++ bs) (moves_from number n ws)) (longer as b)
-    ∙ moves_behind number (as ++ b ∷ []) bs ws (omega (arith, e))
-    ∙ sym (pushed as b (overlaid bs ws))
+moves_behind : (number : ℕ) (front bs : List ℤ) (ws : List (Option ℤ)) → length bs ≡ length ws → solvers.after_moves (front ++ bs) (moves_from number (length front) ws) ≡ front ++ overlaid bs ws
+moves_behind number front [] [] e = refl
+moves_behind number front [] (w ∷ ws) e = absurd (omega (arith, e))
+moves_behind number front (b ∷ bs) [] e = absurd (omega (arith, e))
+moves_behind number front (b ∷ bs) (Some z ∷ ws) e =
+    ap (λ xs. solvers.after_moves xs (moves_from number (length front + 1) ws)) (written_behind front b bs z ∙ pushed front z bs)
+    ∙ ap (λ n. solvers.after_moves ((front ++ z ∷ []) ++ bs) (moves_from number n ws)) (longer front z)
+    ∙ moves_behind number (front ++ z ∷ []) bs ws (omega (arith, e))
+    ∙ sym (pushed front z (overlaid bs ws))
+moves_behind number front (b ∷ bs) (None ∷ ws) e =
+    ap (λ xs. solvers.after_moves xs (moves_from number (length front + 1) ws)) (pushed front b bs)
+    ∙ ap (λ n. solvers.after_moves ((front ++ b ∷ []) ++ bs) (moves_from number n ws)) (longer front b)
+    ∙ moves_behind number (front ++ b ∷ []) bs ws (omega (arith, e))
+    ∙ sym (pushed front b (overlaid bs ws))
 
 pub waiting_moves : (number : ℕ) (a : List ℤ) (ws : List (Option ℤ)) → length ws ≡ length a → solvers.after_moves a (moves_from number 0 ws) ≡ overlaid a ws
 waiting_moves number a ws e = moves_behind number [] a ws (sym e)

@@ -155,7 +155,7 @@ impl Held {
     /// Opens a `with` on the solver, and tells whether it is the outermost. `NotClosed` at this place exactly where the
     /// solver is open.
     pub(crate) fn open_block(&mut self, at: Place) -> Result<bool, Stop>
-        requires kept { IsKept self.old }
+        requires { IsKept self.old }
         ensures changes { Changes self.old self.new result (opened_one at (held_seen self.old)) }
         ensures outermost { IfOk result (λ b. b ≡ not (is_some (held_seen self.old).waiting)) }
     {
@@ -165,7 +165,7 @@ impl Held {
 
     /// The same, where a solver that stops is left as it may be.
     fn try_open(&mut self, at: Place) -> Result<bool, Stop>
-        requires kept { IsKept self.old }
+        requires { IsKept self.old }
         ensures tries { Tries self.old self.new result (opened_one at (held_seen self.old)) }
         ensures outermost { IfOk result (λ b. b ≡ not (is_some (held_seen self.old).waiting)) }
     {
@@ -188,7 +188,7 @@ impl Held {
     /// Commits what waits, at the end of the outermost `with`. The stop is the fault of the solver's variables where it
     /// was met.
     pub(crate) fn commit_waiting(&mut self) -> Result<(), Stop>
-        requires kept { IsKept self.old }
+        requires { IsKept self.old }
         ensures { Changes self.old self.new result (made_or (held_seen self.old) (committed_one (held_seen self.old) (held_seen self.old).waiting)) }
     {
         let made = self.try_commit_waiting();
@@ -197,7 +197,7 @@ impl Held {
 
     /// The same, where a solver that stops is left as it may be.
     fn try_commit_waiting(&mut self) -> Result<(), Stop>
-        requires kept { IsKept self.old }
+        requires { IsKept self.old }
         ensures { Tries self.old self.new result (made_or (held_seen self.old) (committed_one (held_seen self.old) (held_seen self.old).waiting)) }
     {
         match mem::replace(&mut self.waiting, None) {

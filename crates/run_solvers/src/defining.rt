@@ -116,7 +116,7 @@ impl Held {
         name: Text,
         beginning: Beginning,
     ) -> Result<VarId, Stop>
-        requires kept { IsKept self.old }
+        requires { IsKept self.old }
         ensures changes { Changes self.old self.new result (added_one at self.old.number decl name (beginning_seen beginning) (held_seen self.old)) }
         ensures id { IfOk result (λ x. x ≡ next_variable self.old.number (held_seen self.old)) }
     {
@@ -132,7 +132,7 @@ impl Held {
         name: Text,
         beginning: Beginning,
     ) -> Result<VarId, Stop>
-        requires kept { IsKept self.old }
+        requires { IsKept self.old }
         ensures tries { Tries self.old self.new result (added_one at self.old.number decl name (beginning_seen beginning) (held_seen self.old)) }
         ensures id { IfOk result (λ x. x ≡ next_variable self.old.number (held_seen self.old)) }
     {
@@ -144,7 +144,7 @@ impl Held {
 
     /// The same of a variable that begins with a number.
     fn add_free(&mut self, at: Place, decl: VarDecl, name: Text, number: i64) -> Result<VarId, Stop>
-        requires kept { IsKept self.old }
+        requires { IsKept self.old }
         ensures tries { Tries self.old self.new result (added_one at self.old.number decl name (free number) (held_seen self.old)) }
         ensures id { IfOk result (λ x. x ≡ next_variable self.old.number (held_seen self.old)) }
     {
@@ -162,7 +162,7 @@ impl Held {
         name: Text,
         built: Built,
     ) -> Result<VarId, Stop>
-        requires kept { IsKept self.old }
+        requires { IsKept self.old }
         ensures tries { Tries self.old self.new result (added_one at self.old.number decl name (defined built) (held_seen self.old)) }
         ensures id { IfOk result (λ x. x ≡ next_variable self.old.number (held_seen self.old)) }
     {
@@ -177,7 +177,7 @@ impl Held {
 
     /// A new variable with a name and a number.
     fn declare(&mut self, at: Place, decl: VarDecl, name: Text, start: i64) -> Result<VarId, Stop>
-        requires kept { IsKept self.old }
+        requires { IsKept self.old }
         ensures meant { Makes (held_seen self.new) result (declared_one at decl name start (held_seen self.old)) }
         ensures whole { OnOk result (IsWholeHeld self.new) }
         ensures sets { OnOk result (HasDefinedOthers self.new.solver.model (length self.old.solver.model.vars.items)) }

@@ -21,7 +21,7 @@ impl Held {
     /// The value of the variable at an index, which is read at a place. `WrongSolver` there exactly where there is no such
     /// variable, and `NotClosed` exactly where only a closed solver has its value.
     pub(crate) fn read(&self, at: Place, index: u32) -> Result<Value, Stop>
-        requires kept { IsKept self.now }
+        requires { IsKept self.now }
         ensures did { (s : State) → Did value_seen result s (variable_value at index (held_seen self.now) s) }
         ensures stop { IfErr result IsFaultOrMemory }
     {
@@ -65,7 +65,7 @@ impl Held {
     /// The domain of the variable at an index, which is asked at a place. `WrongSolver` there exactly where there is no
     /// such variable.
     pub(crate) fn domain(&self, at: Place, index: u32) -> Result<Bounds, Stop>
-        requires kept { IsKept self.now }
+        requires { IsKept self.now }
         ensures did { (s : State) → Did (λ d. values.Range (bounds_seen d)) result s (domain_at at (record { solver = self.now.number; index = index }) (held_seen self.now) s) }
         ensures stop { IfErr result IsFaultOrMemory }
     {
