@@ -13,6 +13,8 @@ use Rattle.cbl_base.specs.declared.faults.RunFault.TheVariants.{NotClosed, Wrong
 use Rattle.model_view.specs.Building.{empty_model}
 use Rattle.model_values.specs.Fresh.{Fresh}
 use Rattle.model_values.specs.declared.failure.Failure.{Failure}
+use Rattle.term_model.specs.Wellformed.{HasDefinedSets}
+use Rattle.term_model.specs.declared.model.Model.{Model}
 use Rattle.term_model.specs.declared.model.VarDecl.{VarDecl}
 use Rattle.term_model.specs.declared.term.Term.{Term}
 use Rattle.term_model.proofs.VarLaws.{set_same}
@@ -29,7 +31,7 @@ use Rattle.run_values.specs.declared.stop.Stop.{Stop}
 use Rattle.run_values.specs.declared.stop.Stop.TheVariants as stops
 use Rattle.run_values.specs.declared.stop.Stop.TheVariants.{Fault, Spent, NoMemory, Output}
 use Rattle.run_solvers.specs.Changing.{Made, by_values, evaluated, moved_one, assigned_one, swapped_one, defined_one, begun_one, added_one, committed_one, opened_one, changed, changed_where, refused, waiting_now}
-use Rattle.run_solvers.specs.Kept.{AreKept, IsKept}
+use Rattle.run_solvers.specs.Kept.{AreKept, HasDefinedOthers, IsKept, IsWholeHeld}
 use Rattle.run_solvers.specs.Makes.{Changes, Ends, Makes, Tries, made_or}
 use Rattle.run_solvers.specs.Opening.{opened, opening}
 use Rattle.run_solvers.specs.Stopping.{IsEndOrMemory}
@@ -49,6 +51,14 @@ finished old mid new (Err stop) result meant tried same kept number unchanged = 
   kept = kept;
   number = number ∙ tried.number;
 }
+
+-- a definition leaves a solver that is kept, where all sets had theirs
+pub others_of : (M : Model) (x : ℕ) → HasDefinedSets M → HasDefinedOthers M x
+others_of M x sets i lt none = inr (sets i lt none)
+
+pub kept_from : {X : Type 0} (r : Result X Stop) (h : Held) (M : Model) (x : ℕ) → OnOk r (IsWholeHeld h) → OnOk r (HasDefinedOthers M x → HasDefinedSets h.solver.model) → HasDefinedOthers M x → OnOk r (IsKept h)
+kept_from (Ok y) h M x whole sets others = (whole, sets others)
+kept_from (Err stop) h M x whole sets others = tt
 
 -- ---- solvers that are kept
 

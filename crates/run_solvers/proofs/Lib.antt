@@ -7,6 +7,8 @@ pub mod CycleLaws
 pub mod DefineLaws
 pub mod FoundSolvers
 pub mod NewLaws
+pub mod NodeLaws
+pub mod ReadStops
 pub mod SeenLaws
 pub mod ValueLaws
 pub mod WaitingLaws
