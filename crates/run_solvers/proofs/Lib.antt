@@ -1,5 +1,6 @@
 pub mod Acts
 pub mod AddLaws
+pub mod BlockLaws
 pub mod BuiltLaws
 pub mod CloseLaws
 pub mod CommitLaws

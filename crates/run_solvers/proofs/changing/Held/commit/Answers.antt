@@ -1,7 +1,14 @@
 -- The moves are committed, or stop as they are meant to.
 use Rattle.std.proofs.Common.{refl}
+use Rattle.run_solvers.proofs.BlockLaws.{free_number}
 use Rattle.run_solvers.proofs.CommitLaws.{commits_fault, commits_ok, committed_kept}
 use Rattle.run_solvers.proofs.changing.Held.commit.Goals as goal
+
+pub commit_uncounted-requires-clause-usable : goal.commit_uncounted-requires-clause-usable
+commit_uncounted-requires-clause-usable c = c.requires.kept.0.usable
+
+pub commit_uncounted-requires-clause-kinds : goal.commit_uncounted-requires-clause-kinds
+commit_uncounted-requires-clause-kinds c = λ k m at own. free_number c.args.self.now.solver m.0 c.requires.kept.1 own (c.requires.free k m at).1
 
 pub returns-in-Ok : goal.returns-in-Ok
 returns-in-Ok c =
