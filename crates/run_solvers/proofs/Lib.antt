@@ -1,11 +1,13 @@
 pub mod Acts
 pub mod AddLaws
+pub mod AddedLaws
 pub mod BlockLaws
 pub mod BuiltLaws
 pub mod CloseLaws
 pub mod CommitLaws
 pub mod CycleLaws
 pub mod DefineLaws
+pub mod FitLaws
 pub mod FoundSolvers
 pub mod NewLaws
 pub mod NodeLaws

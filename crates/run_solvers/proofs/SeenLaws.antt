@@ -8,6 +8,7 @@ use Rattle.ls_solver.specs.Reading.{fresh_value}
 use Rattle.ls_solver.specs.State as solvers
 use Rattle.model_values.specs.Fresh.{fresh_of}
 use Rattle.model_values.specs.Outcomes.{Outcome}
+use Rattle.model_view.specs.Building.{constant}
 use Rattle.model_view.specs.Naming.{dependencies, named_cycle}
 use Rattle.model_view.specs.Plain.{plain_term}
 use Rattle.model_view.specs.Variables.{all_variables, pass_step}
@@ -18,7 +19,7 @@ use Rattle.term_model.specs.Kinds.{kinds_in}
 use Rattle.term_model.specs.Users.{no_users}
 use Rattle.term_model.specs.declared.term.Term.{Term}
 use Rattle.term_model.specs.declared.term.Term.TheOpen.{Term-F}
-use Rattle.term_model.specs.declared.term.Term.TheFolds.{fold-Term}
+use Rattle.term_model.specs.declared.term.Term.TheFolds.{fold-Term, fold-roll-Term}
 use Rattle.comet_meaning.specs.Models.{owns}
 use Rattle.comet_meaning.specs.Parts.{value_of, value_now}
 use Rattle.comet_meaning.specs.Solvers.{SolverState, variable_count, is_defined, fresh_values, cycle_in}
@@ -32,6 +33,10 @@ same_steps p (Term-F.Node op args place) = refl
 
 pub same_tests : (p : VarId → Bool) (t : Term) → all_variables p t ≡ names_only p t
 same_tests p t = ap (λ (step : Term-F Bool → Bool). fold-Term Bool step t) (fun_ext (same_steps p))
+
+-- a number names no id
+pub constant_names : (S : solvers.SolverState) (z : ℤ) → names_only (is_own S) (constant z) ≡ true
+constant_names S z = fold-roll-Term Bool (names_step (is_own S)) (Term-F.Const z)
 
 pub eq_itself : (n : ℕ) → nat_eq n n ≡ true
 eq_itself n = grind arith
