@@ -72,6 +72,19 @@ none_of (Some d) h = absurd (true≢false h)
 pub free_defined : (S : solvers.SolverState) (i : ℕ) → has_definition S.model i ≡ false → definition_of S.model i ≡ None
 free_defined S i h = none_of (definition_of S.model i) h
 
+pub both_parts : (a b : Bool) → (a && b) ≡ true → (a ≡ true) × (b ≡ true)
+both_parts true b h = (refl, h)
+both_parts false b h = let c : false ≡ true = h in cc
+
+-- a variable of the solver that isn't a defined one of it is free
+pub free_of : (own defined : Bool) → own ≡ true → (own && defined) ≡ false → defined ≡ false
+free_of true defined e h = h
+free_of false defined e h = absurd (true≢false (sym e))
+
+pub neither_parts : (a b : Bool) → (a || b) ≡ false → (a ≡ false) × (b ≡ false)
+neither_parts false b h = (refl, h)
+neither_parts true b h = absurd (true≢false h)
+
 and_parts : (a b : Bool) → (a && b) ≡ true → (a ≡ true) × (b ≡ true)
 and_parts true b h = (refl, h)
 and_parts false b h = let c : false ≡ true = h in cc

@@ -9,6 +9,7 @@ pub mod CycleLaws
 pub mod DefineLaws
 pub mod FitLaws
 pub mod FoundSolvers
+pub mod FreeLaws
 pub mod NewLaws
 pub mod NodeLaws
 pub mod ReadStops

@@ -1,5 +1,5 @@
 //! New numbers of a solver's variables.
-ghost use Rattle.std.specs.Prelude.{◌≡◌, ◌∷◌, [], ℤ, ℕ, None, Some, false, is_some, not, slice_get, true, IfErr, IfOk};
+ghost use Rattle.std.specs.Prelude.{◌≡◌, ◌&&◌, ◌||◌, ◌∷◌, [], ℤ, ℕ, None, Some, false, is_some, not, slice_get, true, IfErr, IfOk};
 ghost use Rattle.cbl_base.specs.declared.ids.VarId.{VarId};
 ghost use Rattle.comet_meaning.specs.Models.{after_moves, number_now};
 ghost use Rattle.ls_solver.specs.Committing.{AreDistinct};
@@ -63,13 +63,28 @@ impl Held {
         requires own { x.solver ≡ self.old.number }
         ensures { Tries self.old self.new result (swapped_one at x y (held_seen self.old)) }
     {
-        if !(self.solver.owns(x) && self.solver.owns(y)) {
+        if !self.owns_both(x, y) {
             return Err(Stop::Fault(at, RunFault::WrongSolver));
         }
-        if self.solver.defines(x) || self.solver.defines(y) {
+        if self.defines_either(x, y) {
             return Err(Stop::Fault(at, RunFault::DefinedVariable));
         }
         self.exchange(x, y)
+    }
+
+    /// Whether two variables are the solver's.
+    fn owns_both(&self, x: VarId, y: VarId) -> bool
+        ensures { result ≡ (is_own self.now.solver x && is_own self.now.solver y) }
+    {
+        self.solver.owns(x) && self.solver.owns(y)
+    }
+
+    /// Whether one of two variables of the solver has a definition.
+    fn defines_either(&self, x: VarId, y: VarId) -> bool
+        requires { (is_own self.now.solver x && is_own self.now.solver y) ≡ true }
+        ensures { result ≡ (has_definition self.now.solver.model x.index || has_definition self.now.solver.model y.index) }
+    {
+        self.solver.defines(x) || self.solver.defines(y)
     }
 
     /// The same of free variables of the solver.
@@ -93,7 +108,7 @@ impl Held {
         requires kept { IsKept self.now }
         requires own { is_own self.now.solver variable ≡ true }
         requires free { has_definition self.now.solver.model variable.index ≡ false }
-        ensures { IfOk result (λ number. number ≡ number_now (held_seen self.now) variable.index) }
+        ensures value { IfOk result (λ number. number ≡ number_now (held_seen self.now) variable.index) }
         ensures stop { IfErr result (λ stop. stop ≡ WithoutMemory) }
     {
         match self.solver.value(variable) {
