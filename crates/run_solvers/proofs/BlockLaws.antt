@@ -1,6 +1,7 @@
 -- What waits while a `with` is open, and its commit at the end.
-use Rattle.std.proofs.Common.{◌≡◌, ℕ, zero, suc, ◌+◌, ◌<◌, ℤ, Bool, true, false, ◌&&◌, List, [], ◌∷◌, ◌++◌, Option, Some, None, Ok, is_some, length, length-set, set, drop, refl, sym, ap, ◌∙◌, subst, true≢false, nat_eq, arith, slice_get, append_assoc}
+use Rattle.std.proofs.Common.{◌≡◌, ℕ, zero, suc, ◌+◌, ◌<◌, ℤ, Bool, true, false, ◌&&◌, Vec, Global, List, [], ◌∷◌, ◌++◌, Option, Some, None, Ok, is_some, length, length-set, set, drop, refl, sym, ap, ◌∙◌, subst, true≢false, nat_eq, arith, slice_get, append_assoc}
 use Rattle.std.specs.Prelude.{nat_lt, replicate, if◌then◌else◌}
+use Rattle.std.specs.Option.{option_map}
 use Rattle.std.proofs.lemmas.List.{drop_more}
 use Rattle.cbl_base.proofs.PlaceLemmas.{others_stay}
 use native.Mathlib.Decide.{ℕ_discrete}
@@ -16,12 +17,12 @@ use Rattle.term_model.specs.Kinds.{kinds_in}
 use Rattle.term_model.specs.Wellformed.{HasDefinedSets}
 use Rattle.term_model.proofs.VarLaws.{set_same}
 use Rattle.comet_meaning.specs.Models as meant
-use Rattle.run_solvers.specs.Changing.{opened_one, refused, waiting_now}
+use Rattle.run_solvers.specs.Changing.{moved_one, opened_one, refused, waiting_now}
 use Rattle.run_solvers.specs.Kept.{AreWaiting}
 use Rattle.run_solvers.specs.Views.{solver_seen}
 use Rattle.run_solvers.specs.Waiting.{overlaid, moves_from, indexed}
-use Rattle.run_solvers.proofs.CommitLaws.{free_defined}
-use Rattle.run_solvers.proofs.WaitingLaws.{indexed_moves, moves_are, overlaid_none, waiting_moves}
+use Rattle.run_solvers.proofs.CommitLaws.{free_defined, waits_for}
+use Rattle.run_solvers.proofs.WaitingLaws.{indexed_moves, moves_are, overlaid_none, overlaid_set, waiting_moves}
 
 -- a free variable is a number
 pub free_number : (S : solvers.SolverState) (x : VarId) → HasDefinedSets S.model → is_own S x ≡ true → has_definition S.model x.index ≡ false → kinds_in S.model.vars.items x.index ≡ Some number_kind
@@ -34,6 +35,38 @@ waiting_kept S ws i z free are = (are.0, length-set ws i (Some z) ∙ are.1, λ 
     free_at : (j : ℕ) (y : ℤ) → slice_get (set ws i (Some z)) j ≡ Some (Some y) → Dec (j ≡ i) → definition_of S.model j ≡ None
     free_at j y at (yes e) = ap (definition_of S.model) e ∙ free_defined S i free
     free_at j y at (no ne) = are.2 j y (sym (others_stay ws i j (Some z) ne) ∙ at)
+
+-- the same where it isn't known whether numbers wait
+pub waiting_more : (S : solvers.SolverState) (w v : Option (List (Option ℤ))) (i : ℕ) (z : ℤ) → v ≡ option_map (λ ws. set ws i (Some z)) w → has_definition S.model i ≡ false → AreWaiting S w → AreWaiting S v
+waiting_more S None v i z e free are = subst (AreWaiting S) (sym e) tt
+waiting_more S (Some ws) v i z e free are = subst (AreWaiting S) (sym e) (waiting_kept S ws i z free are)
+
+-- a move is one that waits
+pub waited_one : (S : solvers.SolverState) (names : List (List ℕ)) (w v : Option (List (Option ℤ))) (i : ℕ) (z : ℤ) → v ≡ option_map (λ ws. set ws i (Some z)) w → is_some w ≡ true → length S.assignment ≡ length S.model.vars.items → AreWaiting S w →
+    moved_one ((i, z) ∷ []) (solver_seen S names w) (solver_seen S names w).waiting ≡ Ok (solver_seen S names v)
+waited_one S names None v i z e h long are = absurd (true≢false (sym h))
+waited_one S names (Some ws) v i z e h long are = waits_for S names ws i z (are.1 ∙ sym long) ∙ ap (λ (u : Option (List (Option ℤ))). Ok (solver_seen S names u)) (sym e)
+
+-- the first of two moves waits, and then the second is to be made
+pub waited_first : (S : solvers.SolverState) (names : List (List ℕ)) (w v : Option (List (Option ℤ))) (i j : ℕ) (y z : ℤ) → v ≡ option_map (λ ws. set ws i (Some y)) w → is_some w ≡ true → length S.assignment ≡ length S.model.vars.items → AreWaiting S w →
+    moved_one ((i, y) ∷ (j, z) ∷ []) (solver_seen S names w) (solver_seen S names w).waiting ≡ moved_one ((j, z) ∷ []) (solver_seen S names v) (solver_seen S names v).waiting
+waited_first S names None v i j y z e h long are = absurd (true≢false (sym h))
+waited_first S names (Some ws) v i j y z e h long are =
+    ap (λ (a : List ℤ). Ok (record (solver_seen S names None) { waiting = Some (set a j z) })) (sym (overlaid_set S.assignment ws i y (are.1 ∙ sym long)))
+    ∙ ap (λ (u : Option (List (Option ℤ))). moved_one ((j, z) ∷ []) (solver_seen S names u) (solver_seen S names u).waiting) (sym e)
+
+-- where nothing waits nothing does then
+pub none_waits : (w v : Option (List (Option ℤ))) (i : ℕ) (z : ℤ) → v ≡ option_map (λ ws. set ws i (Some z)) w → is_some w ≡ false → (w ≡ None) × (v ≡ None)
+none_waits None v i z e h = (refl, e)
+none_waits (Some ws) v i z e h = absurd (true≢false h)
+
+pub waits_is : {X Y : Type 0} (f : X → Y) (w : Option X) → is_some (option_map f w) ≡ is_some w
+waits_is f None = refl
+waits_is f (Some x) = refl
+
+pub written_is : (w : Option (Vec (Option ℤ) Global)) (i : ℕ) (z : ℤ) → option_map (λ u. set u.items i (Some z)) w ≡ option_map (λ ws. set ws i (Some z)) (option_map (λ u. u.items) w)
+written_is None i z = refl
+written_is (Some u) i z = refl
 
 -- ---- the beginning
 module _ (S : solvers.SolverState) (names : List (List ℕ)) (at : Place) (shut : S.closed ≡ true) where

@@ -12,7 +12,7 @@ ghost use Rattle.run_solvers.specs.Waiting.{indexed, overlaid};
 ghost use Rattle.run_values.specs.declared.stop.Stop.TheVariants.{NoMemory as WithoutMemory};
 
 use crate::held::Held;
-use crate::waiting::{moves_of, nothing_waiting, wait};
+use crate::waiting::{moves_of, nothing_waiting, wait_in};
 use cbl_base::{NoMemory, Place, RunFault, VarId};
 use ls_solver::SolverFault;
 use run_values::Stop;
@@ -125,8 +125,8 @@ impl Held {
         requires free { has_definition self.old.solver.model variable.index ≡ false }
         ensures { Tries self.old self.new result (moved_one ((variable.index, number) ∷ []) (held_seen self.old) (held_seen self.old).waiting) }
     {
-        if let Some(waiting) = &mut self.waiting {
-            wait(waiting, variable.index, number);
+        self.solver.keeps_form();
+        if wait_in(&mut self.waiting, variable.index, number) {
             return Ok(());
         }
         self.commit(&[(variable, number)])
@@ -139,10 +139,9 @@ impl Held {
         requires free { (has_definition self.old.solver.model first.0.index ≡ false) × (has_definition self.old.solver.model second.0.index ≡ false) }
         ensures { Tries self.old self.new result (moved_one ((first.0.index, first.1) ∷ (second.0.index, second.1) ∷ []) (held_seen self.old) (held_seen self.old).waiting) }
     {
-        if let Some(waiting) = &mut self.waiting {
-            wait(waiting, first.0.index, first.1);
-            wait(waiting, second.0.index, second.1);
-            return Ok(());
+        self.solver.keeps_form();
+        if wait_in(&mut self.waiting, first.0.index, first.1) {
+            return self.move_one(second.0, second.1);
         }
         if first.0.index == second.0.index {
             return self.commit(&[second]);

@@ -1,5 +1,5 @@
 //! Numbers that wait for the end of a `with`.
-ghost use Rattle.std.specs.Prelude.{◌≡◌, ◌<◌, ◌^◌, Some, None, replicate, length, slice_set, IfOk};
+ghost use Rattle.std.specs.Prelude.{◌≡◌, ◌<◌, ◌^◌, Some, None, is_some, option_map, replicate, length, slice_set, IfOk};
 ghost use Rattle.run_solvers.specs.Waiting.{moves_from};
 
 use cbl_base::{NoMemory, VarId};
@@ -13,12 +13,26 @@ pub(crate) fn nothing_waiting(alloc: Global, count: usize) -> Result<Vec<Option<
 }
 
 /// The number of the variable at an index waits.
-pub(crate) fn wait(waiting: &mut Vec<Option<i64>>, index: u32, number: i64)
+fn wait(waiting: &mut Vec<Option<i64>>, index: u32, number: i64)
     ensures { waiting.new.items ≡ slice_set waiting.old.items index (Some number) }
 {
     let index = index as usize;
     if index < waiting.len() {
         waiting[index] = Some(number);
+    }
+}
+
+/// The number of the variable at an index waits, where numbers wait; tells whether they do.
+pub(crate) fn wait_in(waiting: &mut Option<Vec<Option<i64>>>, index: u32, number: i64) -> bool
+    ensures waits { result ≡ is_some waiting.old }
+    ensures written { option_map (λ w. w.items) waiting.new ≡ option_map (λ w. slice_set w.items index (Some number)) waiting.old }
+{
+    match waiting {
+        Some(waiting) => {
+            wait(waiting, index, number);
+            true
+        }
+        None => false,
     }
 }
 
