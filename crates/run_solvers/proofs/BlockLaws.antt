@@ -69,6 +69,10 @@ written_is None i z = refl
 written_is (Some u) i z = refl
 
 -- ---- the beginning
+
+pub opened_open : (S : solvers.SolverState) (names : List (List ℕ)) (w : Option (List (Option ℤ))) (at : Place) → S.closed ≡ false → opened_one at (solver_seen S names w) ≡ refused at NotClosed
+opened_open S names w at e = ap (λ b. if b then Ok (record (solver_seen S names w) { waiting = waiting_now (solver_seen S names w) }) else refused at NotClosed) e
+
 module _ (S : solvers.SolverState) (names : List (List ℕ)) (at : Place) (shut : S.closed ≡ true) where
   by_closed : (w : Option (List (Option ℤ))) → opened_one at (solver_seen S names w) ≡ Ok (record (solver_seen S names w) { waiting = waiting_now (solver_seen S names w) })
   by_closed w = ap (λ b. if b then Ok (record (solver_seen S names w) { waiting = waiting_now (solver_seen S names w) }) else refused at NotClosed) shut
@@ -78,6 +82,15 @@ module _ (S : solvers.SolverState) (names : List (List ℕ)) (at : Place) (shut 
 
   pub opened_inner : (ws : List (Option ℤ)) → opened_one at (solver_seen S names (Some ws)) ≡ Ok (solver_seen S names (Some ws))
   opened_inner ws = by_closed (Some ws)
+
+  -- the same by whether something waits
+  pub opened_again : (w : Option (List (Option ℤ))) → is_some w ≡ true → opened_one at (solver_seen S names w) ≡ Ok (solver_seen S names w)
+  opened_again None h = absurd (true≢false (sym h))
+  opened_again (Some ws) h = opened_inner ws
+
+  pub opened_first : (w : Option (List (Option ℤ))) (ws : List (Option ℤ)) → is_some w ≡ false → ws ≡ replicate (length S.assignment) None → opened_one at (solver_seen S names w) ≡ Ok (solver_seen S names (Some ws))
+  opened_first None ws h e = opened_made ∙ ap (λ (us : List (Option ℤ)). Ok (solver_seen S names (Some us))) (sym e)
+  opened_first (Some us) ws h e = absurd (true≢false h)
 
   nothing_at : (n i : ℕ) (z : ℤ) → slice_get (replicate n None) i ≡ Some (Some z) → ⊥
   nothing_at zero i z e = let c : None ≡ Some (Some z) = e in cc

@@ -76,3 +76,7 @@ module _ (S : solvers.SolverState) (names : List (List ℕ)) (waiting : Option (
 
   pub defined_nothing : (at : Place) (t : Term) → x.solver ≡ S.number → early_refusal S x t ≡ None → same_kind (kind_in m x.index) (kind_of_term (kinds_in m.model.vars.items) t) ≡ false → defined_one at x (plain_term t) m ≡ sized_one at x (nothing_of (kind_in m x.index)) m
   defined_nothing at t own e fits = defined_late S names waiting at x t own e ∙ ap (λ (u : Term). sized_one at x u m) (for_by t false fits)
+
+  -- what stands for a term of another kind, by the kind that the solver tells
+  pub nothing_seen : is_own S x ≡ true → nothing_of (kind_or_number (own_kind S x)) ≡ nothing_of (kind_in m x.index)
+  nothing_seen own = ap (λ o. nothing_of (kind_or_number o)) (own_kinds own) ∙ ap nothing_of (sym kind_there)

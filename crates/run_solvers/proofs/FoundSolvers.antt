@@ -16,6 +16,8 @@ use Rattle.model_values.specs.declared.failure.Failure.{Failure}
 use Rattle.term_model.specs.Wellformed.{HasDefinedSets}
 use Rattle.term_model.specs.declared.model.Model.{Model}
 use Rattle.term_model.specs.declared.model.VarDecl.{VarDecl}
+use Rattle.term_model.specs.declared.model.VarKind.{VarKind}
+use Rattle.term_model.specs.declared.model.VarKind.TheVariants.{Number}
 use Rattle.term_model.specs.declared.term.Term.{Term}
 use Rattle.term_model.proofs.VarLaws.{set_same}
 use Rattle.comet_meaning.specs.Values.{Value}
@@ -59,6 +61,11 @@ others_of M x sets i lt none = inr (sets i lt none)
 pub kept_from : {X : Type 0} (r : Result X Stop) (h : Held) (M : Model) (x : ℕ) → OnOk r (IsWholeHeld h) → OnOk r (HasDefinedOthers M x → HasDefinedSets h.solver.model) → HasDefinedOthers M x → OnOk r (IsKept h)
 kept_from (Ok y) h M x whole sets others = (whole, sets others)
 kept_from (Err stop) h M x whole sets others = tt
+
+-- and so does a new number
+pub numbers_kept : {X : Type 0} (r : Result X Stop) (h : Held) (kind : VarKind) → OnOk r (IsWholeHeld h) → OnOk r (kind ≡ Number → HasDefinedSets h.solver.model) → kind ≡ Number → OnOk r (IsKept h)
+numbers_kept (Ok y) h kind whole sets number = (whole, sets number)
+numbers_kept (Err stop) h kind whole sets number = tt
 
 -- ---- solvers that are kept
 

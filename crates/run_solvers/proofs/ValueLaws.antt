@@ -11,19 +11,21 @@ use Rattle.cbl_base.specs.declared.input.Input.TheVariants as inputs
 use Rattle.cbl_base.specs.declared.place.Place.{Place}
 use Rattle.ls_solver.specs.Asking.{own_kind}
 use Rattle.ls_solver.specs.Ids.{has_definition, is_own}
-use Rattle.ls_solver.specs.Reading.{fresh_value, set_refusal, value_refusal}
+use Rattle.ls_solver.specs.Reading.{domain_refusal, fresh_value, set_refusal, value_refusal}
 use Rattle.ls_solver.specs.State as solvers
 use Rattle.ls_solver.proofs.ListLaws.{slice_within}
 use Rattle.ls_solver.proofs.ReadLaws.{readable, set_readable}
 use Rattle.term_model.specs.Kinds.{kind_of_var, kinds_in}
 use Rattle.term_model.specs.declared.model.VarDecl.{VarDecl}
+use Rattle.model_view.proofs.PlainModels.{plain_vars}
+use Rattle.comet_meaning.specs.Models.{domain_at, domain_in}
 use Rattle.comet_meaning.specs.Values as values
-use Rattle.comet_meaning.specs.Outcome.{Went, Halted, Faulted, fault, give}
+use Rattle.comet_meaning.specs.Outcome.{Went, Halted, Faulted, fault, give, then_do, unless}
 use Rattle.comet_meaning.specs.Parts.{needs_close, value_of, value_now, variable_value}
 use Rattle.comet_meaning.specs.Solvers.{SolverState, has_variable, is_defined, kind_in, kind_or_number}
 use Rattle.comet_meaning.specs.State.{State, left}
 use Rattle.run_solvers.specs.Views.{solver_seen}
-use Rattle.run_solvers.proofs.SeenLaws.{count_seen, defined_seen, kinds_seen, now_seen}
+use Rattle.run_solvers.proofs.SeenLaws.{count_seen, defined_seen, kinds_seen, now_seen, owns_seen}
 
 and_second : (a b : Bool) → (a && b) ≡ true → b ≡ true
 and_second true b h = h
@@ -127,3 +129,38 @@ module _ (S : solvers.SolverState) (names : List (List ℕ)) (waiting : Option (
       always : (defined : Bool) → (not false && (defined || not false)) ≡ true
       always true = refl
       always false = refl
+
+-- a domain
+
+module _ (S : solvers.SolverState) (names : List (List ℕ)) (waiting : Option (List (Option ℤ))) (at : Place) (x : VarId) (s : State) where
+  abbrev asked : SolverState
+  asked = solver_seen S names waiting
+
+  domain_by : (b : Bool) → x.solver ≡ S.number → is_own S x ≡ b → domain_at at x asked s ≡ then_do (unless b at WrongSolver s) (λ u. give (values.Range (domain_in (slice_get asked.model.vars.items x.index))))
+  unfolding domain_at
+  domain_by b own e = ap (λ t. then_do (unless t at WrongSolver s) (λ u. give (values.Range (domain_in (slice_get asked.model.vars.items x.index))))) (owns_seen S names waiting x.solver x own ∙ e)
+
+  bounds_there : (o : Option VarDecl) (low up : ℤ) → option_map (λ (d : VarDecl). (d.low, d.up)) o ≡ Some (low, up) → domain_in o ≡ record { low = low; up = up }
+  bounds_there None low up e = let c : None ≡ Some (low, up) = e in cc
+  bounds_there (Some d) low up e =
+      let both : (d.low, d.up) ≡ (low, up) = cc in
+      ap (λ (p : ℤ × ℤ). record { low = p.0; up = p.1 }) both
+
+  own_by : (b : Bool) → (if not b then Some WrongSolver else None) ≡ None → b ≡ true
+  own_by true e = refl
+  own_by false e = let c : Some WrongSolver ≡ None = e in cc
+
+  foreign_by : (b : Bool) (f : RunFault) → (if not b then Some WrongSolver else None) ≡ Some f → (b ≡ false) × (WrongSolver ≡ f)
+  foreign_by true f e = let c : None ≡ Some f = e in cc
+  foreign_by false f e = (refl, cc)
+
+  pub domain_there : (low up : ℤ) → x.solver ≡ S.number → domain_refusal S x ≡ None → option_map (λ (d : VarDecl). (d.low, d.up)) (slice_get S.model.vars.items x.index) ≡ Some (low, up) →
+      domain_at at x asked s ≡ Went (values.Range (record { low = low; up = up })) s
+  domain_there low up own none e =
+      domain_by true own (own_by (is_own S x) none)
+      ∙ ap (λ (b : values.Bounds). Went (values.Range b) s) (ap (λ (ds : List VarDecl). domain_in (slice_get ds x.index)) (plain_vars S.model) ∙ bounds_there (slice_get S.model.vars.items x.index) low up e)
+
+  pub domain_unread : (f : RunFault) → x.solver ≡ S.number → domain_refusal S x ≡ Some f → domain_at at x asked s ≡ Halted (Faulted at f) (left s)
+  domain_unread f own some =
+      let parts = foreign_by (is_own S x) f some in
+      domain_by false own parts.0 ∙ ap (λ (g : RunFault). Halted (Faulted at g) (left s)) parts.1
