@@ -5,6 +5,7 @@ use Rattle.cbl_base.specs.declared.ids.VarId.{VarId}
 use Rattle.cbl_base.specs.declared.limits.TheConstants.{MAX_TERM_DEPTH}
 use Rattle.cbl_base.specs.declared.place.Place.{Place}
 use Rattle.cbl_operations.specs.declared.op.Op.{Op}
+use Rattle.cbl_operations.specs.declared.op.Op.TheVariants.{User}
 use Rattle.model_view.specs.Building.{constant, constant_set, variable, node}
 use Rattle.model_view.specs.Plain.{plain_step, plain_term}
 use Rattle.model_view.proofs.PlainSubterms.{map_append}
@@ -35,6 +36,11 @@ variable_built x = record { depth_ = sym (fold-roll-Term ℕ depth_step (Term-F.
 
 pub variable_seen : (x : VarId) → plain_term (variable x) ≡ variable x
 variable_seen x = fold-roll-Term Term plain_step (Term-F.Var x)
+
+-- what is no user's constraint
+pub not_user : (op : Op) → ((n : ℕ) → op ≡ User n → ⊥) → user_number op ≡ []
+not_user (User n) h = absurd (h n refl)
+not_user op h = refl
 
 -- ---- terms in a row
 greatest_more : (ns : List ℕ) (n : ℕ) → greatest (ns ++ n ∷ []) ≡ max (greatest ns) n

@@ -1,5 +1,5 @@
 //! Terms that statements build.
-ghost use Rattle.std.specs.Prelude.{◌≡◌, ◌++◌, ◌∷◌, List, [], IfErr, IfOk, OnOk};
+ghost use Rattle.std.specs.Prelude.{◌≡◌, ◌++◌, ◌∷◌, List, [], max, IfErr, IfOk, OnOk};
 ghost use Rattle.std.specs.Bool.{OnFalse};
 ghost use Rattle.comet_meaning.specs.State.{State};
 ghost use Rattle.comet_meaning.specs.TermForms.{node_form};
@@ -108,7 +108,10 @@ fn leaf(term: Term) -> Built
 fn is_user(op: &Op) -> bool
     ensures { OnFalse result (user_number op.now ≡ []) }
 {
-    matches!(op, Op::User { number: _ })
+    match op {
+        Op::User { number: _ } => true,
+        _ => false,
+    }
 }
 
 /// The terms in a row.
@@ -125,13 +128,20 @@ fn row_of(args: Vec<Built>) -> Result<Row, NoMemory>
     Ok(row)
 }
 
+/// The greater of two depths.
+fn deeper(depth: u32, other: u32) -> u32
+    ensures { result ≡ max depth other }
+{
+    if depth < other { other } else { depth }
+}
+
 /// One more term, behind those in a row.
 fn push_built(row: &mut Row, built: Built) -> Result<(), NoMemory>
     ensures { OnOk result ((before : List Tree) → AreBuilt row.old.terms.items row.old.deepest before → AreBuilt row.new.terms.items row.new.deepest (before ++ built ∷ [])) }
 {
     let depth = built.depth;
     row.terms.push(built.term)?;
-    row.deepest = row.deepest.max(depth);
+    row.deepest = deeper(row.deepest, depth);
     Ok(())
 }
 
