@@ -215,11 +215,13 @@ committed_none m (Some a) = evaluated_none _
 
 -- ---- one that isn't there
 
+neither_there : (b c : Bool) → c ≡ false → (b && c) ≡ false
+neither_there true c e = e
+neither_there false c e = refl
+
 unowned : (x : VarId) → owns x.solver new_solver x ≡ false
 unfolding empty_model
-unowned x = nothing_in (nat_eq x.solver x.solver) x.index where
-  nothing_in : (b : Bool) (i : ℕ) → (b && nat_lt i (variable_count new_solver)) ≡ false
-  nothing_in b i = search (rules, arith)
+unowned x = neither_there (nat_eq x.solver x.solver) (has_variable new_solver x.index) (search (rules, arith))
 
 pub assigned_nowhere : (at : Place) (x : VarId) (z : ℤ) (m : SolverState) → m ≡ new_solver → assigned_one at x z m ≡ refused at WrongSolver
 assigned_nowhere at x z m e = rw (e, unowned x) refl
