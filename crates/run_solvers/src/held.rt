@@ -57,16 +57,19 @@ impl Held {
 
     /// The answer of a change. Where it stopped the run is over, and the solver is emptied, since it may be of no use any
     /// more.
-    pub(crate) fn finish<T: Drop>(&mut self, made: Result<T, Stop>) -> Result<T, Stop>
+    pub(crate) fn finish<T>(&mut self, made: Result<T, Stop>) -> Result<T, Stop>
         requires { OnOk made (IsKept self.old) }
         ensures same { result ≡ made }
         ensures kept { IsKept self.new }
         ensures number { self.new.number ≡ self.old.number }
         ensures unchanged { OnOk made (self.new ≡ self.old) }
     {
-        if made.is_err() {
-            self.clear();
+        match made {
+            Ok(value) => Ok(value),
+            Err(stop) => {
+                self.clear();
+                Err(stop)
+            }
         }
-        made
     }
 }
