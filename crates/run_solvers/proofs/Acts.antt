@@ -23,7 +23,7 @@ use Rattle.run_solvers.specs.Changing.{Made, refused, by_values, evaluated, by_c
 
 -- a test before an act
 
-tested : {A : Type 0} (b : Bool) (at : Place) (f : RunFault) (x : A) (k : ℕ) (act : Unit {0} → Act A) (made : Made) (s : State) → act tt s ≡ changed x k made s → (unless b at f >>= act) s ≡ changed x k (if b then made else refused at f) s
+pub tested : {A : Type 0} (b : Bool) (at : Place) (f : RunFault) (x : A) (k : ℕ) (act : Unit {0} → Act A) (made : Made) (s : State) → act tt s ≡ changed x k made s → (unless b at f >>= act) s ≡ changed x k (if b then made else refused at f) s
 tested true at f x k act made s e = e
 tested false at f x k act made s e = refl
 

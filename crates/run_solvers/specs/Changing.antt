@@ -1,12 +1,12 @@
 -- What each act on a solver makes of it, or how it halts the run. The solver is asked first whether it is closed, then
 -- whether the ids are its own, then whether the variables have definitions, and a closed solver is evaluated as it
 -- changes. From the language.
-use Rattle.std.specs.Prelude.{ℕ, ℤ, ◌&&◌, ◌||◌, List, [], ◌∷◌, Option, Some, None, Result, Ok, Err, nat_lt, slice_set, if◌then◌else◌}
+use Rattle.std.specs.Prelude.{ℕ, ℤ, ◌&&◌, ◌||◌, List, [], ◌∷◌, Option, Some, None, Result, Ok, Err, is_some, nat_lt, slice_set, if◌then◌else◌}
 use Rattle.cbl_base.specs.declared.ids.VarId.{VarId}
 use Rattle.cbl_base.specs.declared.place.Place.{Place}
 use Rattle.cbl_base.specs.declared.faults.Limit.TheVariants.{TermNodes, Variables}
 use Rattle.cbl_base.specs.declared.faults.RunFault.{RunFault}
-use Rattle.cbl_base.specs.declared.faults.RunFault.TheVariants.{AlreadyClosed, DefinedVariable, TooMany, WrongSolver}
+use Rattle.cbl_base.specs.declared.faults.RunFault.TheVariants.{AlreadyClosed, DefinedVariable, NotClosed, TooMany, WrongSolver}
 use Rattle.term_model.specs.declared.model.VarDecl.{VarDecl}
 use Rattle.term_model.specs.declared.term.Term.{Term}
 use Rattle.model_values.specs.Fresh.{Fresh}
@@ -75,11 +75,26 @@ abbrev pub begun_one : Place → VarId → Beginning → SolverState → Made
 begun_one at x (free z) m = Ok m
 begun_one at x (defined t) m = defined_one at x t m
 
+-- it is there, and has no definition yet
+abbrev pub declared_one : Place → VarDecl → List ℕ → ℤ → SolverState → Made
+declared_one at d name z m =
+    if m.closed then refused at AlreadyClosed
+    else (if nat_lt (variable_count m) most_variables then Ok (with_variable m d name z)
+    else refused at (TooMany Variables))
+
 abbrev pub added_one : Place → ℕ → VarDecl → List ℕ → Beginning → SolverState → Made
 added_one at k d name b m =
     if m.closed then refused at AlreadyClosed
     else (if nat_lt (variable_count m) most_variables then begun_one at (next_variable k m) b (with_variable m d name (first_number b))
     else refused at (TooMany Variables))
+
+-- `with`: the outermost one on a closed solver makes what is assigned in it wait
+
+abbrev pub waiting_now : SolverState → Option (List ℤ)
+waiting_now m = if is_some m.waiting then m.waiting else Some m.assignment
+
+abbrev pub opened_one : Place → SolverState → Made
+opened_one at m = if m.closed then Ok (record m { waiting = waiting_now m }) else refused at NotClosed
 
 -- the end of the outermost `with`, where something waits
 abbrev pub committed_one : SolverState → Option (List ℤ) → Option Made

@@ -1,44 +1,75 @@
-//! A solver of a run, and what is read of it.
-ghost use Rattle.std.specs.Prelude.{◌≡◌, IfErr, IfOk, map};
-ghost use Rattle.comet_meaning.specs.Parts.{variable_value};
-ghost use Rattle.comet_meaning.specs.State.{State};
-ghost use Rattle.run_values.specs.Did.{Did, IsFaultOrMemory};
-ghost use Rattle.run_values.specs.Views.{value_seen};
-ghost use Rattle.run_values.specs.declared.stop.Stop.TheVariants.{NoMemory};
+//! One solver of a run.
+ghost use Rattle.std.specs.Prelude.{◌≡◌, OnOk};
+ghost use Rattle.cbl_base.specs.declared.ids.VarId.{VarId};
+ghost use Rattle.comet_meaning.specs.Solvers.{new_solver};
+ghost use Rattle.run_solvers.specs.Kept.{IsKept};
 ghost use Rattle.run_solvers.specs.Views.{held_seen};
 
-use cbl_base::{Names, Place, VarId};
-use run_values::{Stop, Value};
+use cbl_base::{Names, VarId};
+use ls_solver::Solver;
+use run_values::Stop;
 use std::alloc::Global;
-use term_model::Model;
 
-/// A solver of a run: its model, an assignment, whether it is closed, the names of its variables, and what the end of an
-/// open `with` commits.
+/// A solver of a run: its number, the solver, the names of its variables, and while a `with` is open for each variable
+/// the number that it was assigned in it.
 #[derive(Drop)]
-pub struct Held {
-    pub(crate) model: Model,
-    pub(crate) assignment: Vec<i64>,
-    pub(crate) closed: bool,
+pub(crate) struct Held {
+    pub(crate) alloc: Global,
+    pub(crate) number: u32,
+    pub(crate) solver: Solver,
     pub(crate) names: Names,
-    pub(crate) waiting: Option<Vec<i64>>,
+    pub(crate) waiting: Option<Vec<Option<i64>>>,
 }
 
 impl Held {
-    /// The value of a variable that is read at this place. `WrongSolver` exactly where the solver has no such variable,
-    /// `NotClosed` exactly where only a closed solver has its value. A stand-in: it answers want of memory.
-    pub fn read(&self, at: Place, variable: VarId) -> Result<Value, Stop>
-        ensures did { (s : State) → Did value_seen result s (variable_value at variable.index (held_seen self.now) s) }
-        ensures stop { IfErr result IsFaultOrMemory }
+    /// A solver without variables, which is open.
+    pub(crate) fn new(alloc: Global, number: u32) -> Held
+        ensures seen { held_seen result ≡ new_solver }
+        ensures kept { IsKept result }
+        ensures number { result.number ≡ number }
     {
-        Err(Stop::NoMemory)
+        Held {
+            alloc,
+            number,
+            solver: Solver::new(alloc, number),
+            names: Names::new(alloc),
+            waiting: None,
+        }
     }
-}
 
-/// A copy of each solver. `NoMemory` where there is none for them; there is no other stop. A stand-in: it answers want of
-/// memory.
-pub fn copied_solvers(_alloc: Global, solvers: &[Held]) -> Result<Vec<Held>, Stop>
-    ensures same { IfOk result (λ copies. map held_seen copies.items ≡ map held_seen solvers.now) }
-    ensures memory { IfErr result (λ stop. stop ≡ NoMemory) }
-{
-    Err(Stop::NoMemory)
+    /// The id of the variable at an index.
+    pub(crate) fn own(&self, index: u32) -> VarId
+        ensures { result ≡ record { solver = self.now.number; index = index } }
+    {
+        VarId {
+            solver: self.number,
+            index,
+        }
+    }
+
+    /// Empties it, once the run is over.
+    pub(crate) fn clear(&mut self)
+        ensures kept { IsKept self.new }
+        ensures number { self.new.number ≡ self.old.number }
+    {
+        *self = Held::new(self.alloc, self.number);
+    }
+
+    /// The answer of a change. Where it stopped the run is over, and the solver is emptied, since it may be of no use any
+    /// more.
+    pub(crate) fn finish<T>(&mut self, made: Result<T, Stop>) -> Result<T, Stop>
+        requires { OnOk made (IsKept self.old) }
+        ensures same { result ≡ made }
+        ensures kept { IsKept self.new }
+        ensures number { self.new.number ≡ self.old.number }
+        ensures unchanged { OnOk made (self.new ≡ self.old) }
+    {
+        match made {
+            Ok(value) => Ok(value),
+            Err(stop) => {
+                self.clear();
+                Err(stop)
+            }
+        }
+    }
 }

@@ -1,10 +1,21 @@
-//! The solvers of a run: what each act on one of them makes of it.
+//! The solvers of a run: terms that statements build, and what each act of a program makes of its solvers.
 //!
-//! Their code is a stand-in so far. It knows nothing of statements, of names or of how many solvers there are. The layers
-//! above use that each act of a program on its solvers is the change of one solver.
+//! It knows nothing of statements or of names' cells. The layers above use that a built term is seen as its tree, that
+//! the solvers are seen as the meaning of programs has them, and that each act does of them what the meaning says.
 #![tactic(auto)]
 
-pub mod held;
+mod beginning;
+mod built;
+mod changing;
+mod closing;
+mod defining;
+mod held;
 pub mod laws;
+mod reading;
+mod refusals;
+mod solvers;
+mod waiting;
 
-pub use held::{Held, copied_solvers};
+pub use beginning::Beginning;
+pub use built::Built;
+pub use solvers::Solvers;

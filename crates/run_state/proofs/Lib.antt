@@ -5,5 +5,6 @@ pub mod EitherArray
 pub mod OwnArrays
 pub mod PrintLaws
 pub mod ReadLaws
+pub mod StandingLaws
 pub mod WordLaws
 pub mod WrittenCells

@@ -1,14 +1,13 @@
 -- Variables that are read one after another: what one gives, and what all come to.
-use Rattle.std.proofs.Common.{◌≡◌, ℕ, zero, suc, ◌+◌, ◌<◌, ℤ, Bool, true, false, List, [], ◌∷◌, ◌++◌, length, get_or, map, Result, Ok, Err, IfOk, refl, sym, ◌∙◌, ap, subst, append_assoc, append-nil, rules, arith}
+use Rattle.std.proofs.Common.{◌≡◌, ℕ, zero, suc, ◌+◌, ◌<◌, ℤ, Bool, true, false, List, [], ◌∷◌, ◌++◌, length, get_or, map, Result, Ok, Err, IfOk, refl, sym, ◌∙◌, ap, subst, append_assoc, append-nil, arith}
 use Rattle.std.specs.Prelude.{if◌then◌else◌, IfErr}
 use Rattle.cbl_base.specs.declared.ids.VarId.{VarId}
 use Rattle.cbl_base.specs.declared.place.Place.{Place}
 use Rattle.cbl_base.specs.declared.faults.RunFault.TheVariants.{NotClosed, WrongSolver}
-use Rattle.model_view.specs.Building.{empty_model}
 use Rattle.comet_meaning.specs.Values.{Value, Variable, Variables, number_of}
-use Rattle.comet_meaning.specs.Solvers.{SolverState, new_solver, has_variable}
-use Rattle.comet_meaning.specs.State.{State, Cells, left}
-use Rattle.comet_meaning.specs.Outcome.{Outcome, Went, Halted, Faulted, Act, then_do, give, fault}
+use Rattle.comet_meaning.specs.Solvers.{has_variable}
+use Rattle.comet_meaning.specs.State.{State, Cells}
+use Rattle.comet_meaning.specs.Outcome.{Outcome, Went, Halted, Act, then_do, give, fault}
 use Rattle.comet_meaning.specs.Parts.{solver_at, needs_close, value_now, variable_value, read}
 use Rattle.comet_meaning.specs.Taking.{read_each, read_cells, read_array}
 use Rattle.comet_meaning.specs.Cells.{variables, variables_of}
@@ -35,13 +34,6 @@ stopped_to stop s o f w e h = subst (Stopped stop s) e (stopped_behind stop s o 
 pub read_is : (at : Place) (x : VarId) (s : State) → read at (Variable x) s ≡ variable_value at x.index (solver_at s x.solver) s
 unfolding read
 read_is at x s = refl
-
--- a solver that isn't there has no variable
-pub reads_nothing : (at : Place) (x : ℕ) (m : SolverState) (s : State) → m ≡ new_solver → variable_value at x m s ≡ Halted (Faulted at WrongSolver) (left s)
-unfolding variable_value empty_model
-reads_nothing at x m s none = rw none (outside _ (has_variable new_solver x) (search (rules, arith))) where
-  outside : (a : Act Value) (b : Bool) → b ≡ false → (if b then a else fault at WrongSolver) s ≡ Halted (Faulted at WrongSolver) (left s)
-  outside a b e = rw e refl
 
 -- a variable that is read is what it comes to, and changes nothing
 read_value : (b c : Bool) (at : Place) (v : Value) (s : State) (w : Value) (t : State) → (if b then (if c then fault at NotClosed else give v) else fault at WrongSolver) s ≡ Went w t → (w ≡ v) × (t ≡ s)

@@ -2,7 +2,6 @@
 use Rattle.std.specs.Prelude.{ℕ, List, drop, map}
 use Rattle.comet_meaning.specs.State.{State}
 use Rattle.run_values.specs.Views.{value_seen, cells_seen, variable_cells_seen}
-use Rattle.run_solvers.specs.Views.{held_seen}
 use Rattle.run_state.specs.declared.state.State.{State as declared}
 
 abbrev pub state_seen : declared → List ℕ → State
@@ -11,7 +10,7 @@ state_seen s printed = record {
   frame = map value_seen s.frame.items;
   arrays = map cells_seen s.arrays.items;
   variable_arrays = map variable_cells_seen s.variable_arrays.items;
-  solvers = map held_seen s.solvers.items;
+  solvers = s.solvers;
   inputs = map (λ n. drop n s.data.items) s.inputs.items;
   data_text = s.data.items;
   fuel = s.fuel;

@@ -5,7 +5,6 @@ ghost use Rattle.run_state.specs.Views.{state_seen};
 ghost use Rattle.run_values.specs.declared.stop.Stop.TheVariants.{NoMemory};
 
 use crate::state::State;
-use run_solvers::copied_solvers;
 use run_values::Stop;
 use run_values::cells::{copied_arrays, copied_variables};
 use run_values::values::copied_values;
@@ -22,7 +21,7 @@ impl State {
         let frame = copied_values(alloc, &self.frame)?;
         let arrays = copied_arrays(alloc, &self.arrays)?;
         let variable_arrays = copied_variables(alloc, &self.variable_arrays)?;
-        let solvers = copied_solvers(alloc, &self.solvers)?;
+        let solvers = self.solvers.copied(alloc)?;
         Ok(State {
             globals,
             frame,

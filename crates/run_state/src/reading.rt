@@ -10,7 +10,7 @@ ghost use Rattle.run_state.specs.Acts.{numbers_read, count_read};
 ghost use Rattle.run_state.specs.Views.{state_seen};
 
 use crate::state::State;
-use cbl_base::{Place, RunFault, VarId};
+use cbl_base::{Place, VarId};
 use run_values::values::numbers_of;
 use run_values::{Stop, Value};
 
@@ -33,11 +33,7 @@ impl State {
         ensures did { (printed : List ℕ) → Did value_seen result (state_seen self.now printed) (parts.read at (values.Variable variable) (state_seen self.now printed)) }
         ensures stop { IfErr result IsFaultOrMemory }
     {
-        let number = variable.solver as usize;
-        if number >= self.solvers.len() {
-            return Err(Stop::Fault(at, RunFault::WrongSolver));
-        }
-        self.solvers[number].read(at, variable)
+        self.solvers.read(at, variable)
     }
 
     /// The values of variables that are read at a place, one after another.

@@ -3,7 +3,7 @@ ghost use Rattle.std.specs.Prelude.{◌≡◌, []};
 ghost use Rattle.comet_meaning.specs.State.{first_state};
 ghost use Rattle.run_state.specs.Views.{state_seen};
 
-use run_solvers::Held;
+use run_solvers::Solvers;
 use run_values::{Cells, Value, VariableCells};
 use std::alloc::Global;
 
@@ -14,7 +14,7 @@ pub struct State {
     pub frame: Vec<Value>,
     pub(crate) arrays: Vec<Cells>,
     pub(crate) variable_arrays: Vec<VariableCells>,
-    pub solvers: Vec<Held>,
+    pub solvers: Solvers,
     /// For each `InputFile` how many bytes of the data it has read.
     pub(crate) inputs: Vec<usize>,
     pub(crate) data: Vec<u8>,
@@ -32,7 +32,7 @@ impl State {
             frame: Vec::new(alloc),
             arrays: Vec::new(alloc),
             variable_arrays: Vec::new(alloc),
-            solvers: Vec::new(alloc),
+            solvers: Solvers::new(alloc),
             inputs: Vec::new(alloc),
             data: text,
             fuel,

@@ -1,0 +1,9 @@
+-- No term, and one more.
+use Rattle.run_solvers.proofs.BuiltLaws.{none_built}
+use Rattle.run_solvers.proofs.built.row_of.Goals as goal
+
+pub loop-built-init : goal.loop-built-init
+loop-built-init c = none_built
+
+pub loop-built-preserved : goal.loop-built-preserved
+loop-built-preserved c = c.in_ok-push_built.ensures c.loop-built.yielded c.loop-built.invariant

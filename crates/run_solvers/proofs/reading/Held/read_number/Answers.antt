@@ -1,0 +1,22 @@
+-- A number is read, or can't be read yet.
+use Rattle.std.proofs.Common.{sym, ◌∙◌, ap}
+use Rattle.run_solvers.specs.Views.{waits}
+use Rattle.run_solvers.proofs.ReadStops.{number_stops}
+use Rattle.run_solvers.proofs.ValueLaws.{kind_own, number_there}
+use Rattle.run_solvers.proofs.reading.Held.read_number.Goals as goal
+
+pub value-requires-clause-usable : goal.value-requires-clause-usable
+value-requires-clause-usable c = c.requires.kept.0.usable
+
+pub value-requires-clause-kind : goal.value-requires-clause-kind
+value-requires-clause-kind c = λ own. (kind_own c.args.self.now.solver c.args.variable _ c.requires.kind).1
+
+pub returns-in-Ok-clause-did : goal.returns-in-Ok-clause-did
+returns-in-Ok-clause-did c = λ s.
+    let held = c.args.self.now in
+    number_there held.solver held.names (waits held) c.args.at c.args.variable s c.requires.kind c.in-Ok.ensures.answer _ c.in-Ok.ensures.value
+
+pub returns-in-Err-clause-did : goal.returns-in-Err-clause-did
+returns-in-Err-clause-did c = λ s.
+    let held = c.args.self.now in
+    number_stops held.solver held.names (waits held) c.args.at c.args.variable s c.requires.kind c.in-Err.fault c.stop_of.result c.in-Err.ensures.answer c.stop_of.ensures
