@@ -11,7 +11,7 @@ use crate::builtins::builtin_called;
 use crate::doing::act_on;
 use crate::roots::written_roots;
 use cbl_base::Place;
-use checked_tree::make_expressions::make_call;
+use tree_makers::make_expressions::make_call;
 use checked_tree::{Cause, Kind, Slot, Stop, Typed};
 use comet_syntax::tree::Name;
 use std::alloc::Global;

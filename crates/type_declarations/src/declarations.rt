@@ -1,6 +1,6 @@
 //! What declarations are.
 ghost use Rattle.std.specs.Prelude.{◌≡◌, Option, Some, None, option_map};
-ghost use Rattle.checked_tree.specs.Makes.{Makes};
+ghost use Rattle.tree_makers.specs.Makes.{Makes};
 ghost use Rattle.checked_tree.specs.Shape.{seen};
 ghost use Rattle.checked_tree.specs.Actions.{deed_of, variable_of};
 ghost use Rattle.type_scopes.specs.Did.{Did};
@@ -16,7 +16,7 @@ use crate::parts::{
     start_fits,
 };
 use cbl_base::{Place, Text};
-use checked_tree::make_actions::{make_array, make_declared, make_variable};
+use tree_makers::make_actions::{make_array, make_declared, make_variable};
 use checked_tree::{Action, Cause, Kind, Slot, Stop, Typed, Variable};
 use comet_syntax::tree::{Declaration, Dimensions, Expression, Name, VariableStart};
 use std::alloc::Global;

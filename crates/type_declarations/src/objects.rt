@@ -1,6 +1,6 @@
 //! The making of objects.
 ghost use Rattle.std.specs.Prelude.{◌≡◌, map, IfOk};
-ghost use Rattle.checked_tree.specs.Makes.{Makes};
+ghost use Rattle.tree_makers.specs.Makes.{Makes};
 ghost use Rattle.checked_tree.specs.Shape.{seen};
 ghost use Rattle.checked_tree.specs.Actions.{deed_of};
 ghost use Rattle.type_scopes.specs.Did.{Did};
@@ -10,7 +10,7 @@ ghost use Rattle.type_declarations.specs.View.{handing_of};
 
 use crate::parts::rule;
 use cbl_base::Place;
-use checked_tree::make_actions::make_object;
+use tree_makers::make_actions::make_object;
 use checked_tree::{Action, Cause, Kind, Slot, Stop, Typed};
 use comet_syntax::tree::{Argument, Class, Maker, Name};
 use std::alloc::Global;

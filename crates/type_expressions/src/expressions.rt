@@ -1,6 +1,6 @@
 //! What expressions are.
 ghost use Rattle.std.specs.Prelude.{◌≡◌, false, [], ◌∷◌, map, option_map, Option};
-ghost use Rattle.checked_tree.specs.Makes.{Makes};
+ghost use Rattle.tree_makers.specs.Makes.{Makes};
 ghost use Rattle.checked_tree.specs.Shape as shapes;
 ghost use Rattle.checked_tree.specs.Shape.{shape_of, shape_of_link, shape_of_generator, seen};
 ghost use Rattle.checked_tree.specs.declared.kind.Kind.TheVariants as kind;
@@ -13,7 +13,7 @@ ghost use Rattle.type_expressions.specs.Expressions.{judge, judge_link, judge_ar
 ghost use Rattle.type_expressions.specs.View.{front_of, values_of, generators_of};
 
 use cbl_base::{Place, Text};
-use checked_tree::make_expressions::{
+use tree_makers::make_expressions::{
     make_aggregate, make_builtin, make_cell, make_chain, make_compare, make_conditional,
     make_generator, make_index, make_link, make_list, make_name, make_number, make_parentheses,
     make_range, make_set, make_text, make_truth, make_unary,

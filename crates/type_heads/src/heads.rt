@@ -18,8 +18,8 @@ ghost use Rattle.type_heads.specs.View.{head_of, choice_of};
 
 use crate::kept::{behind, beside};
 use cbl_base::Place;
-use checked_tree::make_actions::make_nothing;
-use checked_tree::make_tasks::make_action;
+use tree_makers::make_actions::make_nothing;
+use tree_makers::make_tasks::make_action;
 use checked_tree::{
     Action, Cause, Counter, EventSlots, Generator as CheckedGenerator, Kind, Slot, Stop, Task,
     Typed,

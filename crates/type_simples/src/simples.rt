@@ -1,7 +1,7 @@
 //! What simple statements are.
 ghost use Rattle.std.specs.Prelude.{◌≡◌, ◌++◌, [], ◌∷◌, map, option_map, OnOk, IfErr, if◌then◌else◌};
 ghost use Rattle.std.specs.List.{list_all, list_any};
-ghost use Rattle.checked_tree.specs.Makes.{Makes};
+ghost use Rattle.tree_makers.specs.Makes.{Makes};
 ghost use Rattle.checked_tree.specs.Shape.{shape_of, seen, whole};
 ghost use Rattle.checked_tree.specs.Actions as deeds;
 ghost use Rattle.checked_tree.specs.Actions.{deed_of, printed_of};
@@ -15,7 +15,7 @@ ghost use Rattle.type_declarations.specs.View.{handing_of};
 ghost use Rattle.type_simples.specs.View.{acted_of, printed_list};
 
 use cbl_base::{Place, Text};
-use checked_tree::make_actions::{
+use tree_makers::make_actions::{
     make_alone, make_choice, make_object, make_print, make_return, make_step, make_swap, make_write,
 };
 use checked_tree::{Action, Cause, Form, Kind, Printed, Slot, Stop, Typed};

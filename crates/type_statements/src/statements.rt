@@ -10,7 +10,7 @@ ghost use Rattle.type_statements.specs.Statements.{statement_of, block_of};
 ghost use Rattle.type_statements.specs.View.{tasks_of};
 
 use cbl_base::Place;
-use checked_tree::make_tasks::{
+use tree_makers::make_tasks::{
     make_block, make_for, make_for_all, make_if, make_if_else, make_neighbor, make_parall,
     make_select, make_select_by, make_whenever, make_while, make_with,
 };

@@ -2,9 +2,9 @@
 //!
 //! Each function is generic, so that for want of memory it lets a part go by one call, whatever the part holds.
 ghost use Rattle.std.specs.Prelude.{◌≡◌, [], ◌∷◌};
-ghost use Rattle.checked_tree.specs.Makes.{Makes};
+ghost use Rattle.tree_makers.specs.Makes.{Makes};
 
-use crate::stop::Stop;
+use checked_tree::stop::Stop;
 use std::alloc::Global;
 
 /// A part in a box, beside another one as it was.

@@ -1,15 +1,15 @@
 //! Checked statements, made of their parts.
 ghost use Rattle.std.specs.Prelude.{◌≡◌, map, option_map};
-ghost use Rattle.checked_tree.specs.Makes.{Makes};
+ghost use Rattle.tree_makers.specs.Makes.{Makes};
 ghost use Rattle.checked_tree.specs.Shape.{seen, shape_of_generator};
 ghost use Rattle.checked_tree.specs.Actions.{deed_of};
 ghost use Rattle.checked_tree.specs.Tasks as works;
 ghost use Rattle.checked_tree.specs.Tasks.{row_of, work_of, counter_of};
 
 use crate::boxes::box_beside;
-use crate::expressions::{Generator, Slot, Typed};
-use crate::statements::{Act, Action, Counter, EventSlots, Task};
-use crate::stop::Stop;
+use checked_tree::expressions::{Generator, Slot, Typed};
+use checked_tree::statements::{Act, Action, Counter, EventSlots, Task};
+use checked_tree::stop::Stop;
 use cbl_base::Place;
 use comet_syntax::tree::{Extreme, WithMode};
 use std::alloc::Global;

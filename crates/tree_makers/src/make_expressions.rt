@@ -1,12 +1,12 @@
 //! The forms of checked expressions, made of their parts.
 ghost use Rattle.std.specs.Prelude.{◌≡◌, [], ◌∷◌, map, option_map};
-ghost use Rattle.checked_tree.specs.Makes.{Makes};
+ghost use Rattle.tree_makers.specs.Makes.{Makes};
 ghost use Rattle.checked_tree.specs.Shape as shapes;
 ghost use Rattle.checked_tree.specs.Shape.{shape_of, shape_of_link, shape_of_generator, optional, seen, whole, wholes, rows};
 
 use crate::boxes::{box_beside, box_both, box_three, list_both};
-use crate::expressions::{Builtin, Form, Generator, Link, Method, Slot, Typed};
-use crate::stop::Stop;
+use checked_tree::expressions::{Builtin, Form, Generator, Link, Method, Slot, Typed};
+use checked_tree::stop::Stop;
 use cbl_base::{Place, Text};
 use comet_syntax::tree::{Aggregate, ChainOperator, Comparison, UnaryOperator};
 use std::alloc::Global;

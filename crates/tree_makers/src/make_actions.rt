@@ -1,14 +1,14 @@
 //! What statements do that hold no statement, made of its parts.
 ghost use Rattle.std.specs.Prelude.{◌≡◌, map, option_map};
-ghost use Rattle.checked_tree.specs.Makes.{Makes};
+ghost use Rattle.tree_makers.specs.Makes.{Makes};
 ghost use Rattle.checked_tree.specs.Shape.{seen};
 ghost use Rattle.checked_tree.specs.Actions as deeds;
 ghost use Rattle.checked_tree.specs.Actions.{deed_of, dimension_of, start_of, printed_of, variable_of};
 
-use crate::expressions::{Slot, Typed};
-use crate::kind::Kind;
-use crate::statements::{Action, Dimension, Printed, Start, Variable};
-use crate::stop::Stop;
+use checked_tree::expressions::{Slot, Typed};
+use checked_tree::kind::Kind;
+use checked_tree::statements::{Action, Dimension, Printed, Start, Variable};
+use checked_tree::stop::Stop;
 use comet_syntax::tree::{Step, WriteOperator};
 use std::alloc::Global;
 
