@@ -1,2 +1,3 @@
 pub mod DeclarationFits
 pub mod ProgramFits
+mod Tops

@@ -34,8 +34,14 @@ pub fn undo_template(stacks: &mut Stacks) -> Result<(), NoMemory>
     ensures { IfOk result (λ _. IsUndone forms.TemplateLess stacks.old stacks.new) }
 {
     let name = take(&mut stacks.names);
-    put(&mut stacks.templates, Some(name))?;
-    Ok(())
+    put(&mut stacks.templates, Some(name))
+}
+
+// No name in angle brackets
+pub fn undo_no_template(stacks: &mut Stacks) -> Result<(), NoMemory>
+    ensures { IfOk result (λ _. IsUndone forms.TemplateNone stacks.old stacks.new) }
+{
+    put(&mut stacks.templates, None)
 }
 
 // `Solver<name>`
@@ -51,8 +57,7 @@ pub fn undo_solver(stacks: &mut Stacks) -> Result<(), NoMemory>
             place,
             kind: ClassKind::Solver(name),
         },
-    )?;
-    Ok(())
+    )
 }
 
 // A class that has no name in angle brackets
@@ -62,8 +67,7 @@ pub fn undo_class(stacks: &mut Stacks, kind: ClassKind) -> Result<(), NoMemory>
         (λ v x. x ≡ record { place = v.0; kind = kind }) stacks.old stacks.new) }
 {
     let place = take(&mut stacks.places);
-    put(&mut stacks.classes, Class { place, kind })?;
-    Ok(())
+    put(&mut stacks.classes, Class { place, kind })
 }
 
 // A class that may have one

@@ -8,8 +8,8 @@ ghost use Rattle.parse_stacks.specs.Undoing.{Ready, Undone};
 ghost use Rattle.build_declarations.specs.MadeDeclarations.{Made, IsReady, IsUndone, IsDirect, IsNew, int_declaration, variable_declaration};
 
 use crate::dimensions::{
-    undo_called_rest, undo_dimensions, undo_named_dimension, undo_range_rest,
-    undo_second_dimension, undo_unnamed_dimension,
+    undo_called_rest, undo_dimensions, undo_named_dimension, undo_no_dimensions,
+    undo_no_second_dimension, undo_range_rest, undo_second_dimension, undo_unnamed_dimension,
 };
 use cbl_base::{NoMemory, Place};
 use comet_syntax::tree::{Argument, Class, Declaration, Incremental, Maker, VariableStart};
@@ -95,8 +95,7 @@ fn undo_int(stacks: &mut Stacks) -> Result<(), NoMemory>
 {
     let place = take(&mut stacks.places);
     let rest = take(&mut stacks.int_rests);
-    put(&mut stacks.declarations, declare_int(place, rest))?;
-    Ok(())
+    put(&mut stacks.declarations, declare_int(place, rest))
 }
 
 // `bool name = start`
@@ -110,8 +109,7 @@ fn undo_bool(stacks: &mut Stacks) -> Result<(), NoMemory>
     put(
         &mut stacks.declarations,
         Declaration::Bool { place, name, start },
-    )?;
-    Ok(())
+    )
 }
 
 // `range name = value`
@@ -125,8 +123,7 @@ fn undo_range(stacks: &mut Stacks) -> Result<(), NoMemory>
     put(
         &mut stacks.declarations,
         Declaration::Range { place, name, value },
-    )?;
-    Ok(())
+    )
 }
 
 // `set{int} name = start`
@@ -140,8 +137,7 @@ fn undo_set(stacks: &mut Stacks) -> Result<(), NoMemory>
     put(
         &mut stacks.declarations,
         Declaration::Set { place, name, start },
-    )?;
-    Ok(())
+    )
 }
 
 // `var{` or `inc{` and what stands behind it
@@ -155,8 +151,7 @@ fn undo_variable(stacks: &mut Stacks, word: Incremental) -> Result<(), NoMemory>
     put(
         &mut stacks.declarations,
         declare_variable(place, word, rest),
-    )?;
-    Ok(())
+    )
 }
 
 // `class name` and how the object is made
@@ -170,8 +165,7 @@ fn undo_object(stacks: &mut Stacks) -> Result<(), NoMemory>
     put(
         &mut stacks.declarations,
         Declaration::Object { class, name, maker },
-    )?;
-    Ok(())
+    )
 }
 
 // `[] name = value`
@@ -181,8 +175,7 @@ fn undo_array_rest(stacks: &mut Stacks) -> Result<(), NoMemory>
 {
     let name = take(&mut stacks.names);
     let value = take(&mut stacks.expressions);
-    put(&mut stacks.int_rests, IntRest::Array { name, value })?;
-    Ok(())
+    put(&mut stacks.int_rests, IntRest::Array { name, value })
 }
 
 // `name dimensions = start`
@@ -200,8 +193,7 @@ fn undo_plain_rest(stacks: &mut Stacks) -> Result<(), NoMemory>
             dimensions,
             start,
         },
-    )?;
-    Ok(())
+    )
 }
 
 // `int} name dimensions (solver, domain) := start`
@@ -223,8 +215,7 @@ fn undo_number_rest(stacks: &mut Stacks) -> Result<(), NoMemory>
             domain,
             start,
         },
-    )?;
-    Ok(())
+    )
 }
 
 // `set{int}} name dimensions (solver) <- definition`
@@ -244,8 +235,7 @@ fn undo_set_rest(stacks: &mut Stacks) -> Result<(), NoMemory>
             solver,
             definition,
         },
-    )?;
-    Ok(())
+    )
 }
 
 // `= value` or `, domain`
@@ -254,8 +244,21 @@ fn undo_value(stacks: &mut Stacks) -> Result<(), NoMemory>
     ensures { IfOk result (λ _. IsUndone forms.StartValueEqual stacks.old stacks.new) }
 {
     let value = take(&mut stacks.expressions);
-    put(&mut stacks.optional, Some(value))?;
-    Ok(())
+    put(&mut stacks.optional, Some(value))
+}
+
+// No value and no domain
+fn undo_no_value(stacks: &mut Stacks) -> Result<(), NoMemory>
+    ensures { IfOk result (λ _. IsUndone forms.StartValueNone stacks.old stacks.new) }
+{
+    put(&mut stacks.optional, None)
+}
+
+// No value or definition of a variable
+fn undo_no_start(stacks: &mut Stacks) -> Result<(), NoMemory>
+    ensures { IfOk result (λ _. IsUndone forms.VariableStartNone stacks.old stacks.new) }
+{
+    put(&mut stacks.variable_starts, None)
 }
 
 // `:= value`
@@ -267,8 +270,7 @@ fn undo_assigned(stacks: &mut Stacks) -> Result<(), NoMemory>
     put(
         &mut stacks.variable_starts,
         Some(VariableStart::Assign(value)),
-    )?;
-    Ok(())
+    )
 }
 
 // `<- term`
@@ -280,8 +282,7 @@ fn undo_defined(stacks: &mut Stacks) -> Result<(), NoMemory>
     put(
         &mut stacks.variable_starts,
         Some(VariableStart::Define(term)),
-    )?;
-    Ok(())
+    )
 }
 
 // `(arguments)`
@@ -290,8 +291,7 @@ fn undo_direct(stacks: &mut Stacks) -> Result<(), NoMemory>
     ensures { IfOk result (λ _. IsUndone forms.MakerLeftParenthesis stacks.old stacks.new) }
 {
     let arguments = take(&mut stacks.lists);
-    put(&mut stacks.makers, make_direct(arguments))?;
-    Ok(())
+    put(&mut stacks.makers, make_direct(arguments))
 }
 
 // `= new class(arguments)`
@@ -301,8 +301,7 @@ fn undo_new(stacks: &mut Stacks) -> Result<(), NoMemory>
 {
     let made = take(&mut stacks.classes);
     let arguments = take(&mut stacks.lists);
-    put(&mut stacks.makers, make_new(made, arguments))?;
-    Ok(())
+    put(&mut stacks.makers, make_new(made, arguments))
 }
 
 /// Undoes a form of declarations: takes the values of its symbols off the stacks, and puts what is made of them there.
@@ -325,20 +324,20 @@ pub fn undo_declaration(
         DeclarationForm::DeclarationClassName => undo_object(stacks),
         DeclarationForm::IntRestLeftBracket => undo_array_rest(stacks),
         DeclarationForm::IntRestName => undo_plain_rest(stacks),
-        DeclarationForm::StartValueNone => put(&mut stacks.optional, None),
+        DeclarationForm::StartValueNone => undo_no_value(stacks),
         DeclarationForm::StartValueEqual => undo_value(stacks),
         DeclarationForm::VariableRestInt => undo_number_rest(stacks),
         DeclarationForm::VariableRestSet => undo_set_rest(stacks),
-        DeclarationForm::DomainNone => put(&mut stacks.optional, None),
+        DeclarationForm::DomainNone => undo_no_value(stacks),
         DeclarationForm::DomainComma => undo_value(stacks),
-        DeclarationForm::VariableStartNone => put(&mut stacks.variable_starts, None),
+        DeclarationForm::VariableStartNone => undo_no_start(stacks),
         DeclarationForm::VariableStartAssign => undo_assigned(stacks),
         DeclarationForm::VariableStartArrow => undo_defined(stacks),
         DeclarationForm::MakerLeftParenthesis => undo_direct(stacks),
         DeclarationForm::MakerEqual => undo_new(stacks),
-        DeclarationForm::DimensionsNone => put(&mut stacks.all_dimensions, None),
+        DeclarationForm::DimensionsNone => undo_no_dimensions(stacks),
         DeclarationForm::DimensionsLeftBracket => undo_dimensions(stacks),
-        DeclarationForm::DimensionsTailNone => put(&mut stacks.second_dimensions, None),
+        DeclarationForm::DimensionsTailNone => undo_no_second_dimension(stacks),
         DeclarationForm::DimensionsTailComma => undo_second_dimension(stacks),
         DeclarationForm::DimensionName => undo_named_dimension(alloc, stacks),
         DeclarationForm::DimensionUnnamed => undo_unnamed_dimension(alloc, stacks),

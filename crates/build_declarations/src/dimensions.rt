@@ -7,7 +7,7 @@ ghost use Rattle.build_declarations.specs.MadeDeclarations.{IsReady, IsUndone, I
 
 use cbl_base::NoMemory;
 use comet_syntax::tree::{Argument, Dimension, Dimensions, Expression, Name, Suffix};
-use parse_stacks::{Behind, DimensionRest, Stacks, name_operand, put, raise, take, take_behind};
+use parse_stacks::{Behind, DimensionRest, Stacks, put, raise, raise_name, take, take_behind};
 use std::alloc::Global;
 
 // A dimension whose range begins with this operand.
@@ -29,9 +29,8 @@ fn make_called(
     ensures { IfOk result (λ d. IsUnnamedDimension
         (raised (named_operand name called suffixes) behind) d) }
 {
-    let operand = name_operand(alloc, name, called, suffixes)?;
-    let dimension = make_unnamed(alloc, operand, behind)?;
-    Ok(dimension)
+    let range = raise_name(alloc, name, called, suffixes, behind)?;
+    Ok(Dimension { name: None, range })
 }
 
 // A dimension that begins with a name.
@@ -61,8 +60,21 @@ pub fn undo_dimensions(stacks: &mut Stacks) -> Result<(), NoMemory>
     put(
         &mut stacks.all_dimensions,
         Some(Dimensions { first, second }),
-    )?;
-    Ok(())
+    )
+}
+
+// No dimensions
+pub fn undo_no_dimensions(stacks: &mut Stacks) -> Result<(), NoMemory>
+    ensures { IfOk result (λ _. IsUndone forms.DimensionsNone stacks.old stacks.new) }
+{
+    put(&mut stacks.all_dimensions, None)
+}
+
+// No second dimension
+pub fn undo_no_second_dimension(stacks: &mut Stacks) -> Result<(), NoMemory>
+    ensures { IfOk result (λ _. IsUndone forms.DimensionsTailNone stacks.old stacks.new) }
+{
+    put(&mut stacks.second_dimensions, None)
 }
 
 // `, dimension`
@@ -71,8 +83,7 @@ pub fn undo_second_dimension(stacks: &mut Stacks) -> Result<(), NoMemory>
     ensures { IfOk result (λ _. IsUndone forms.DimensionsTailComma stacks.old stacks.new) }
 {
     let second = take(&mut stacks.dimensions);
-    put(&mut stacks.second_dimensions, Some(second))?;
-    Ok(())
+    put(&mut stacks.second_dimensions, Some(second))
 }
 
 // A name and what stands behind it
@@ -83,8 +94,7 @@ pub fn undo_named_dimension(alloc: Global, stacks: &mut Stacks) -> Result<(), No
     let name = take(&mut stacks.names);
     let rest = take(&mut stacks.dimension_rests);
     let dimension = make_named(alloc, name, rest)?;
-    put(&mut stacks.dimensions, dimension)?;
-    Ok(())
+    put(&mut stacks.dimensions, dimension)
 }
 
 // An operand that doesn't begin with a name and what stands behind it
@@ -100,8 +110,7 @@ pub fn undo_unnamed_dimension(alloc: Global, stacks: &mut Stacks) -> Result<(), 
         &mut stacks.branches,
     );
     let dimension = make_unnamed(alloc, operand, behind)?;
-    put(&mut stacks.dimensions, dimension)?;
-    Ok(())
+    put(&mut stacks.dimensions, dimension)
 }
 
 // `in range`
@@ -110,8 +119,7 @@ pub fn undo_range_rest(stacks: &mut Stacks) -> Result<(), NoMemory>
     ensures { IfOk result (λ _. IsUndone forms.DimensionRestIn stacks.old stacks.new) }
 {
     let range = take(&mut stacks.expressions);
-    put(&mut stacks.dimension_rests, DimensionRest::In(range))?;
-    Ok(())
+    put(&mut stacks.dimension_rests, DimensionRest::In(range))
 }
 
 // What an expression that begins with a name goes on with
@@ -134,6 +142,5 @@ pub fn undo_called_rest(stacks: &mut Stacks) -> Result<(), NoMemory>
             suffixes,
             behind,
         },
-    )?;
-    Ok(())
+    )
 }

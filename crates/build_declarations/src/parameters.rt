@@ -1,14 +1,15 @@
 //! The parameters of a function, and their types.
-ghost use Rattle.std.specs.Prelude.{◌≡◌, IfOk};
+ghost use Rattle.std.specs.Prelude.{◌≡◌, [], IfOk};
 ghost use Rattle.comet_syntax.specs.Grammar.Programs.{parameter_kind_bool, parameter_kind_var};
-ghost use Rattle.comet_syntax.specs.Grammar.Symbols.{parameter_kind};
+ghost use Rattle.comet_syntax.specs.Grammar.Symbols.{brackets, parameter_kind};
 ghost use Rattle.parse_machine.specs.declared.form.ProgramForm.TheVariants as forms;
 ghost use Rattle.parse_stacks.specs.Undoing.{Undone};
 ghost use Rattle.build_declarations.specs.MadePrograms.{IsReady, IsUndone, int_kind, variable_kind};
 
 use cbl_base::NoMemory;
 use comet_syntax::tree::{Incremental, Parameter, ParameterKind};
-use parse_stacks::{ParameterType, Stacks, put, take};
+use parse_stacks::{ParameterType, Stacks, put, put_before, take};
+use std::alloc::Global;
 
 fn kind_of_int(is_array: bool) -> ParameterKind
     ensures { result ≡ int_kind is_array }
@@ -36,10 +37,23 @@ pub fn undo_parameters(stacks: &mut Stacks) -> Result<(), NoMemory>
     ensures { IfOk result (λ _. IsUndone forms.ParametersParameter stacks.old stacks.new) }
 {
     let parameter = take(&mut stacks.parameters);
-    let mut all = take(&mut stacks.parameter_lists);
-    put(&mut all, parameter)?;
-    put(&mut stacks.parameter_lists, all)?;
-    Ok(())
+    let more = take(&mut stacks.parameter_lists);
+    let all = put_before(more, parameter)?;
+    put(&mut stacks.parameter_lists, all)
+}
+
+// No parameters, or no more of them
+pub fn undo_no_parameters(alloc: Global, stacks: &mut Stacks) -> Result<(), NoMemory>
+    ensures { IfOk result (λ _. IsUndone forms.ParametersNone stacks.old stacks.new) }
+{
+    put(&mut stacks.parameter_lists, Vec::new(alloc))
+}
+
+// `[]` behind a type, or not
+pub fn undo_brackets(stacks: &mut Stacks, is_array: bool) -> Result<(), NoMemory>
+    ensures { IfOk result (λ _. Undone brackets [] (λ v x. x ≡ is_array) stacks.old stacks.new) }
+{
+    put(&mut stacks.brackets, is_array)
 }
 
 // A type and a name
@@ -60,8 +74,7 @@ pub fn undo_kind(stacks: &mut Stacks, kind: ParameterKind) -> Result<(), NoMemor
         (λ v x. x ≡ record { kind = kind; place = v.0 }) stacks.old stacks.new) }
 {
     let place = take(&mut stacks.places);
-    put(&mut stacks.parameter_types, ParameterType { kind, place })?;
-    Ok(())
+    put(&mut stacks.parameter_types, ParameterType { kind, place })
 }
 
 // `int` or `int[]`
@@ -96,9 +109,9 @@ pub fn undo_solver_kind(stacks: &mut Stacks) -> Result<(), NoMemory>
     ensures { IfOk result (λ _. IsUndone forms.ParameterKindSolver stacks.old stacks.new) }
 {
     let place = take(&mut stacks.places);
-    let kind = ParameterKind::Solver(take(&mut stacks.names));
-    put(&mut stacks.parameter_types, ParameterType { kind, place })?;
-    Ok(())
+    let name = take(&mut stacks.names);
+    let kind = ParameterKind::Solver(name);
+    put(&mut stacks.parameter_types, ParameterType { kind, place })
 }
 
 // `ConstraintSystem` or `ConstraintSystem<name>`
@@ -107,7 +120,7 @@ pub fn undo_system_kind(stacks: &mut Stacks) -> Result<(), NoMemory>
     ensures { IfOk result (λ _. IsUndone forms.ParameterKindConstraintSystem stacks.old stacks.new) }
 {
     let place = take(&mut stacks.places);
-    let kind = ParameterKind::ConstraintSystem(take(&mut stacks.templates));
-    put(&mut stacks.parameter_types, ParameterType { kind, place })?;
-    Ok(())
+    let template = take(&mut stacks.templates);
+    let kind = ParameterKind::ConstraintSystem(template);
+    put(&mut stacks.parameter_types, ParameterType { kind, place })
 }

@@ -1,21 +1,25 @@
 //! What stands at the top of a program.
 ghost use Rattle.std.specs.Prelude.{◌≡◌, IfOk, reverse};
+ghost use Rattle.comet_syntax.specs.Grammar.Programs.{result_kind_void};
+ghost use Rattle.comet_syntax.specs.Grammar.Symbols.{result_kind};
 ghost use Rattle.parse_machine.specs.Forms.{part_in_program, body_in_program};
 ghost use Rattle.parse_machine.specs.declared.form.ProgramForm.TheVariants as forms;
 ghost use Rattle.parse_stacks.specs.Undoing.{Ready, Undone};
 ghost use Rattle.build_declarations.specs.MadePrograms.{Made, IsReady, IsUndone, IsFunctionPart};
 
-use crate::classes::{Templated, undo_class, undo_solver, undo_template, undo_templated};
+use crate::classes::{
+    Templated, undo_class, undo_no_template, undo_solver, undo_template, undo_templated,
+};
 use crate::parameters::{
-    undo_int_kind, undo_kind, undo_parameter, undo_parameters, undo_solver_kind, undo_system_kind,
-    undo_variable_kind,
+    undo_brackets, undo_int_kind, undo_kind, undo_no_parameters, undo_parameter, undo_parameters,
+    undo_solver_kind, undo_system_kind, undo_variable_kind,
 };
 use cbl_base::{NoMemory, Place};
 use comet_syntax::tree::{
     Block, ClassKind, Function, Incremental, Name, Parameter, ParameterKind, ResultKind, TopPart,
 };
 use parse_machine::ProgramForm;
-use parse_stacks::{Stacks, put, take};
+use parse_stacks::{Stacks, put, put_before, take};
 use std::alloc::Global;
 
 // A function, whose parameters are given the last one first.
@@ -48,10 +52,23 @@ fn undo_top(stacks: &mut Stacks) -> Result<(), NoMemory>
     ensures { IfOk result (λ _. IsUndone forms.ProgramTop stacks.old stacks.new) }
 {
     let top = take(&mut stacks.tops);
-    let mut all = take(&mut stacks.programs);
-    put(&mut all, top)?;
-    put(&mut stacks.programs, all)?;
-    Ok(())
+    let more = take(&mut stacks.programs);
+    let all = put_before(more, top)?;
+    put(&mut stacks.programs, all)
+}
+
+// No parts
+fn undo_no_tops(alloc: Global, stacks: &mut Stacks) -> Result<(), NoMemory>
+    ensures { IfOk result (λ _. IsUndone forms.ProgramNone stacks.old stacks.new) }
+{
+    put(&mut stacks.programs, Vec::new(alloc))
+}
+
+// What a function gives back
+fn undo_result(stacks: &mut Stacks, kind: ResultKind) -> Result<(), NoMemory>
+    ensures { IfOk result (λ _. Undone result_kind result_kind_void (λ v x. x ≡ kind) stacks.old stacks.new) }
+{
+    put(&mut stacks.results, kind)
 }
 
 // `import name;`
@@ -60,8 +77,7 @@ fn undo_import(stacks: &mut Stacks) -> Result<(), NoMemory>
     ensures { IfOk result (λ _. IsUndone forms.TopImport stacks.old stacks.new) }
 {
     let name = take(&mut stacks.names);
-    put(&mut stacks.tops, TopPart::Import(name))?;
-    Ok(())
+    put(&mut stacks.tops, TopPart::Import(name))
 }
 
 // `include string;`
@@ -70,8 +86,7 @@ fn undo_include(stacks: &mut Stacks) -> Result<(), NoMemory>
     ensures { IfOk result (λ _. IsUndone forms.TopInclude stacks.old stacks.new) }
 {
     let text = take(&mut stacks.texts);
-    put(&mut stacks.tops, TopPart::Include(text))?;
-    Ok(())
+    put(&mut stacks.tops, TopPart::Include(text))
 }
 
 // `function result name(parameters) body`
@@ -85,8 +100,7 @@ fn undo_function(alloc: Global, stacks: &mut Stacks) -> Result<(), NoMemory>
     let parameters = take(&mut stacks.parameter_lists);
     let body = take(&mut stacks.blocks);
     let function = make_function(alloc, place, kind, name, parameters, body)?;
-    put(&mut stacks.tops, function)?;
-    Ok(())
+    put(&mut stacks.tops, function)
 }
 
 // A statement
@@ -95,8 +109,7 @@ fn undo_statement_part(stacks: &mut Stacks) -> Result<(), NoMemory>
     ensures { IfOk result (λ _. IsUndone forms.TopStatement stacks.old stacks.new) }
 {
     let statement = take(&mut stacks.statements);
-    put(&mut stacks.tops, TopPart::Statement(statement))?;
-    Ok(())
+    put(&mut stacks.tops, TopPart::Statement(statement))
 }
 
 /// Undoes a form of programs, of parameters or of classes: takes the values of its symbols off the stacks, and puts
@@ -107,18 +120,18 @@ pub fn undo_program(alloc: Global, stacks: &mut Stacks, form: ProgramForm) -> Re
         (Made form) stacks.old stacks.new) }
 {
     match form {
-        ProgramForm::ProgramNone => put(&mut stacks.programs, Vec::new(alloc)),
+        ProgramForm::ProgramNone => undo_no_tops(alloc, stacks),
         ProgramForm::ProgramTop => undo_top(stacks),
         ProgramForm::TopImport => undo_import(stacks),
         ProgramForm::TopInclude => undo_include(stacks),
         ProgramForm::TopFunction => undo_function(alloc, stacks),
         ProgramForm::TopStatement => undo_statement_part(stacks),
-        ProgramForm::ResultKindVoid => put(&mut stacks.results, ResultKind::Void),
-        ProgramForm::ResultKindInt => put(&mut stacks.results, ResultKind::Int),
-        ProgramForm::ResultKindBool => put(&mut stacks.results, ResultKind::Bool),
-        ProgramForm::ParametersNone => put(&mut stacks.parameter_lists, Vec::new(alloc)),
+        ProgramForm::ResultKindVoid => undo_result(stacks, ResultKind::Void),
+        ProgramForm::ResultKindInt => undo_result(stacks, ResultKind::Int),
+        ProgramForm::ResultKindBool => undo_result(stacks, ResultKind::Bool),
+        ProgramForm::ParametersNone => undo_no_parameters(alloc, stacks),
         ProgramForm::ParametersParameter => undo_parameters(stacks),
-        ProgramForm::ParametersTailNone => put(&mut stacks.parameter_lists, Vec::new(alloc)),
+        ProgramForm::ParametersTailNone => undo_no_parameters(alloc, stacks),
         ProgramForm::ParametersTailComma => undo_parameters(stacks),
         ProgramForm::ParameterParameterKind => undo_parameter(stacks),
         ProgramForm::ParameterKindInt => undo_int_kind(stacks),
@@ -131,9 +144,9 @@ pub fn undo_program(alloc: Global, stacks: &mut Stacks, form: ProgramForm) -> Re
         ProgramForm::ParameterKindLocalSolver => undo_kind(stacks, ParameterKind::LocalSolver),
         ProgramForm::ParameterKindConstraintSystem => undo_system_kind(stacks),
         ProgramForm::ParameterKindBestMonitor => undo_kind(stacks, ParameterKind::BestMonitor),
-        ProgramForm::BracketsNone => put(&mut stacks.brackets, false),
-        ProgramForm::BracketsLeftBracket => put(&mut stacks.brackets, true),
-        ProgramForm::TemplateNone => put(&mut stacks.templates, None),
+        ProgramForm::BracketsNone => undo_brackets(stacks, false),
+        ProgramForm::BracketsLeftBracket => undo_brackets(stacks, true),
+        ProgramForm::TemplateNone => undo_no_template(stacks),
         ProgramForm::TemplateLess => undo_template(stacks),
         ProgramForm::ClassNameSolver => undo_solver(stacks),
         ProgramForm::ClassNameLocalSolver => undo_class(stacks, ClassKind::LocalSolver),

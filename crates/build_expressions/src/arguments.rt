@@ -8,7 +8,7 @@ ghost use Rattle.build_expressions.specs.MadeArguments.{ArgumentMade, CalledMade
 use crate::making::{in_order, make_index, make_method};
 use cbl_base::NoMemory;
 use comet_syntax::tree::Argument;
-use parse_stacks::{Stacks, put, take};
+use parse_stacks::{Stacks, put, put_before, take};
 use std::alloc::Global;
 
 /// `(arguments)`
@@ -18,8 +18,7 @@ pub fn undo_called(stacks: &mut Stacks) -> Result<(), NoMemory>
 {
     let listed = take(&mut stacks.lists);
     let all = in_order(listed);
-    put(&mut stacks.called, Some(all))?;
-    Ok(())
+    put(&mut stacks.called, Some(all))
 }
 
 /// `[index]` or `[index, second]`, and more
@@ -30,11 +29,10 @@ pub fn undo_index(stacks: &mut Stacks) -> Result<(), NoMemory>
     let place = take(&mut stacks.places);
     let index = take(&mut stacks.expressions);
     let second = take(&mut stacks.optional);
-    let mut all = take(&mut stacks.suffixes);
+    let more = take(&mut stacks.suffixes);
     let next = make_index(place, index, second);
-    put(&mut all, next)?;
-    put(&mut stacks.suffixes, all)?;
-    Ok(())
+    let all = put_before(more, next)?;
+    put(&mut stacks.suffixes, all)
 }
 
 /// `.name(arguments)` and more
@@ -44,11 +42,10 @@ pub fn undo_method(stacks: &mut Stacks) -> Result<(), NoMemory>
 {
     let name = take(&mut stacks.names);
     let listed = take(&mut stacks.lists);
-    let mut all = take(&mut stacks.suffixes);
+    let more = take(&mut stacks.suffixes);
     let next = make_method(name, listed);
-    put(&mut all, next)?;
-    put(&mut stacks.suffixes, all)?;
-    Ok(())
+    let all = put_before(more, next)?;
+    put(&mut stacks.suffixes, all)
 }
 
 /// `, second`
@@ -57,8 +54,7 @@ pub fn undo_second(stacks: &mut Stacks) -> Result<(), NoMemory>
     ensures { IfOk result (λ _. Undone second second_comma SecondMade stacks.old stacks.new) }
 {
     let index = take(&mut stacks.expressions);
-    put(&mut stacks.optional, Some(index))?;
-    Ok(())
+    put(&mut stacks.optional, Some(index))
 }
 
 /// A first argument and more
@@ -67,10 +63,9 @@ pub fn undo_listed(stacks: &mut Stacks) -> Result<(), NoMemory>
     ensures { IfOk result (λ _. Undone listed listed_argument ListedMade stacks.old stacks.new) }
 {
     let first = take(&mut stacks.arguments);
-    let mut all = take(&mut stacks.lists);
-    put(&mut all, first)?;
-    put(&mut stacks.lists, all)?;
-    Ok(())
+    let more = take(&mut stacks.lists);
+    let all = put_before(more, first)?;
+    put(&mut stacks.lists, all)
 }
 
 /// `, argument` and more
@@ -79,10 +74,9 @@ pub fn undo_more_arguments(stacks: &mut Stacks) -> Result<(), NoMemory>
     ensures { IfOk result (λ _. Undone arguments_tail arguments_tail_comma MoreArgumentsMade stacks.old stacks.new) }
 {
     let next = take(&mut stacks.arguments);
-    let mut all = take(&mut stacks.lists);
-    put(&mut all, next)?;
-    put(&mut stacks.lists, all)?;
-    Ok(())
+    let more = take(&mut stacks.lists);
+    let all = put_before(more, next)?;
+    put(&mut stacks.lists, all)
 }
 
 /// An expression as an argument
@@ -91,8 +85,7 @@ pub fn undo_argument(stacks: &mut Stacks) -> Result<(), NoMemory>
     ensures { IfOk result (λ _. Undone argument argument_expression ArgumentMade stacks.old stacks.new) }
 {
     let value = take(&mut stacks.expressions);
-    put(&mut stacks.arguments, Argument::Expression(value))?;
-    Ok(())
+    put(&mut stacks.arguments, Argument::Expression(value))
 }
 
 /// A string as an argument
@@ -101,38 +94,33 @@ pub fn undo_string(stacks: &mut Stacks) -> Result<(), NoMemory>
     ensures { IfOk result (λ _. Undone argument argument_string StringMade stacks.old stacks.new) }
 {
     let string = take(&mut stacks.texts);
-    put(&mut stacks.arguments, Argument::Str(string))?;
-    Ok(())
+    put(&mut stacks.arguments, Argument::Str(string))
 }
 
 /// No call
 pub fn undo_no_call(stacks: &mut Stacks) -> Result<(), NoMemory>
     ensures { IfOk result (λ _. Undone called [] (λ v x. x ≡ None) stacks.old stacks.new) }
 {
-    put(&mut stacks.called, None)?;
-    Ok(())
+    put(&mut stacks.called, None)
 }
 
 /// No suffixes
 pub fn undo_no_suffixes(alloc: Global, stacks: &mut Stacks) -> Result<(), NoMemory>
     ensures { IfOk result (λ _. Undone suffixes [] (λ v x. x.items ≡ []) stacks.old stacks.new) }
 {
-    put(&mut stacks.suffixes, Vec::new(alloc))?;
-    Ok(())
+    put(&mut stacks.suffixes, Vec::new(alloc))
 }
 
 /// No second index
 pub fn undo_no_second(stacks: &mut Stacks) -> Result<(), NoMemory>
     ensures { IfOk result (λ _. Undone second [] (λ v x. x ≡ None) stacks.old stacks.new) }
 {
-    put(&mut stacks.optional, None)?;
-    Ok(())
+    put(&mut stacks.optional, None)
 }
 
 /// No arguments
 pub fn undo_no_arguments(alloc: Global, stacks: &mut Stacks) -> Result<(), NoMemory>
     ensures { IfOk result (λ _. Undone arguments [] (λ v x. x.items ≡ []) stacks.old stacks.new) }
 {
-    put(&mut stacks.lists, Vec::new(alloc))?;
-    Ok(())
+    put(&mut stacks.lists, Vec::new(alloc))
 }

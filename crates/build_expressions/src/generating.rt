@@ -6,9 +6,10 @@ ghost use Rattle.comet_syntax.specs.Grammar.Statements.{condition_colon, generat
 ghost use Rattle.parse_stacks.specs.Undoing.{Ready, Undone};
 ghost use Rattle.build_expressions.specs.MadeGenerators.{ConditionMade, GeneratorMade, GeneratorsMade, MoreGeneratorsMade};
 
+use crate::making::in_order;
 use cbl_base::NoMemory;
 use comet_syntax::tree::{Expression, Generator, Generators, Name};
-use parse_stacks::{Stacks, put, take};
+use parse_stacks::{Stacks, beside, box_some, put, put_before, take};
 use std::alloc::Global;
 
 // Generators with their condition.
@@ -19,19 +20,11 @@ fn make_generators(
 ) -> Result<Generators, NoMemory>
     ensures { IfOk result (λ g. written_generators g ≡ record { all = map written_generator all.items; only = option_value written condition }) }
 {
-    match condition {
-        None => Ok(Generators {
-            generators: all,
-            condition: None,
-        }),
-        Some(condition) => {
-            let condition = Box::new(alloc, condition)?;
-            Ok(Generators {
-                generators: all,
-                condition: Some(condition),
-            })
-        }
-    }
+    let (condition, generators) = beside(box_some(alloc, condition), all)?;
+    Ok(Generators {
+        generators,
+        condition,
+    })
 }
 
 /// A first generator and the others, of which the last one stands first, with their condition.
@@ -43,9 +36,8 @@ pub fn join_generators(
 ) -> Result<Generators, NoMemory>
     ensures { IfOk result (λ g. written_generators g ≡ record { all = written_generator first ∷ map written_generator (reverse more.items); only = option_value written condition }) }
 {
-    let mut all = more;
-    put(&mut all, first)?;
-    all.reverse();
+    let (all, condition) = beside(put_before(more, first), condition)?;
+    let all = in_order(all);
     let made = make_generators(alloc, all, condition)?;
     Ok(made)
 }
@@ -66,8 +58,7 @@ pub fn undo_generators_form(alloc: Global, stacks: &mut Stacks) -> Result<(), No
     let more = take(&mut stacks.generator_lists);
     let condition = take(&mut stacks.optional);
     let made = join_generators(alloc, first, more, condition)?;
-    put(&mut stacks.all_generators, made)?;
-    Ok(())
+    put(&mut stacks.all_generators, made)
 }
 
 /// `, generator` and more
@@ -76,10 +67,9 @@ pub fn undo_generators_more(stacks: &mut Stacks) -> Result<(), NoMemory>
     ensures { IfOk result (λ _. Undone generators_tail generators_tail_comma MoreGeneratorsMade stacks.old stacks.new) }
 {
     let next = take(&mut stacks.generators);
-    let mut all = take(&mut stacks.generator_lists);
-    put(&mut all, next)?;
-    put(&mut stacks.generator_lists, all)?;
-    Ok(())
+    let more = take(&mut stacks.generator_lists);
+    let all = put_before(more, next)?;
+    put(&mut stacks.generator_lists, all)
 }
 
 /// `name in domain`
@@ -90,8 +80,7 @@ pub fn undo_generator(stacks: &mut Stacks) -> Result<(), NoMemory>
     let name = take(&mut stacks.names);
     let domain = take(&mut stacks.expressions);
     let made = make_generator(name, domain);
-    put(&mut stacks.generators, made)?;
-    Ok(())
+    put(&mut stacks.generators, made)
 }
 
 /// `: condition`
@@ -100,6 +89,5 @@ pub fn undo_condition(stacks: &mut Stacks) -> Result<(), NoMemory>
     ensures { IfOk result (λ _. Undone condition condition_colon ConditionMade stacks.old stacks.new) }
 {
     let test = take(&mut stacks.expressions);
-    put(&mut stacks.optional, Some(test))?;
-    Ok(())
+    put(&mut stacks.optional, Some(test))
 }

@@ -10,8 +10,8 @@ use crate::making::make_link;
 use cbl_base::{NoMemory, Place};
 use comet_syntax::tree::{ChainOperator, Comparison, Expression, Link};
 use parse_stacks::{
-    Branches, Compared, Stacks, UpTo, link, put, raise, raise_to_comparison, raise_to_conjunction,
-    raise_to_range, raise_to_total, take, take_behind,
+    Branches, Compared, Stacks, UpTo, link, put, put_before, raise, raise_to_comparison,
+    raise_to_conjunction, raise_to_range, raise_to_total, take, take_behind,
 };
 use std::alloc::Global;
 
@@ -24,9 +24,8 @@ fn join(
 ) -> Result<Vec<Link>, NoMemory>
     ensures { IfOk result (λ all. Joined operator place (written operand) more all) }
 {
-    let mut all = more;
     let next = make_link(operator, place, operand);
-    put(&mut all, next)?;
+    let all = put_before(more, next)?;
     Ok(all)
 }
 
@@ -43,8 +42,7 @@ pub fn undo_whole(alloc: Global, stacks: &mut Stacks) -> Result<(), NoMemory>
         &mut stacks.branches,
     );
     let made = raise(alloc, operand, behind)?;
-    put(&mut stacks.expressions, made)?;
-    Ok(())
+    put(&mut stacks.expressions, made)
 }
 
 /// `? then : otherwise`
@@ -54,8 +52,7 @@ pub fn undo_branches(stacks: &mut Stacks) -> Result<(), NoMemory>
 {
     let then = take(&mut stacks.expressions);
     let otherwise = take(&mut stacks.expressions);
-    put(&mut stacks.branches, Some(Branches { then, otherwise }))?;
-    Ok(())
+    put(&mut stacks.branches, Some(Branches { then, otherwise }))
 }
 
 /// `|| operand` and more
@@ -70,7 +67,6 @@ pub fn undo_disjunction(alloc: Global, stacks: &mut Stacks) -> Result<(), NoMemo
     let up_to = take(&mut stacks.up_to);
     let compared = take(&mut stacks.compared);
     let conjunction = take(&mut stacks.links);
-    let more = take(&mut stacks.links);
     let operand = raise_to_conjunction(
         alloc,
         operand,
@@ -80,9 +76,9 @@ pub fn undo_disjunction(alloc: Global, stacks: &mut Stacks) -> Result<(), NoMemo
         compared,
         conjunction,
     )?;
+    let more = take(&mut stacks.links);
     let all = join(more, ChainOperator::Or, place, operand)?;
-    put(&mut stacks.links, all)?;
-    Ok(())
+    put(&mut stacks.links, all)
 }
 
 /// `&& operand` and more
@@ -96,11 +92,10 @@ pub fn undo_conjunction(alloc: Global, stacks: &mut Stacks) -> Result<(), NoMemo
     let total = take(&mut stacks.links);
     let up_to = take(&mut stacks.up_to);
     let compared = take(&mut stacks.compared);
-    let more = take(&mut stacks.links);
     let operand = raise_to_comparison(alloc, operand, product, total, up_to, compared)?;
+    let more = take(&mut stacks.links);
     let all = join(more, ChainOperator::And, place, operand)?;
-    put(&mut stacks.links, all)?;
-    Ok(())
+    put(&mut stacks.links, all)
 }
 
 /// `< right` and its like
@@ -123,8 +118,7 @@ pub fn undo_compared(
         place,
         right,
     };
-    put(&mut stacks.compared, Some(made))?;
-    Ok(())
+    put(&mut stacks.compared, Some(made))
 }
 
 /// `.. high`
@@ -137,8 +131,7 @@ pub fn undo_range(alloc: Global, stacks: &mut Stacks) -> Result<(), NoMemory>
     let product = take(&mut stacks.links);
     let total = take(&mut stacks.links);
     let high = raise_to_total(alloc, operand, product, total)?;
-    put(&mut stacks.up_to, Some(UpTo { place, high }))?;
-    Ok(())
+    put(&mut stacks.up_to, Some(UpTo { place, high }))
 }
 
 /// `+ operand` or `- operand`, and more
@@ -153,11 +146,10 @@ pub fn undo_total(
     let place = take(&mut stacks.places);
     let operand = take(&mut stacks.expressions);
     let product = take(&mut stacks.links);
-    let more = take(&mut stacks.links);
     let operand = link(alloc, operand, product)?;
+    let more = take(&mut stacks.links);
     let all = join(more, operator, place, operand)?;
-    put(&mut stacks.links, all)?;
-    Ok(())
+    put(&mut stacks.links, all)
 }
 
 /// `* operand` and its like, and more
@@ -169,38 +161,33 @@ pub fn undo_product(stacks: &mut Stacks, operator: ChainOperator) -> Result<(), 
     let operand = take(&mut stacks.expressions);
     let more = take(&mut stacks.links);
     let all = join(more, operator, place, operand)?;
-    put(&mut stacks.links, all)?;
-    Ok(())
+    put(&mut stacks.links, all)
 }
 
 /// No links, at any level
 pub fn undo_no_links(alloc: Global, stacks: &mut Stacks) -> Result<(), NoMemory>
     ensures { IfOk result (λ _. Undone product_tail [] (λ v x. x.items ≡ []) stacks.old stacks.new) }
 {
-    put(&mut stacks.links, Vec::new(alloc))?;
-    Ok(())
+    put(&mut stacks.links, Vec::new(alloc))
 }
 
 /// No other side of a comparison
 pub fn undo_no_comparison(stacks: &mut Stacks) -> Result<(), NoMemory>
     ensures { IfOk result (λ _. Undone comparison_tail [] (λ v x. x ≡ None) stacks.old stacks.new) }
 {
-    put(&mut stacks.compared, None)?;
-    Ok(())
+    put(&mut stacks.compared, None)
 }
 
 /// No end of a range
 pub fn undo_no_range(stacks: &mut Stacks) -> Result<(), NoMemory>
     ensures { IfOk result (λ _. Undone range_tail [] (λ v x. x ≡ None) stacks.old stacks.new) }
 {
-    put(&mut stacks.up_to, None)?;
-    Ok(())
+    put(&mut stacks.up_to, None)
 }
 
 /// No branches
 pub fn undo_no_branches(stacks: &mut Stacks) -> Result<(), NoMemory>
     ensures { IfOk result (λ _. Undone branches [] (λ v x. x ≡ None) stacks.old stacks.new) }
 {
-    put(&mut stacks.branches, None)?;
-    Ok(())
+    put(&mut stacks.branches, None)
 }

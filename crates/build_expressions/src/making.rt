@@ -8,6 +8,7 @@ use comet_syntax::tree::{
     Aggregate, Argument, ChainOperator, Expression, Extreme, Generators, Link, Name, Suffix,
     UnaryOperator,
 };
+use parse_stacks::box_two;
 use std::alloc::Global;
 
 // A list in order.
@@ -57,8 +58,7 @@ pub fn make_aggregate(
 ) -> Result<Expression, NoMemory>
     ensures { IfOk result (λ e. written e ≡ aggregate kind place (written_generators generators) (written body)) }
 {
-    let generators = Box::new(alloc, generators)?;
-    let body = Box::new(alloc, body)?;
+    let (generators, body) = box_two(alloc, generators, body)?;
     Ok(Expression::Aggregate {
         aggregate: kind,
         place,
@@ -77,8 +77,7 @@ pub fn make_extreme(
 ) -> Result<Expression, NoMemory>
     ensures { IfOk result (λ e. written e ≡ extreme_of extreme place (written left) (written right)) }
 {
-    let left = Box::new(alloc, left)?;
-    let right = Box::new(alloc, right)?;
+    let (left, right) = box_two(alloc, left, right)?;
     Ok(Expression::Extreme {
         extreme,
         place,

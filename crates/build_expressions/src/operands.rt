@@ -22,8 +22,7 @@ pub fn undo_named(alloc: Global, stacks: &mut Stacks) -> Result<(), NoMemory>
     let called = take(&mut stacks.called);
     let suffixes = take(&mut stacks.suffixes);
     let made = name_operand(alloc, name, called, suffixes)?;
-    put(&mut stacks.expressions, made)?;
-    Ok(())
+    put(&mut stacks.expressions, made)
 }
 
 /// A literal, or `min` or `max` of two expressions, with suffixes.
@@ -34,8 +33,7 @@ pub fn undo_suffixed(alloc: Global, stacks: &mut Stacks) -> Result<(), NoMemory>
     let primary = take(&mut stacks.expressions);
     let suffixes = take(&mut stacks.suffixes);
     let made = suffix(alloc, primary, suffixes)?;
-    put(&mut stacks.expressions, made)?;
-    Ok(())
+    put(&mut stacks.expressions, made)
 }
 
 /// `{arguments}` and suffixes
@@ -48,8 +46,7 @@ pub fn undo_set(alloc: Global, stacks: &mut Stacks) -> Result<(), NoMemory>
     let suffixes = take(&mut stacks.suffixes);
     let primary = make_set(place, listed);
     let made = suffix(alloc, primary, suffixes)?;
-    put(&mut stacks.expressions, made)?;
-    Ok(())
+    put(&mut stacks.expressions, made)
 }
 
 /// `-operand` or `!operand`
@@ -64,8 +61,7 @@ pub fn undo_unary(
     let place = take(&mut stacks.places);
     let operand = take(&mut stacks.expressions);
     let made = make_unary(alloc, operator, place, operand)?;
-    put(&mut stacks.expressions, made)?;
-    Ok(())
+    put(&mut stacks.expressions, made)
 }
 
 /// `sum(generators) body` and its like
@@ -74,13 +70,12 @@ pub fn undo_aggregate(alloc: Global, stacks: &mut Stacks, kind: Aggregate) -> Re
     ensures { IfOk result (λ _. Undone unnamed unnamed_sum (AggregateMade kind) stacks.old stacks.new) }
 {
     let place = take(&mut stacks.places);
-    let generators = take(&mut stacks.all_generators);
     let operand = take(&mut stacks.expressions);
     let product = take(&mut stacks.links);
     let body = link(alloc, operand, product)?;
+    let generators = take(&mut stacks.all_generators);
     let made = make_aggregate(alloc, kind, place, generators, body)?;
-    put(&mut stacks.expressions, made)?;
-    Ok(())
+    put(&mut stacks.expressions, made)
 }
 
 /// `true` or `false`
@@ -90,8 +85,7 @@ pub fn undo_truth(stacks: &mut Stacks, value: bool) -> Result<(), NoMemory>
 {
     let place = take(&mut stacks.places);
     let made = make_truth(value, place);
-    put(&mut stacks.expressions, made)?;
-    Ok(())
+    put(&mut stacks.expressions, made)
 }
 
 /// `(inner)`
@@ -102,8 +96,7 @@ pub fn undo_parentheses(alloc: Global, stacks: &mut Stacks) -> Result<(), NoMemo
     let place = take(&mut stacks.places);
     let inner = take(&mut stacks.expressions);
     let made = make_parentheses(alloc, place, inner)?;
-    put(&mut stacks.expressions, made)?;
-    Ok(())
+    put(&mut stacks.expressions, made)
 }
 
 /// `[arguments]`
@@ -114,8 +107,7 @@ pub fn undo_list(stacks: &mut Stacks) -> Result<(), NoMemory>
     let place = take(&mut stacks.places);
     let listed = take(&mut stacks.lists);
     let made = make_list(place, listed);
-    put(&mut stacks.expressions, made)?;
-    Ok(())
+    put(&mut stacks.expressions, made)
 }
 
 /// `min(left, right)` or `max(left, right)`
@@ -127,6 +119,5 @@ pub fn undo_extreme(alloc: Global, stacks: &mut Stacks, which: Extreme) -> Resul
     let left = take(&mut stacks.expressions);
     let right = take(&mut stacks.expressions);
     let made = make_extreme(alloc, which, place, left, right)?;
-    put(&mut stacks.expressions, made)?;
-    Ok(())
+    put(&mut stacks.expressions, made)
 }

@@ -12,7 +12,8 @@ use crate::making::{make_aggregate, make_extreme};
 use cbl_base::{NoMemory, Place};
 use comet_syntax::tree::{Aggregate, Expression, Extreme, Name};
 use parse_stacks::{
-    Pair, PairRest, Stacks, link, name_operand, put, raise, suffix, take, take_behind,
+    Pair, PairRest, Stacks, beside, beside_two, link, put, raise, raise_name, suffix, take,
+    take_behind,
 };
 use std::alloc::Global;
 
@@ -41,7 +42,10 @@ fn make_pair(
             right,
             suffixes,
         } => {
-            let primary = make_extreme(alloc, which, place, left, right)?;
+            let (primary, suffixes) = beside(
+                make_extreme(alloc, which, place, left, right),
+                suffixes,
+            )?;
             let all = suffix(alloc, primary, suffixes)?;
             Ok(all)
         }
@@ -65,7 +69,7 @@ fn begin(alloc: Global, name: Name, rest: PairRest) -> Result<Pair, NoMemory>
             body,
         } => {
             let first = make_generator(name, domain);
-            let generators = join_generators(alloc, first, more, condition)?;
+            let (generators, body) = beside(join_generators(alloc, first, more, condition), body)?;
             Ok(Pair::Over { generators, body })
         }
         PairRest::Two {
@@ -75,8 +79,8 @@ fn begin(alloc: Global, name: Name, rest: PairRest) -> Result<Pair, NoMemory>
             right,
             suffixes,
         } => {
-            let operand = name_operand(alloc, name, called, inner)?;
-            let left = raise(alloc, operand, behind)?;
+            let made = raise_name(alloc, name, called, inner, behind);
+            let (left, right, suffixes) = beside_two(made, right, suffixes)?;
             Ok(Pair::Two {
                 left,
                 right,
@@ -94,8 +98,7 @@ pub fn undo_pair(alloc: Global, stacks: &mut Stacks, which: Extreme) -> Result<(
     let place = take(&mut stacks.places);
     let behind = take(&mut stacks.pairs);
     let made = make_pair(alloc, which, place, behind)?;
-    put(&mut stacks.expressions, made)?;
-    Ok(())
+    put(&mut stacks.expressions, made)
 }
 
 /// A name, and what stands behind it
@@ -106,8 +109,7 @@ pub fn undo_named_pair(alloc: Global, stacks: &mut Stacks) -> Result<(), NoMemor
     let name = take(&mut stacks.names);
     let rest = take(&mut stacks.pair_rests);
     let made = begin(alloc, name, rest)?;
-    put(&mut stacks.pairs, made)?;
-    Ok(())
+    put(&mut stacks.pairs, made)
 }
 
 /// `left, right)` and suffixes
@@ -122,16 +124,15 @@ pub fn undo_unnamed_pair(alloc: Global, stacks: &mut Stacks) -> Result<(), NoMem
         &mut stacks.compared,
         &mut stacks.branches,
     );
+    let left = raise(alloc, operand, behind)?;
     let right = take(&mut stacks.expressions);
     let suffixes = take(&mut stacks.suffixes);
-    let left = raise(alloc, operand, behind)?;
     let made = Pair::Two {
         left,
         right,
         suffixes,
     };
-    put(&mut stacks.pairs, made)?;
-    Ok(())
+    put(&mut stacks.pairs, made)
 }
 
 /// `in domain, more : condition) body`
@@ -140,19 +141,18 @@ pub fn undo_pair_over(alloc: Global, stacks: &mut Stacks) -> Result<(), NoMemory
     ensures { IfOk result (λ _. Undone pair_named pair_named_in PairOverMade stacks.old stacks.new) }
 {
     let domain = take(&mut stacks.expressions);
-    let more = take(&mut stacks.generator_lists);
-    let condition = take(&mut stacks.optional);
     let operand = take(&mut stacks.expressions);
     let product = take(&mut stacks.links);
-    let body = link(alloc, operand, product)?;
+    let (body, domain) = beside(link(alloc, operand, product), domain)?;
+    let more = take(&mut stacks.generator_lists);
+    let condition = take(&mut stacks.optional);
     let made = PairRest::Over {
         domain,
         more,
         condition,
         body,
     };
-    put(&mut stacks.pair_rests, made)?;
-    Ok(())
+    put(&mut stacks.pair_rests, made)
 }
 
 /// What the first expression goes on with behind its name, then `, right)` and suffixes
@@ -177,6 +177,5 @@ pub fn undo_pair_two(stacks: &mut Stacks) -> Result<(), NoMemory>
         right,
         suffixes,
     };
-    put(&mut stacks.pair_rests, made)?;
-    Ok(())
+    put(&mut stacks.pair_rests, made)
 }

@@ -7,7 +7,7 @@ ghost use Rattle.parse_stacks.specs.Undoing.{Ready, Undone};
 
 use cbl_base::NoMemory;
 use comet_syntax::tree::Item;
-use parse_stacks::{Stacks, put, take};
+use parse_stacks::{Stacks, put, put_before, take};
 use std::alloc::Global;
 
 /// An expression that is printed.
@@ -16,8 +16,7 @@ pub fn undo_item(stacks: &mut Stacks) -> Result<(), NoMemory>
     ensures { IfOk result (λ _. Undone item item_expression (λ v x. x ≡ items.Expression v.0) stacks.old stacks.new) }
 {
     let value = take(&mut stacks.expressions);
-    put(&mut stacks.items, Item::Expression(value))?;
-    Ok(())
+    put(&mut stacks.items, Item::Expression(value))
 }
 
 /// A string that is printed.
@@ -26,16 +25,14 @@ pub fn undo_string(stacks: &mut Stacks) -> Result<(), NoMemory>
     ensures { IfOk result (λ _. Undone item item_string (λ v x. x ≡ items.Str v.0) stacks.old stacks.new) }
 {
     let text = take(&mut stacks.texts);
-    put(&mut stacks.items, Item::Str(text))?;
-    Ok(())
+    put(&mut stacks.items, Item::Str(text))
 }
 
 /// `endl`
 pub fn undo_end_line(stacks: &mut Stacks) -> Result<(), NoMemory>
     ensures { IfOk result (λ _. Undone item item_endl (λ v x. x ≡ items.EndLine) stacks.old stacks.new) }
 {
-    put(&mut stacks.items, Item::EndLine)?;
-    Ok(())
+    put(&mut stacks.items, Item::EndLine)
 }
 
 /// `<< item` before other items
@@ -44,10 +41,9 @@ pub fn undo_more_items(stacks: &mut Stacks) -> Result<(), NoMemory>
     ensures { IfOk result (λ _. Undone items_tail items_tail_less_less (λ v x. reverse x.items ≡ v.1.0 ∷ reverse v.1.1.0.items) stacks.old stacks.new) }
 {
     let first = take(&mut stacks.items);
-    let mut all = take(&mut stacks.item_lists);
-    put(&mut all, first)?;
-    put(&mut stacks.item_lists, all)?;
-    Ok(())
+    let more = take(&mut stacks.item_lists);
+    let all = put_before(more, first)?;
+    put(&mut stacks.item_lists, all)
 }
 
 /// No more items.
@@ -55,6 +51,5 @@ pub fn undo_no_items(alloc: Global, stacks: &mut Stacks) -> Result<(), NoMemory>
     ensures { IfOk result (λ _. Undone items_tail [] (λ v x. x.items ≡ []) stacks.old stacks.new) }
 {
     let none = Vec::new(alloc);
-    put(&mut stacks.item_lists, none)?;
-    Ok(())
+    put(&mut stacks.item_lists, none)
 }

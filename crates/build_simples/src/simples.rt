@@ -17,7 +17,7 @@ ghost use Rattle.build_simples.specs.MadeSimples.{done_text, named_text};
 use crate::targets::{finish_name, finish_target};
 use cbl_base::{NoMemory, Place};
 use comet_syntax::tree::{Expression, Item, Simple, Step, WriteOperator};
-use parse_stacks::{NamedRest, NewValue, Stacks, WriteRest, put, suffix, take};
+use parse_stacks::{NamedRest, NewValue, Stacks, WriteRest, put, put_before, suffix, take};
 use std::alloc::Global;
 
 /// A simple statement that begins with a name.
@@ -28,8 +28,7 @@ pub fn undo_named(alloc: Global, stacks: &mut Stacks) -> Result<(), NoMemory>
     let name = take(&mut stacks.names);
     let rest = take(&mut stacks.named_rests);
     let made = finish_name(alloc, name, rest)?;
-    put(&mut stacks.simples, made)?;
-    Ok(())
+    put(&mut stacks.simples, made)
 }
 
 /// A simple statement that begins with a literal, or with `min` or `max`.
@@ -42,8 +41,7 @@ pub fn undo_unnamed(alloc: Global, stacks: &mut Stacks) -> Result<(), NoMemory>
     let target = suffix(alloc, primary, suffixes)?;
     let rest = take(&mut stacks.writes);
     let made = finish_target(alloc, target, rest)?;
-    put(&mut stacks.simples, made)?;
-    Ok(())
+    put(&mut stacks.simples, made)
 }
 
 // `cout << items`
@@ -60,12 +58,11 @@ pub fn undo_print(stacks: &mut Stacks) -> Result<(), NoMemory>
 {
     let place = take(&mut stacks.places);
     let first = take(&mut stacks.items);
-    let mut items = take(&mut stacks.item_lists);
-    put(&mut items, first)?;
+    let more = take(&mut stacks.item_lists);
+    let mut items = put_before(more, first)?;
     items.reverse();
     let made = make_print(place, items);
-    put(&mut stacks.simples, made)?;
-    Ok(())
+    put(&mut stacks.simples, made)
 }
 
 // `call(chosen)`
@@ -84,8 +81,7 @@ pub fn undo_call(alloc: Global, stacks: &mut Stacks) -> Result<(), NoMemory>
     let place = take(&mut stacks.places);
     let chosen = take(&mut stacks.expressions);
     let made = make_call(alloc, place, chosen)?;
-    put(&mut stacks.simples, made)?;
-    Ok(())
+    put(&mut stacks.simples, made)
 }
 
 /// `= value` behind a name
@@ -94,8 +90,7 @@ pub fn undo_set(stacks: &mut Stacks) -> Result<(), NoMemory>
     ensures { IfOk result (λ _. Undone named_simple named_simple_equal (λ v x. x ≡ named_rests.Set v.1.0) stacks.old stacks.new) }
 {
     let value = take(&mut stacks.new_values);
-    put(&mut stacks.named_rests, NamedRest::Set(value))?;
-    Ok(())
+    put(&mut stacks.named_rests, NamedRest::Set(value))
 }
 
 /// What a target that begins with a name goes on with, and what is done with it.
@@ -111,8 +106,7 @@ pub fn undo_named_rest(stacks: &mut Stacks) -> Result<(), NoMemory>
         suffixes,
         write,
     };
-    put(&mut stacks.named_rests, rest)?;
-    Ok(())
+    put(&mut stacks.named_rests, rest)
 }
 
 /// `new class(arguments)`
@@ -122,8 +116,7 @@ pub fn undo_new(stacks: &mut Stacks) -> Result<(), NoMemory>
 {
     let class = take(&mut stacks.classes);
     let arguments = take(&mut stacks.lists);
-    put(&mut stacks.new_values, NewValue::New(class, arguments))?;
-    Ok(())
+    put(&mut stacks.new_values, NewValue::New(class, arguments))
 }
 
 /// A value that a name is set to.
@@ -132,16 +125,14 @@ pub fn undo_set_value(stacks: &mut Stacks) -> Result<(), NoMemory>
     ensures { IfOk result (λ _. Undone new_value new_value_expression (λ v x. x ≡ new_values.Value v.0) stacks.old stacks.new) }
 {
     let value = take(&mut stacks.expressions);
-    put(&mut stacks.new_values, NewValue::Value(value))?;
-    Ok(())
+    put(&mut stacks.new_values, NewValue::Value(value))
 }
 
 /// Nothing is done with a target.
 pub fn undo_no_write(stacks: &mut Stacks) -> Result<(), NoMemory>
     ensures { IfOk result (λ _. Undone write [] (λ v x. x ≡ write_rests.Nothing) stacks.old stacks.new) }
 {
-    put(&mut stacks.writes, WriteRest::Nothing)?;
-    Ok(())
+    put(&mut stacks.writes, WriteRest::Nothing)
 }
 
 /// `= value` and its like
@@ -150,8 +141,7 @@ pub fn undo_write(stacks: &mut Stacks, operator: WriteOperator) -> Result<(), No
     ensures { IfOk result (λ _. Undone write write_equal (λ v x. x ≡ write_rests.Value operator v.1.0) stacks.old stacks.new) }
 {
     let value = take(&mut stacks.expressions);
-    put(&mut stacks.writes, WriteRest::Value(operator, value))?;
-    Ok(())
+    put(&mut stacks.writes, WriteRest::Value(operator, value))
 }
 
 /// `:=: right`
@@ -160,16 +150,14 @@ pub fn undo_swap(stacks: &mut Stacks) -> Result<(), NoMemory>
     ensures { IfOk result (λ _. Undone write write_swap (λ v x. x ≡ write_rests.Swap v.1.0) stacks.old stacks.new) }
 {
     let right = take(&mut stacks.expressions);
-    put(&mut stacks.writes, WriteRest::Swap(right))?;
-    Ok(())
+    put(&mut stacks.writes, WriteRest::Swap(right))
 }
 
 /// `++` or `--`
 pub fn undo_step(stacks: &mut Stacks, step: Step) -> Result<(), NoMemory>
     ensures { IfOk result (λ _. Undone write write_plus_plus (λ v x. x ≡ write_rests.Step step) stacks.old stacks.new) }
 {
-    put(&mut stacks.writes, WriteRest::Step(step))?;
-    Ok(())
+    put(&mut stacks.writes, WriteRest::Step(step))
 }
 
 /// The name that a simple statement or a pair begins with.
@@ -178,6 +166,5 @@ pub fn undo_first_name(stacks: &mut Stacks) -> Result<(), NoMemory>
     ensures { IfOk result (λ _. Undone first_name first_name_name (λ v x. x ≡ v.0) stacks.old stacks.new) }
 {
     let name = take(&mut stacks.names);
-    put(&mut stacks.names, name)?;
-    Ok(())
+    put(&mut stacks.names, name)
 }

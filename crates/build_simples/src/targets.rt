@@ -1,5 +1,5 @@
 //! What a simple statement does with its target.
-ghost use Rattle.std.specs.Prelude.{◌≡◌, IfOk, Ok};
+ghost use Rattle.std.specs.Prelude.{◌≡◌, IfOk};
 ghost use Rattle.parse_stacks.specs.declared.tails.WriteRest.TheVariants as write_rests;
 ghost use Rattle.comet_syntax.specs.Written.Expressions.{written, name_alone, by_name};
 ghost use Rattle.comet_syntax.specs.Written.Declarations.{whole_text};
@@ -12,7 +12,7 @@ use cbl_base::NoMemory;
 use comet_syntax::tree::{
     Argument, Class, Expression, Name, NewObject, Simple, Step, WriteOperator,
 };
-use parse_stacks::{NamedRest, NewValue, WriteRest, box_two, name_operand};
+use parse_stacks::{NamedRest, NewValue, WriteRest, beside, box_two, name_operand};
 use std::alloc::Global;
 
 // `target = value` and its like
@@ -103,14 +103,6 @@ fn set_name(alloc: Global, name: Name, value: NewValue) -> Result<Simple, NoMemo
             Ok(made)
         }
     }
-}
-
-// What was made, with what stands beside it.
-fn beside<A: Drop, B: Drop>(made: Result<A, NoMemory>, other: B) -> Result<(A, B), NoMemory>
-    ensures { IfOk result (λ both. (made ≡ Ok both.0) × (both.1 ≡ other)) }
-{
-    let made = made?;
-    Ok((made, other))
 }
 
 /// A name, and what stands behind it.

@@ -11,40 +11,35 @@ use std::alloc::Global;
 pub fn undo_no_otherwise(stacks: &mut Stacks) -> Result<(), NoMemory>
     ensures { IfOk result (λ _. IsUndone forms.OtherwiseNone stacks.old stacks.new) }
 {
-    put(&mut stacks.otherwise, None)?;
-    Ok(())
+    put(&mut stacks.otherwise, None)
 }
 
 /// No value and no condition.
 pub fn undo_no_value(stacks: &mut Stacks) -> Result<(), NoMemory>
     ensures { IfOk result (λ _. IsUndone forms.OptionalValueNone stacks.old stacks.new) }
 {
-    put(&mut stacks.optional, None)?;
-    Ok(())
+    put(&mut stacks.optional, None)
 }
 
 /// No start of a `for`.
 pub fn undo_no_for_start(stacks: &mut Stacks) -> Result<(), NoMemory>
     ensures { IfOk result (λ _. IsUndone forms.ForStartNone stacks.old stacks.new) }
 {
-    put(&mut stacks.for_starts, None)?;
-    Ok(())
+    put(&mut stacks.for_starts, None)
 }
 
 /// No step of a `for`.
 pub fn undo_no_for_step(stacks: &mut Stacks) -> Result<(), NoMemory>
     ensures { IfOk result (λ _. IsUndone forms.ForStepNone stacks.old stacks.new) }
 {
-    put(&mut stacks.for_steps, None)?;
-    Ok(())
+    put(&mut stacks.for_steps, None)
 }
 
 /// No names in a `whenever`.
 pub fn undo_no_events(stacks: &mut Stacks) -> Result<(), NoMemory>
     ensures { IfOk result (λ _. IsUndone forms.EventsNone stacks.old stacks.new) }
 {
-    put(&mut stacks.events, None)?;
-    Ok(())
+    put(&mut stacks.events, None)
 }
 
 /// No statements.
@@ -52,8 +47,7 @@ pub fn undo_no_statements(alloc: Global, stacks: &mut Stacks) -> Result<(), NoMe
     ensures { IfOk result (λ _. IsUndone forms.StatementsNone stacks.old stacks.new) }
 {
     let none = Vec::new(alloc);
-    put(&mut stacks.statement_lists, none)?;
-    Ok(())
+    put(&mut stacks.statement_lists, none)
 }
 
 /// No more generators.
@@ -61,6 +55,5 @@ pub fn undo_no_generators(alloc: Global, stacks: &mut Stacks) -> Result<(), NoMe
     ensures { IfOk result (λ _. IsUndone forms.GeneratorsTailNone stacks.old stacks.new) }
 {
     let none = Vec::new(alloc);
-    put(&mut stacks.generator_lists, none)?;
-    Ok(())
+    put(&mut stacks.generator_lists, none)
 }

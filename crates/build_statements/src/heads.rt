@@ -16,8 +16,7 @@ pub fn undo_otherwise(stacks: &mut Stacks) -> Result<(), NoMemory>
     ensures { IfOk result (λ _. IsUndone forms.OtherwiseElse stacks.old stacks.new) }
 {
     let behind = take(&mut stacks.statements);
-    put(&mut stacks.otherwise, Some(behind))?;
-    Ok(())
+    put(&mut stacks.otherwise, Some(behind))
 }
 
 /// A value that may be left out.
@@ -26,8 +25,7 @@ pub fn undo_value(stacks: &mut Stacks) -> Result<(), NoMemory>
     ensures { IfOk result (λ _. IsUndone forms.OptionalValueExpression stacks.old stacks.new) }
 {
     let value = take(&mut stacks.expressions);
-    put(&mut stacks.optional, Some(value))?;
-    Ok(())
+    put(&mut stacks.optional, Some(value))
 }
 
 /// `int name = value`
@@ -37,8 +35,7 @@ pub fn undo_for_start(stacks: &mut Stacks) -> Result<(), NoMemory>
 {
     let name = take(&mut stacks.names);
     let value = take(&mut stacks.expressions);
-    put(&mut stacks.for_starts, Some(ForStart { name, value }))?;
-    Ok(())
+    put(&mut stacks.for_starts, Some(ForStart { name, value }))
 }
 
 /// A simple statement as the step of a `for`.
@@ -47,8 +44,7 @@ pub fn undo_for_step(stacks: &mut Stacks) -> Result<(), NoMemory>
     ensures { IfOk result (λ _. IsUndone forms.ForStepSimple stacks.old stacks.new) }
 {
     let step = take(&mut stacks.simples);
-    put(&mut stacks.for_steps, Some(step))?;
-    Ok(())
+    put(&mut stacks.for_steps, Some(step))
 }
 
 /// `int old, int new`
@@ -58,14 +54,12 @@ pub fn undo_events(stacks: &mut Stacks) -> Result<(), NoMemory>
 {
     let old = take(&mut stacks.names);
     let new = take(&mut stacks.names);
-    put(&mut stacks.events, Some(Events { old, new }))?;
-    Ok(())
+    put(&mut stacks.events, Some(Events { old, new }))
 }
 
 /// `atomic` or `delay`
 pub fn undo_with_mode(stacks: &mut Stacks, mode: WithMode) -> Result<(), NoMemory>
     ensures { IfOk result (λ _. Undone with_mode with_mode_atomic (λ v x. x ≡ mode) stacks.old stacks.new) }
 {
-    put(&mut stacks.modes, mode)?;
-    Ok(())
+    put(&mut stacks.modes, mode)
 }

@@ -16,7 +16,7 @@ use crate::nodes::{
 };
 use cbl_base::NoMemory;
 use comet_syntax::tree::Extreme;
-use parse_stacks::{Stacks, put, take};
+use parse_stacks::{Stacks, put, put_before, take};
 use std::alloc::Global;
 
 /// `{ statements }`
@@ -28,8 +28,7 @@ pub fn undo_block(stacks: &mut Stacks) -> Result<(), NoMemory>
     let mut statements = take(&mut stacks.statement_lists);
     statements.reverse();
     let block = make_block(place, statements);
-    put(&mut stacks.blocks, block)?;
-    Ok(())
+    put(&mut stacks.blocks, block)
 }
 
 /// A statement before others.
@@ -38,10 +37,9 @@ pub fn undo_more_statements(stacks: &mut Stacks) -> Result<(), NoMemory>
     ensures { IfOk result (λ _. IsUndone forms.StatementsStatement stacks.old stacks.new) }
 {
     let first = take(&mut stacks.statements);
-    let mut all = take(&mut stacks.statement_lists);
-    put(&mut all, first)?;
-    put(&mut stacks.statement_lists, all)?;
-    Ok(())
+    let more = take(&mut stacks.statement_lists);
+    let all = put_before(more, first)?;
+    put(&mut stacks.statement_lists, all)
 }
 
 /// A block as a statement.
@@ -51,8 +49,7 @@ pub fn undo_block_alone(stacks: &mut Stacks) -> Result<(), NoMemory>
 {
     let block = take(&mut stacks.blocks);
     let made = make_block_alone(block);
-    put(&mut stacks.statements, made)?;
-    Ok(())
+    put(&mut stacks.statements, made)
 }
 
 /// `;`
@@ -62,8 +59,7 @@ pub fn undo_empty(stacks: &mut Stacks) -> Result<(), NoMemory>
 {
     let place = take(&mut stacks.places);
     let made = make_empty(place);
-    put(&mut stacks.statements, made)?;
-    Ok(())
+    put(&mut stacks.statements, made)
 }
 
 /// `declaration;`
@@ -73,8 +69,7 @@ pub fn undo_declared(alloc: Global, stacks: &mut Stacks) -> Result<(), NoMemory>
 {
     let declaration = take(&mut stacks.declarations);
     let made = make_declared(alloc, declaration)?;
-    put(&mut stacks.statements, made)?;
-    Ok(())
+    put(&mut stacks.statements, made)
 }
 
 /// `simple;`
@@ -84,8 +79,7 @@ pub fn undo_simple_alone(stacks: &mut Stacks) -> Result<(), NoMemory>
 {
     let simple = take(&mut stacks.simples);
     let made = make_simple_alone(simple);
-    put(&mut stacks.statements, made)?;
-    Ok(())
+    put(&mut stacks.statements, made)
 }
 
 /// `return value;`
@@ -96,8 +90,7 @@ pub fn undo_return(alloc: Global, stacks: &mut Stacks) -> Result<(), NoMemory>
     let place = take(&mut stacks.places);
     let value = take(&mut stacks.optional);
     let made = make_return(alloc, place, value)?;
-    put(&mut stacks.statements, made)?;
-    Ok(())
+    put(&mut stacks.statements, made)
 }
 
 /// `if (test) then otherwise`
@@ -110,8 +103,7 @@ pub fn undo_if(alloc: Global, stacks: &mut Stacks) -> Result<(), NoMemory>
     let then = take(&mut stacks.statements);
     let otherwise = take(&mut stacks.otherwise);
     let made = make_if(alloc, place, test, then, otherwise)?;
-    put(&mut stacks.statements, made)?;
-    Ok(())
+    put(&mut stacks.statements, made)
 }
 
 /// `while (test) body`
@@ -123,8 +115,7 @@ pub fn undo_while(alloc: Global, stacks: &mut Stacks) -> Result<(), NoMemory>
     let test = take(&mut stacks.expressions);
     let body = take(&mut stacks.statements);
     let made = make_while(alloc, place, test, body)?;
-    put(&mut stacks.statements, made)?;
-    Ok(())
+    put(&mut stacks.statements, made)
 }
 
 /// `for (start; test; step) body`
@@ -138,8 +129,7 @@ pub fn undo_for(alloc: Global, stacks: &mut Stacks) -> Result<(), NoMemory>
     let step = take(&mut stacks.for_steps);
     let body = take(&mut stacks.statements);
     let made = make_for(alloc, place, start, test, step, body)?;
-    put(&mut stacks.statements, made)?;
-    Ok(())
+    put(&mut stacks.statements, made)
 }
 
 /// `forall (generators) body`
@@ -151,8 +141,7 @@ pub fn undo_for_all(alloc: Global, stacks: &mut Stacks) -> Result<(), NoMemory>
     let generators = take(&mut stacks.all_generators);
     let body = take(&mut stacks.statements);
     let made = make_for_all(alloc, place, generators, body)?;
-    put(&mut stacks.statements, made)?;
-    Ok(())
+    put(&mut stacks.statements, made)
 }
 
 /// `select (generators) body`
@@ -164,8 +153,7 @@ pub fn undo_select(alloc: Global, stacks: &mut Stacks) -> Result<(), NoMemory>
     let generators = take(&mut stacks.all_generators);
     let body = take(&mut stacks.statements);
     let made = make_select(alloc, place, generators, body)?;
-    put(&mut stacks.statements, made)?;
-    Ok(())
+    put(&mut stacks.statements, made)
 }
 
 /// `selectMin (generators) (key) body` or `selectMax (generators) (key) body`
@@ -180,8 +168,7 @@ pub fn undo_select_by(alloc: Global, stacks: &mut Stacks, extreme: Extreme) -> R
     let key = take(&mut stacks.expressions);
     let body = take(&mut stacks.statements);
     let made = make_select_by(alloc, place, extreme, generators, key, body)?;
-    put(&mut stacks.statements, made)?;
-    Ok(())
+    put(&mut stacks.statements, made)
 }
 
 /// `neighbor (key, selector) body`
@@ -194,8 +181,7 @@ pub fn undo_neighbor(alloc: Global, stacks: &mut Stacks) -> Result<(), NoMemory>
     let selector = take(&mut stacks.names);
     let body = take(&mut stacks.statements);
     let made = make_neighbor(alloc, place, key, selector, body)?;
-    put(&mut stacks.statements, made)?;
-    Ok(())
+    put(&mut stacks.statements, made)
 }
 
 /// `whenever variable@event(int old, int new) body`
@@ -209,8 +195,7 @@ pub fn undo_whenever(alloc: Global, stacks: &mut Stacks) -> Result<(), NoMemory>
     let names = take(&mut stacks.events);
     let body = take(&mut stacks.statements);
     let made = make_whenever(alloc, place, variable, event, names, body)?;
-    put(&mut stacks.statements, made)?;
-    Ok(())
+    put(&mut stacks.statements, made)
 }
 
 /// `with atomic (solver) block` or `with delay (solver) block`
@@ -223,8 +208,7 @@ pub fn undo_with(alloc: Global, stacks: &mut Stacks) -> Result<(), NoMemory>
     let solver = take(&mut stacks.names);
     let body = take(&mut stacks.blocks);
     let made = make_with(alloc, place, mode, solver, body)?;
-    put(&mut stacks.statements, made)?;
-    Ok(())
+    put(&mut stacks.statements, made)
 }
 
 /// `parall (name in domain) body`
@@ -237,6 +221,5 @@ pub fn undo_parall(alloc: Global, stacks: &mut Stacks) -> Result<(), NoMemory>
     let domain = take(&mut stacks.expressions);
     let body = take(&mut stacks.statements);
     let made = make_parall(alloc, place, name, domain, body)?;
-    put(&mut stacks.statements, made)?;
-    Ok(())
+    put(&mut stacks.statements, made)
 }

@@ -20,11 +20,7 @@ mod names;
 mod node_rule;
 mod numbers;
 mod place;
-#[cfg(test)]
-mod tests;
 mod text;
-#[cfg(test)]
-mod text_tests;
 
 pub use arithmetic::{add, div, mul, rem, sub};
 pub use faults::{Limit, NoMemory, NodeFault, RunFault};

@@ -21,6 +21,3 @@ pub use mem_sink::MemSink;
 pub use real_files::RealFiles;
 pub use real_sink::RealSink;
 pub use sink::{Failed, Sink, write_all};
-
-#[cfg(test)]
-mod tests;

@@ -35,6 +35,3 @@ pub use sets::{
     union_value,
 };
 pub use truth::{and_value, eq_value, le_value, lt_value, ne_value, not_value, or_value};
-
-#[cfg(test)]
-mod tests;

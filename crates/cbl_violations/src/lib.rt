@@ -38,6 +38,3 @@ pub use relations::{
     ne_violation_at, ne_violations,
 };
 pub use sequence::{sequence_violation_at, sequence_violations};
-
-#[cfg(test)]
-mod tests;

@@ -1,4 +1,3 @@
-pub mod Makes
 pub mod Shape
 pub mod Actions
 pub mod Tasks

@@ -2,15 +2,11 @@
 //! resolved, and each expression says what it is.
 //!
 //! It knows nothing of how a tree is checked. The layers above use that a checked tree is seen without its
-//! pointers, and that each form is made of its parts.
+//! pointers.
 #![tactic(auto)]
 
-mod boxes;
 pub mod expressions;
 pub mod kind;
-pub mod make_actions;
-pub mod make_expressions;
-pub mod make_tasks;
 pub mod statements;
 pub mod stop;
 

@@ -10,24 +10,30 @@ use Rattle.comet.specs.Status.{status_of, cause_of, cause_of_run}
 
 pub ends_with : (end : RunEnd) (fuel : ℕ) (printed : List ℕ) (m : Meant) → EndsAs end fuel printed m → status_of (cause_of_run end) ≢ 7 → cause_of_run end ≡ cause_of m.end
 ends_with ends.Done fuel printed m e wants = ap (λ n. cause_of n.end) (sym e)
+ends_with (ends.Cyclic place names) fuel printed m e wants = ap (λ n. cause_of n.end) (sym e)
 ends_with (ends.Run place fault) fuel printed m e wants = ap (λ n. cause_of n.end) (sym e)
 ends_with (ends.Spent place) fuel printed m e wants = ap (λ n. cause_of n.end) (sym e)
 ends_with ends.NoMemory fuel printed m e wants = absurd (wants refl)
+ends_with ends.Write fuel printed m e wants = absurd (wants refl)
 
 pub prints_with : (end : RunEnd) (fuel : ℕ) (printed : List ℕ) (m : Meant) → EndsAs end fuel printed m → status_of (cause_of_run end) ≢ 7 → printed ≡ m.printed
 prints_with ends.Done fuel printed m e wants = ap (λ n. n.printed) (sym e)
+prints_with (ends.Cyclic place names) fuel printed m e wants = ap (λ n. n.printed) (sym e)
 prints_with (ends.Run place fault) fuel printed m e wants = ap (λ n. n.printed) (sym e)
 prints_with (ends.Spent place) fuel printed m e wants = ap (λ n. n.printed) (sym e)
 prints_with ends.NoMemory fuel printed m e wants = absurd (wants refl)
+prints_with ends.Write fuel printed m e wants = absurd (wants refl)
 
 whole : {printed : List ℕ} (m : Meant) → m.printed ≡ printed → IsFront printed m.printed
 whole {printed = printed} m e = ([], e ∙ sym (append-nil printed))
 
 pub prints_front : (end : RunEnd) (fuel : ℕ) (printed : List ℕ) (m : Meant) → EndsAs end fuel printed m → IsFront printed m.printed
 prints_front ends.Done fuel printed m e = whole m (ap (λ n. n.printed) e)
+prints_front (ends.Cyclic place names) fuel printed m e = whole m (ap (λ n. n.printed) e)
 prints_front (ends.Run place fault) fuel printed m e = whole m (ap (λ n. n.printed) e)
 prints_front (ends.Spent place) fuel printed m e = whole m (ap (λ n. n.printed) e)
 prints_front ends.NoMemory fuel printed m e = e
+prints_front ends.Write fuel printed m e = e
 
 -- a front of a front is a front
 pub front_of_front : (old new : Option (List ℕ)) (piece whole : List ℕ) → IsFront piece whole → AppendsFront old new piece → AppendsFront old new whole
@@ -37,6 +43,8 @@ front_of_front old new piece whole (rest, whole_is) (front, left, piece_is, appe
 -- a run never ends by its words, nor because a file can't be read
 pub ran : (end : RunEnd) → (status_of (cause_of_run end) ≢ 1) × (status_of (cause_of_run end) ≢ 8) × (status_of (cause_of_run end) ≢ 9)
 ran ends.Done = (λ e. absurd cc, λ e. absurd cc, λ e. absurd cc)
+ran (ends.Cyclic place names) = (λ e. absurd cc, λ e. absurd cc, λ e. absurd cc)
 ran (ends.Run place fault) = (λ e. absurd cc, λ e. absurd cc, λ e. absurd cc)
 ran (ends.Spent place) = (λ e. absurd cc, λ e. absurd cc, λ e. absurd cc)
 ran ends.NoMemory = (λ e. absurd cc, λ e. absurd cc, λ e. absurd cc)
+ran ends.Write = (λ e. absurd cc, λ e. absurd cc, λ e. absurd cc)

@@ -104,6 +104,7 @@ refused_or_wants words told old new causes.Done bytes stop held is_told calm = i
 refused_or_wants words told old new causes.Words bytes stop held is_told calm = inr (refused words told old new _ bytes stop held is_told (λ e. absurd cc, λ e. absurd cc, λ e. absurd cc))
 refused_or_wants words told old new (causes.IllFormed place form) bytes stop held is_told calm = inr (refused words told old new _ bytes stop held is_told (λ e. absurd cc, λ e. absurd cc, λ e. absurd cc))
 refused_or_wants words told old new (causes.IllTyped place code) bytes stop held is_told calm = inr (refused words told old new _ bytes stop held is_told (λ e. absurd cc, λ e. absurd cc, λ e. absurd cc))
+refused_or_wants words told old new (causes.Cyclic place names) bytes stop held is_told calm = inr (refused words told old new _ bytes stop held is_told (λ e. absurd cc, λ e. absurd cc, λ e. absurd cc))
 refused_or_wants words told old new (causes.Run place fault) bytes stop held is_told calm = inr (refused words told old new _ bytes stop held is_told (λ e. absurd cc, λ e. absurd cc, λ e. absurd cc))
 refused_or_wants words told old new (causes.Spent place) bytes stop held is_told calm = inr (refused words told old new _ bytes stop held is_told (λ e. absurd cc, λ e. absurd cc, λ e. absurd cc))
 

@@ -31,6 +31,7 @@ data_stops file old new (causes.IllFormed place form) stop = absurd stop
 data_stops file old new (causes.IllTyped place code) stop = absurd stop
 data_stops file old new causes.Done stop = absurd stop
 data_stops file old new causes.Words stop = absurd stop
+data_stops file old new (causes.Cyclic place names) stop = absurd stop
 data_stops file old new (causes.Run place fault) stop = absurd stop
 data_stops file old new (causes.Spent place) stop = absurd stop
 data_stops file old new causes.Write stop = absurd stop
@@ -44,6 +45,7 @@ program_stops name data_file told old new (causes.Read roles.Program) stop = sto
 program_stops name data_file told old new (causes.Read roles.Data) stop = absurd stop
 program_stops name data_file told old new causes.Done stop = absurd stop
 program_stops name data_file told old new causes.Words stop = absurd stop
+program_stops name data_file told old new (causes.Cyclic place names) stop = absurd stop
 program_stops name data_file told old new (causes.Run place fault) stop = absurd stop
 program_stops name data_file told old new (causes.Spent place) stop = absurd stop
 program_stops name data_file told old new causes.Write stop = absurd stop
@@ -62,6 +64,7 @@ data_stops_files name data_file told old middle new program (causes.IllFormed pl
 data_stops_files name data_file told old middle new program (causes.IllTyped place code) low holds stop = absurd stop
 data_stops_files name data_file told old middle new program causes.Done low holds stop = absurd stop
 data_stops_files name data_file told old middle new program causes.Words low holds stop = absurd stop
+data_stops_files name data_file told old middle new program (causes.Cyclic place names) low holds stop = absurd stop
 data_stops_files name data_file told old middle new program (causes.Run place fault) low holds stop = absurd stop
 data_stops_files name data_file told old middle new program (causes.Spent place) low holds stop = absurd stop
 data_stops_files name data_file told old middle new program causes.Write low holds stop = absurd stop
@@ -142,6 +145,7 @@ files_stop words told old new asks name (causes.Read roles.Data) is_asked named 
 }
 files_stop words told old new asks name causes.Done is_asked named stop = absurd stop
 files_stop words told old new asks name causes.Words is_asked named stop = absurd stop
+files_stop words told old new asks name (causes.Cyclic place names) is_asked named stop = absurd stop
 files_stop words told old new asks name (causes.Run place fault) is_asked named stop = absurd stop
 files_stop words told old new asks name (causes.Spent place) is_asked named stop = absurd stop
 files_stop words told old new asks name causes.Write is_asked named stop = absurd stop

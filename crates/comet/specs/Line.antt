@@ -1,6 +1,6 @@
 -- The line on the standard error that tells why a run ended. `Done` has none. From the language, section
 -- on texts.
-use Rattle.std.specs.Prelude.{ℕ, List, [], ◌∷◌, ◌++◌, ◌==◌, codes, decimal, if◌then◌else◌}
+use Rattle.std.specs.Prelude.{ℕ, List, [], ◌∷◌, ◌++◌, ◌==◌, map, codes, decimal, if◌then◌else◌}
 use Rattle.cbl_base.specs.declared.place.Place.{Place}
 use Rattle.cbl_base.specs.declared.faults.RunFault.{RunFault}
 use Rattle.cbl_base.specs.Faults.{code_of, text_of}
@@ -70,11 +70,31 @@ fault_line place fault = coded_line place (codes ": F") (code_of fault) (text_of
 abbrev pub type_line : Place → ℕ → List ℕ
 type_line place code = coded_line place (codes ": T") code (type_text code)
 
+-- the line of a cycle: `L:C: cyclic definition: `, and the names with ` -> ` between two, the first again at the end
+
+-- a name with an arrow behind it
+abbrev pub arrowed : List ℕ → List ℕ
+arrowed name = joined (name ∷ codes " -> " ∷ [])
+
+abbrev pub first_of : List (List ℕ) → List ℕ
+first_of [] = []
+first_of (name ∷ names) = name
+
+abbrev pub cycle_start : Place → List (List ℕ)
+cycle_start place = codes "comet: " ∷ decimal place.line ∷ codes ":" ∷ decimal place.col ∷ codes ": cyclic definition: " ∷ []
+
+abbrev pub cycle_end : List (List ℕ) → List (List ℕ)
+cycle_end names = first_of names ∷ codes "\n" ∷ []
+
+abbrev pub cycle_line : Place → List (List ℕ) → List ℕ
+cycle_line place names = joined (cycle_start place ++ joined (map arrowed names) ∷ cycle_end names)
+
 abbrev pub line_of : Cause → List ℕ
 line_of causes.Done = []
 line_of causes.Words = plain_line usage_text
 line_of (causes.IllFormed place cause) = placed_line place (form_text cause)
 line_of (causes.IllTyped place code) = type_line place code
+line_of (causes.Cyclic place names) = cycle_line place names
 line_of (causes.Run place fault) = fault_line place fault
 line_of (causes.Spent place) = placed_line place (codes "fuel spent")
 line_of causes.NoMemory = plain_line (codes "no memory")

@@ -1,6 +1,6 @@
 -- Each cause has its status. A rule of this project.
 use Rattle.std.specs.Prelude.{ℕ}
-use Rattle.comet_meaning.specs.Outcome.{Faulted, SpentAt}
+use Rattle.comet_meaning.specs.Outcome.{Faulted, SpentAt, Cyclic}
 use Rattle.comet_meaning.specs.Program.{End, Done, Stopped}
 use Rattle.comet.specs.declared.report.Cause.{Cause}
 use Rattle.comet.specs.declared.report.Cause.TheVariants as causes
@@ -12,6 +12,7 @@ status_of causes.Done = 0
 status_of causes.Words = 1
 status_of (causes.IllFormed place cause) = 2
 status_of (causes.IllTyped place code) = 3
+status_of (causes.Cyclic place names) = 4
 status_of (causes.Run place fault) = 5
 status_of (causes.Spent place) = 6
 status_of causes.NoMemory = 7
@@ -23,10 +24,13 @@ abbrev pub cause_of : End → Cause
 cause_of Done = causes.Done
 cause_of (Stopped (Faulted place fault)) = causes.Run place fault
 cause_of (Stopped (SpentAt place)) = causes.Spent place
+cause_of (Stopped (Cyclic place names)) = causes.Cyclic place names
 
--- the cause of a run that ended so, where memory may have run out
+-- the cause of a run over memory that ended so, where memory may have run out; memory never fails
 abbrev pub cause_of_run : RunEnd → Cause
 cause_of_run ends.Done = causes.Done
+cause_of_run (ends.Cyclic place names) = causes.Cyclic place names
 cause_of_run (ends.Run place fault) = causes.Run place fault
 cause_of_run (ends.Spent place) = causes.Spent place
 cause_of_run ends.NoMemory = causes.NoMemory
+cause_of_run ends.Write = causes.NoMemory

@@ -2,10 +2,10 @@
 ghost use Rattle.std.specs.Prelude.{◌≡◌, ◌≤◌, OnOk, OnErr, map};
 ghost use Rattle.cbl_io.specs.Appended.{Appends, AppendsFront};
 ghost use Rattle.cbl_io.specs.Faults.{HasRisen};
-ghost use Rattle.comet.specs.Line.{form_text, role_text, type_text, joined, plain_line, placed_line, coded_line, fault_line, type_line, line_of};
+ghost use Rattle.comet.specs.Line.{arrowed, coded_line, cycle_end, cycle_line, cycle_start, fault_line, first_of, form_text, joined, line_of, placed_line, plain_line, role_text, type_line, type_text};
 
 use crate::report::{Cause, FileRole};
-use cbl_base::{Place, RunFault};
+use cbl_base::{Place, RunFault, Text};
 use cbl_io::{Failed, Sink, write_all};
 use comet_syntax::FormCause;
 use itoa::Buffer;
@@ -165,21 +165,102 @@ fn write_type<E: Sink>(err: &mut E, place: Place, code: u8) -> Result<(), Failed
     Ok(())
 }
 
+/// Writes a name with an arrow behind it.
+fn write_arrowed<E: Sink>(err: &mut E, name: &Text) -> Result<(), Failed>
+    ensures ok { OnOk result (Appends (E.bytes err.old) (E.bytes err.new) (arrowed name.now)) }
+    ensures err { OnErr result (AppendsFront (E.bytes err.old) (E.bytes err.new) (arrowed name.now)) }
+    ensures failed { OnErr result (HasRisen (E.faults err.old) (E.faults err.new)) }
+    ensures never_falls { E.faults err.old ≤ E.faults err.new }
+{
+    write_pieces(err, &[name.as_slice(), b" -> "])?;
+    Ok(())
+}
+
+/// Writes names, each with an arrow behind it.
+fn write_arrows<E: Sink>(err: &mut E, names: &[Text]) -> Result<(), Failed>
+    ensures ok { OnOk result (Appends (E.bytes err.old) (E.bytes err.new) (joined (map arrowed names.now))) }
+    ensures err { OnErr result (AppendsFront (E.bytes err.old) (E.bytes err.new) (joined (map arrowed names.now))) }
+    ensures failed { OnErr result (HasRisen (E.faults err.old) (E.faults err.new)) }
+    ensures never_falls { E.faults err.old ≤ E.faults err.new }
+{
+    for name in names {
+        write_arrowed(err, name)?;
+    }
+    Ok(())
+}
+
+/// Writes the front of a cycle's line, up to the first name.
+fn write_cycle_start<E: Sink>(err: &mut E, place: Place) -> Result<(), Failed>
+    ensures ok { OnOk result (Appends (E.bytes err.old) (E.bytes err.new) (joined (cycle_start place))) }
+    ensures err { OnErr result (AppendsFront (E.bytes err.old) (E.bytes err.new) (joined (cycle_start place))) }
+    ensures failed { OnErr result (HasRisen (E.faults err.old) (E.faults err.new)) }
+    ensures never_falls { E.faults err.old ≤ E.faults err.new }
+{
+    let mut line_buffer = Buffer::new();
+    let mut col_buffer = Buffer::new();
+    let line = line_buffer.format(place.line);
+    let col = col_buffer.format(place.col);
+    write_pieces(
+        err,
+        &[
+            b"comet: ",
+            line.as_bytes(),
+            b":",
+            col.as_bytes(),
+            b": cyclic definition: ",
+        ],
+    )?;
+    Ok(())
+}
+
+/// The first of some names, and nothing where there is none.
+fn first_name(names: &[Text]) -> &[u8]
+    ensures { result.now ≡ first_of names.now }
+{
+    match names.split_first() {
+        None => b"",
+        Some((first, _)) => first.as_slice(),
+    }
+}
+
+/// Writes the end of a cycle's line: the first name again.
+fn write_cycle_end<E: Sink>(err: &mut E, names: &[Text]) -> Result<(), Failed>
+    ensures ok { OnOk result (Appends (E.bytes err.old) (E.bytes err.new) (joined (cycle_end names.now))) }
+    ensures err { OnErr result (AppendsFront (E.bytes err.old) (E.bytes err.new) (joined (cycle_end names.now))) }
+    ensures failed { OnErr result (HasRisen (E.faults err.old) (E.faults err.new)) }
+{
+    write_pieces(err, &[first_name(names), b"\n"])?;
+    Ok(())
+}
+
+/// Writes a line with the place of a `close` and the names on a cycle, the first again at the end.
+fn write_cycle<E: Sink>(err: &mut E, place: Place, names: &[Text]) -> Result<(), Failed>
+    ensures ok { OnOk result (Appends (E.bytes err.old) (E.bytes err.new) (cycle_line place names.now)) }
+    ensures err { OnErr result (AppendsFront (E.bytes err.old) (E.bytes err.new) (cycle_line place names.now)) }
+    ensures failed { OnErr result (HasRisen (E.faults err.old) (E.faults err.new)) }
+{
+    write_cycle_start(err, place)?;
+    write_arrows(err, names)?;
+    write_cycle_end(err, names)?;
+    Ok(())
+}
+
 /// Writes the line of a cause.
 fn write_line<E: Sink>(cause: &Cause, err: &mut E) -> Result<(), Failed>
     ensures ok { OnOk result (Appends (E.bytes err.old) (E.bytes err.new) (line_of cause.now)) }
     ensures err { OnErr result (AppendsFront (E.bytes err.old) (E.bytes err.new) (line_of cause.now)) }
     ensures failed { OnErr result (HasRisen (E.faults err.old) (E.faults err.new)) }
 {
-    match *cause {
+    match cause {
         Cause::Done => Ok(()),
         Cause::Words => write_plain(err, USAGE),
-        Cause::IllFormed(place, form) => write_placed(err, place, text_of_form(form)),
-        Cause::IllTyped(place, code) => write_type(err, place, code),
-        Cause::Run(place, fault) => write_fault(err, place, fault),
-        Cause::Spent(place) => write_placed(err, place, "fuel spent"),
+        Cause::IllFormed(place, form) => write_placed(err, *place, text_of_form(*form)),
+        Cause::IllTyped(place, code) => write_type(err, *place, *code),
+        Cause::Cyclic(place, names) => write_cycle(err, *place, names.as_slice()),
+        Cause::Run(place, fault) => write_fault(err, *place, *fault),
+        Cause::Spent(place) => write_placed(err, *place, "fuel spent"),
         Cause::NoMemory => write_plain(err, "no memory"),
-        Cause::Read(role) => write_plain(err, text_of_role(role)),
+        Cause::Read(role) => write_plain(err, text_of_role(*role)),
         Cause::Write => write_plain(err, "cannot write"),
     }
 }

@@ -43,6 +43,30 @@ fn run_words(
     Ok(Left { report, sink, err })
 }
 
+/// The place and the fault of a run that ended so.
+fn run_fault(cause: &Cause) -> Option<(Place, RunFault)> {
+    match cause {
+        Cause::Run(place, fault) => Some((*place, *fault)),
+        _ => None,
+    }
+}
+
+/// The place and the cause of a text that is refused by its form.
+fn form_fault(cause: &Cause) -> Option<(Place, FormCause)> {
+    match cause {
+        Cause::IllFormed(place, form) => Some((*place, *form)),
+        _ => None,
+    }
+}
+
+/// The place and the code of a text that is refused by its types.
+fn type_fault(cause: &Cause) -> Option<(Place, u8)> {
+    match cause {
+        Cause::IllTyped(place, code) => Some((*place, *code)),
+        _ => None,
+    }
+}
+
 fn words_of(alloc: Global, row: &[&str]) -> Result<Vec<String>, Fail> {
     let mut words = Vec::new(alloc);
     for word in row {
@@ -66,7 +90,7 @@ fn run_text(alloc: Global, text: &[u8]) -> Result<Left, Fail> {
 fn square_invariant(rt: HostRuntime) -> Result<(), Fail> {
     let left = run_text(rt.alloc(), SQUARE)?;
     assert_eq!(rt; left.report.status, 0);
-    assert_eq!(rt; left.report.cause, Cause::Done);
+    assert!(rt; matches!(left.report.cause, Cause::Done));
     assert!(rt; left.sink.bytes() == b"10\n26\n".as_slice());
     assert!(rt; left.err.bytes().is_empty());
     Ok(())
@@ -88,7 +112,7 @@ fn partial_writes_and_a_failing_sink(rt: HostRuntime) -> Result<(), Fail> {
     let words = vec![in alloc; String::from_str(alloc, "p")?]?;
     let left = run_words(alloc, words.as_slice(), SQUARE, 3, vec![in alloc; 1]?)?;
     assert_eq!(rt; left.report.status, 9);
-    assert_eq!(rt; left.report.cause, Cause::Write);
+    assert!(rt; matches!(left.report.cause, Cause::Write));
     assert!(rt; left.sink.bytes() == b"10\n".as_slice());
     Ok(())
 }
@@ -99,7 +123,7 @@ fn missing_program(rt: HostRuntime) -> Result<(), Fail> {
     let words = vec![in alloc; String::from_str(alloc, "q")?]?;
     let left = run_words(alloc, words.as_slice(), SQUARE, 4096, Vec::new(alloc))?;
     assert_eq!(rt; left.report.status, 8);
-    assert_eq!(rt; left.report.cause, Cause::Read(FileRole::Program));
+    assert!(rt; matches!(left.report.cause, Cause::Read(FileRole::Program)));
     assert!(rt; left.sink.bytes().is_empty());
     Ok(())
 }
@@ -144,8 +168,8 @@ fn overflow_ends_the_run(rt: HostRuntime) -> Result<(), Fail> {
         let left = run_text(rt.alloc(), program.as_bytes())?;
         assert_eq!(rt; left.report.status, 5, "{program}");
         assert_eq!(rt;
-            left.report.cause,
-            Cause::Run(Place { line: 1, col }, RunFault::Overflow)
+            run_fault(&left.report.cause),
+            Some((Place { line: 1, col }, RunFault::Overflow))
         );
         assert!(rt; left.sink.bytes() == printed.as_bytes(), "{program}");
     }
@@ -155,15 +179,15 @@ fn overflow_ends_the_run(rt: HostRuntime) -> Result<(), Fail> {
 #[test]
 fn what_is_not_built_is_refused(rt: HostRuntime) -> Result<(), Fail> {
     for text in [
-        "Solver<LS> m(); Solver<LS> n();",
-        "Solver<LS> m(); var{int} x[1..2](m);",
+        "Solver<LS> m(); ConstraintSystem<LS> S(m);",
+        "Solver<LS> m(); var{int} x(m); m.close(); whenever x@changes() ;",
         "parall(i in 1..2) cout << i;",
     ] {
         let left = run_text(rt.alloc(), text.as_bytes())?;
         assert_eq!(rt; left.report.status, 2, "{text}");
         assert_eq!(rt;
-            left.report.cause,
-            Cause::IllFormed(PLACE, FormCause::NotBuilt)
+            form_fault(&left.report.cause),
+            Some((PLACE, FormCause::NotBuilt))
         );
         assert!(rt; left.sink.bytes().is_empty());
     }
@@ -215,7 +239,7 @@ const ILL_FORMED: [(&[u8], u32, u32, FormCause, &str); 8] = [
         "comet: 1:14: unexpected end of text\n",
     ),
     (
-        b"Solver<LS> m(); Solver<LS> n();",
+        b"Solver<LS> m(); ConstraintSystem<LS> S(m);",
         1,
         1,
         FormCause::NotBuilt,
@@ -236,8 +260,8 @@ fn tells_why_a_text_is_refused(rt: HostRuntime) -> Result<(), Fail> {
         let left = run_text(rt.alloc(), text)?;
         assert_eq!(rt; left.report.status, 2, "{said}");
         assert_eq!(rt;
-            left.report.cause,
-            Cause::IllFormed(Place { line, col }, cause)
+            form_fault(&left.report.cause),
+            Some((Place { line, col }, cause))
         );
         assert!(rt; left.err.bytes() == said.as_bytes(), "{said}");
         assert!(rt; left.sink.bytes().is_empty());
@@ -245,8 +269,8 @@ fn tells_why_a_text_is_refused(rt: HostRuntime) -> Result<(), Fail> {
     let too_long = vec![in rt.alloc(); b' '; 1024 * 1024 + 1]?;
     let left = run_text(rt.alloc(), too_long.as_slice())?;
     assert_eq!(rt;
-        left.report.cause,
-        Cause::IllFormed(PLACE, FormCause::TooLong)
+        form_fault(&left.report.cause),
+        Some((PLACE, FormCause::TooLong))
     );
     assert!(rt; left.err.bytes() == b"comet: 1:1: text too long\n".as_slice());
     Ok(())
@@ -284,11 +308,42 @@ fn tells_which_part_is_ill_typed(rt: HostRuntime) -> Result<(), Fail> {
         let left = run_text(rt.alloc(), text.as_bytes())?;
         assert_eq!(rt; left.report.status, 3, "{said}");
         assert_eq!(rt;
-            left.report.cause,
-            Cause::IllTyped(Place { line, col }, code)
+            type_fault(&left.report.cause),
+            Some((Place { line, col }, code))
         );
         assert!(rt; left.err.bytes() == said.as_bytes(), "{said}");
         assert!(rt; left.sink.bytes().is_empty());
+    }
+    Ok(())
+}
+
+/// Programs whose definitions go round in a cycle, what they print before the `close`, and the lines that name the cycle.
+const CYCLIC: [(&str, &str, &str); 3] = [
+    (
+        "Solver<LS> m();\nvar{int} y(m);\ny <- y+1; m.close();",
+        "",
+        "comet: 3:13: cyclic definition: y -> y\n",
+    ),
+    (
+        "Solver<LS> m();\nvar{int} y(m); var{int} z(m);\ny <- z+1; z <- y;\nm.close();",
+        "",
+        "comet: 4:3: cyclic definition: y -> z -> y\n",
+    ),
+    (
+        "Solver<LS> m(); var{int} a[1..2](m); cout << 7;\na[1] <- a[2]; a[2] <- a[1]; m.close(); cout << 8;",
+        "7",
+        "comet: 2:31: cyclic definition: a[1] -> a[2] -> a[1]\n",
+    ),
+];
+
+#[test]
+fn names_a_cycle_of_definitions(rt: HostRuntime) -> Result<(), Fail> {
+    for (text, printed, said) in CYCLIC {
+        let left = run_text(rt.alloc(), text.as_bytes())?;
+        assert_eq!(rt; left.report.status, 4, "{said}");
+        assert!(rt; matches!(left.report.cause, Cause::Cyclic(..)), "{said}");
+        assert!(rt; left.sink.bytes() == printed.as_bytes(), "{said}");
+        assert!(rt; left.err.bytes() == said.as_bytes(), "{said}");
     }
     Ok(())
 }
@@ -338,7 +393,7 @@ fn words_out_of_form(rt: HostRuntime) -> Result<(), Fail> {
         assert!(rt; !words_form(words.as_slice()));
         let left = run_row(rt.alloc(), row, SQUARE)?;
         assert_eq!(rt; left.report.status, 1);
-        assert_eq!(rt; left.report.cause, Cause::Words);
+        assert!(rt; matches!(left.report.cause, Cause::Words));
         assert!(rt; left.sink.bytes().is_empty());
     }
     Ok(())

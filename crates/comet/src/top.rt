@@ -82,8 +82,9 @@ fn run_to<O: Sink>(
         bytes: Vec::new(alloc),
     };
     let ended = run(alloc, program, State::new(alloc, fuel, text), &mut printed);
+    let cause = Cause::from(ended.end);
     match write_all(out, printed.bytes.as_slice()) {
-        Ok(()) => Report::of(Cause::from(ended.end)),
+        Ok(()) => Report::of(cause),
         Err(_) => Report::of(Cause::Write),
     }
 }

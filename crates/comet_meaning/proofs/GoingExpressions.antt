@@ -1,9 +1,7 @@
--- Expressions and terms go onward where the parts in them do.
-use Rattle.std.proofs.Common.{ℕ, ℤ, pos, Bool, not, List, [], ◌∷◌, ◌++◌, nat_lt, nat_le, length, Option, Some, None}
-use Rattle.cbl_base.specs.declared.ids.VarId.{VarId}
+-- Expressions go onward where the parts in them do.
+use Rattle.std.proofs.Common.{ℕ, ℤ, pos, Bool, List, [], ◌∷◌, ◌++◌, nat_le, length, Option, Some, None}
 use Rattle.cbl_base.specs.declared.place.Place.{Place}
-use Rattle.cbl_base.specs.declared.faults.Limit.TheVariants.{Variables}
-use Rattle.cbl_base.specs.declared.faults.RunFault.TheVariants.{AlreadyClosed, BadData, TooMany, WrongSolver}
+use Rattle.cbl_base.specs.declared.faults.RunFault.TheVariants.{BadData}
 use Rattle.comet_syntax.specs.declared.tree.expressions.Aggregate.{Aggregate}
 use Rattle.comet_syntax.specs.declared.tree.expressions.Aggregate.TheVariants as aggregates
 use Rattle.checked_tree.specs.declared.kind.Kind.{Kind}
@@ -12,31 +10,25 @@ use Rattle.checked_tree.specs.declared.expressions.Builtin.{Builtin}
 use Rattle.checked_tree.specs.declared.expressions.Builtin.TheVariants as builtins
 use Rattle.checked_tree.specs.declared.expressions.Method.{Method}
 use Rattle.checked_tree.specs.declared.expressions.Method.TheVariants as methods
-use Rattle.checked_tree.specs.declared.statements.Way.{Way}
-use Rattle.checked_tree.specs.declared.statements.Way.TheVariants as ways
 use Rattle.checked_tree.specs.Shape as shapes
 use Rattle.checked_tree.specs.Shape.{Shape, Seen, whole}
-use Rattle.checked_tree.specs.Actions.{Started, Varying}
 use Rattle.checked_tree.specs.Tasks.{Coded}
-use Rattle.comet_meaning.specs.Values.{Value, Row, Variable, Bounds, bounds_of, size_of}
-use Rattle.comet_meaning.specs.Terms.{Term, joined}
-use Rattle.comet_meaning.specs.Solvers.{SolverState}
+use Rattle.comet_meaning.specs.Values.{Value, Row, bounds_of, size_of}
 use Rattle.comet_meaning.specs.State.{left}
 use Rattle.comet_meaning.specs.Outcome.{always}
 use Rattle.comet_meaning.specs.Levels.{Code, Level}
-use Rattle.comet_meaning.specs.Limits.{most_variables, most_data}
-use Rattle.comet_meaning.specs.Parts.{items, solver_at}
+use Rattle.comet_meaning.specs.Limits.{most_data}
+use Rattle.comet_meaning.specs.Parts.{items}
 use Rattle.comet_meaning.specs.Builtins.{builtin_value, builtin_form}
 use Rattle.comet_meaning.specs.Aggregates.{Element, with_element, element_form, aggregate_value, aggregate_form}
 use Rattle.comet_meaning.specs.Data.{spelled, behind_blanks, word_of, behind_word, unread, first_word, fitting, word_value, went_on, next_number}
-use Rattle.comet_meaning.specs.Models.{Beginning, begins_in, with_variable, put_solver, put_evaluated, close, assign, domain_form, started_form, beginning_form, new_variable, variable_form}
-use Rattle.comet_meaning.specs.Methods.{fitting_number, put_set, method_value, method_form}
+use Rattle.comet_meaning.specs.Methods.{fitting_number, put_set, method_value, object_value, method_form}
 use Rattle.comet_meaning.specs.Calls.{argument_form, arguments_form, own_array, own_arrays, handed, body_form, called, call_form}
 use Rattle.comet_meaning.specs.Expressions.{set_form, value_of_form, value_of_expression}
-use Rattle.comet_meaning.specs.TermForms.{joined_form, moving_term, term_of_expression}
 use Rattle.comet_meaning.specs.Onward.{GoesOn}
-use Rattle.comet_meaning.proofs.GoingOn.{onward_refl, goes_then, goes_give, goes_fault, goes_if, goes_give_or, goes_give_or_met, goes_unless, goes_charge, goes_at, goes_look, goes_put, goes_in_scope, goes_in_frame, goes_cells, goes_new_array}
-use Rattle.comet_meaning.proofs.GoingParts.{LevelGoesOn, goes_value, goes_number, goes_bounds, goes_condition, goes_values, goes_unary, goes_chain, goes_compare, goes_range, goes_conditional, goes_list, goes_index, goes_cell, goes_count, goes_each_tuple}
+use Rattle.comet_meaning.proofs.GoingOn.{onward_refl, goes_then, goes_give, goes_fault, goes_if, goes_give_or, goes_unless, goes_charge, goes_at, goes_look, goes_put, goes_in_scope, goes_in_frame, goes_count_cells, goes_new_array}
+use Rattle.comet_meaning.proofs.GoingModels.{goes_close, goes_domain_of}
+use Rattle.comet_meaning.proofs.GoingParts.{LevelGoesOn, goes_value, goes_condition, goes_values, goes_unary, goes_chain, goes_compare, goes_range, goes_conditional, goes_list, goes_index, goes_cell, goes_count, goes_each_tuple}
 
 -- functions of the language
 
@@ -99,23 +91,6 @@ unfolding next_number
 goes_next_number at input =
     goes_at (λ s. goes_then (goes_unless (nat_le (length s.data_text) most_data) at BadData) (λ _. goes_first_word at input (behind_blanks (unread s input))))
 
--- solvers and variables
-
-pub goes_put_solver : (k : ℕ) (m : SolverState) → GoesOn (put_solver k m)
-goes_put_solver k m = record { from = λ s. onward_refl (left s) }
-
-pub goes_put_evaluated : (k : ℕ) (m : SolverState) → GoesOn (put_evaluated k m)
-unfolding put_evaluated
-goes_put_evaluated k m = goes_if _ (goes_then (goes_give_or_met _) (λ values. goes_put_solver k m)) (goes_put_solver k m)
-
-pub goes_close : (at : Place) (k : ℕ) → GoesOn (close at k)
-unfolding close
-goes_close at k = goes_at (λ s. goes_then (goes_unless _ at _) (λ _. goes_then (goes_put_evaluated k _) (λ _. goes_give)))
-
-pub goes_assign : (at : Place) (x : VarId) (z : ℤ) → GoesOn (assign at x z)
-unfolding assign
-goes_assign at x z = goes_at (λ s. goes_then (goes_unless _ at _) (λ _. goes_put_evaluated _ _))
-
 -- methods
 
 pub goes_fitting_number : (at : Place) (z : ℤ) → GoesOn (fitting_number at z)
@@ -135,15 +110,21 @@ goes_method_value at methods.Contains o v (x ∷ []) = goes_give
 goes_method_value at methods.SetSize o v vs = goes_give
 goes_method_value at methods.Insert o v (x ∷ []) = goes_put_set o _
 goes_method_value at methods.Delete o v (x ∷ []) = goes_put_set o _
-goes_method_value at methods.ArraySize o v vs = goes_then (goes_cells v) (λ a. goes_give)
+goes_method_value at methods.ArraySize o v vs = goes_then (goes_count_cells v) (λ n. goes_give)
 goes_method_value at methods.ReadInt o v vs = goes_next_number at v
 goes_method_value at methods.Close o v vs = goes_close at _
+goes_method_value at methods.Domain o v vs = goes_domain_of at v
 goes_method_value at m o v vs = goes_give
+
+pub goes_object_value : (l : Level) → LevelGoesOn l → (m : Method) (o : Shape) → GoesOn (object_value l m o)
+unfolding object_value
+goes_object_value l h methods.Domain o = h.expr o
+goes_object_value l h m o = goes_value l h o
 
 pub goes_method : (l : Level) → LevelGoesOn l → (at : Place) (m : Method) (o : Shape) (es : List Shape) → GoesOn (method_form l at m o es)
 unfolding method_form
 goes_method l h at m o es =
-    goes_then (goes_value l h o) (λ v. goes_then (goes_values l h es []) (λ vs. goes_then (goes_charge 1 at) (λ _. goes_method_value at m o v vs)))
+    goes_then (goes_object_value l h m o) (λ v. goes_then (goes_values l h es []) (λ vs. goes_then (goes_charge 1 at) (λ _. goes_method_value at m o v vs)))
 
 -- calls
 
@@ -213,55 +194,3 @@ pub goes_expression : (c : Code) (l : Level) → LevelGoesOn l → (e : Shape) �
 unfolding value_of_expression
 goes_expression c l h (shapes.typed start at kind moving form) = goes_form c l h at kind form
 goes_expression c l h e = goes_give
-
--- terms
-
-pub goes_joined : (l : Level) → LevelGoesOn l → (links : List Shape) (t : Term) → GoesOn (joined_form l links t)
-unfolding joined_form
-goes_joined l h [] t = goes_give
-goes_joined l h (shapes.link o at e ∷ links) t = goes_then (h.term e) (λ u. goes_joined l h links (joined o at t u))
-goes_joined l h (x ∷ links) t = goes_joined l h links t
-
-pub goes_moving : (l : Level) → LevelGoesOn l → (form : Shape) → GoesOn (moving_term l form)
-unfolding moving_term
-goes_moving l h (shapes.name slot) = goes_then (goes_look slot) (λ v. goes_give)
-goes_moving l h (shapes.parentheses e) = h.term e
-goes_moving l h (shapes.chain first links) = goes_then (h.term first) (λ t. goes_joined l h (items links) t)
-goes_moving l h form = goes_give
-
-pub goes_term : (c : Code) (l : Level) → LevelGoesOn l → (e : Shape) → GoesOn (term_of_expression c l e)
-unfolding term_of_expression
-goes_term c l h (shapes.typed start at kind moving form) =
-    goes_if moving (goes_moving l h form) (goes_then (goes_form c l h at kind form) (λ v. goes_give))
-goes_term c l h e = goes_give
-
--- variables that are declared
-
-pub goes_domain : (l : Level) → LevelGoesOn l → (d : Option Seen) → GoesOn (domain_form l d)
-unfolding domain_form
-goes_domain l h None = goes_give
-goes_domain l h (Some e) = goes_bounds l h (whole e)
-
-pub goes_started : (l : Level) → LevelGoesOn l → (w : Way) (e : Shape) → GoesOn (started_form l w e)
-unfolding started_form
-goes_started l h ways.Define e = goes_then (h.term e) (λ t. goes_give)
-goes_started l h w e = goes_then (goes_number l h e) (λ z. goes_give)
-
-pub goes_beginning : (l : Level) → LevelGoesOn l → (x : Option Started) → GoesOn (beginning_form l x)
-unfolding beginning_form
-goes_beginning l h None = goes_give
-goes_beginning l h (Some x) = goes_started l h x.way (whole x.value)
-
-pub goes_new_variable : (at : Place) (k : ℕ) (d : Bounds) (b : Beginning) → GoesOn (new_variable at k d b)
-unfolding new_variable
-goes_new_variable at k d b =
-    goes_at (λ s. goes_then (goes_unless (not (solver_at s k).closed) at AlreadyClosed) (λ _.
-    goes_then (goes_unless (nat_lt (length (solver_at s k).variables) most_variables) at (TooMany Variables)) (λ _.
-    goes_then (goes_unless (begins_in k b) at WrongSolver) (λ _.
-    goes_then (goes_put_solver k (with_variable (solver_at s k) d b)) (λ _.
-    goes_give {x = Variable (record { solver = k; index = length (solver_at s k).variables })})))))
-
-pub goes_variable : (l : Level) → LevelGoesOn l → (at : Place) (v : Varying) → GoesOn (variable_form l at v)
-unfolding variable_form
-goes_variable l h at v =
-    goes_then (goes_domain l h v.domain) (λ d. goes_then (goes_beginning l h v.start) (λ b. goes_then (goes_look v.solver) (λ m. goes_then (goes_new_variable at _ d b) (λ x. goes_put v.slot x))))

@@ -5,10 +5,10 @@ use Rattle.cbl_base.specs.declared.faults.RunFault.{RunFault}
 use Rattle.checked_tree.specs.declared.expressions.Slot.{Slot}
 use Rattle.checked_tree.specs.declared.expressions.Slot.TheVariants.{Global, Local}
 use Rattle.comet_meaning.specs.Values.{Value, Range, Set}
-use Rattle.comet_meaning.specs.Terms.{Failure}
-use Rattle.comet_meaning.specs.State.{State, Cells, Left, left}
+use Rattle.model_values.specs.declared.failure.Failure.{Failure}
+use Rattle.comet_meaning.specs.State.{State, Cells, VariableCells, Left, left}
 use Rattle.comet_meaning.specs.Outcome.{Outcome, Went, Halted, SpentAt, Act, then_do, ◌>>=◌, give, fault, give_or, give_or_met, unless, charge, each_of, each_from, each_in}
-use Rattle.comet_meaning.specs.Cells.{look, put, back_in, in_scope, in_frame, cells, new_array, found_at, put_number}
+use Rattle.comet_meaning.specs.Cells.{look, put, back_in, in_scope, in_frame, cells, new_array, variables, new_variables, extent, count_cells, cell, found_at, put_number}
 use Rattle.comet_meaning.specs.Onward.{IsOnward, IsFront, left_by, GoesOn}
 
 pub onward_refl : (a : Left) → IsOnward a a
@@ -105,6 +105,26 @@ goes_cells v = record { from = λ s. onward_refl (left s) }
 pub goes_new_array : (a : Cells) → GoesOn (new_array a)
 unfolding new_array
 goes_new_array a = record { from = λ s. onward_refl (left s) }
+
+pub goes_variables : (v : Value) → GoesOn (variables v)
+unfolding variables
+goes_variables v = record { from = λ s. onward_refl (left s) }
+
+pub goes_new_variables : (a : VariableCells) → GoesOn (new_variables a)
+unfolding new_variables
+goes_new_variables a = record { from = λ s. onward_refl (left s) }
+
+pub goes_extent : (v : Value) → GoesOn (extent v)
+unfolding extent
+goes_extent v = record { from = λ s. onward_refl (left s) }
+
+pub goes_count_cells : (v : Value) → GoesOn (count_cells v)
+unfolding count_cells
+goes_count_cells v = record { from = λ s. onward_refl (left s) }
+
+pub goes_cell_of : (v : Value) (k : ℕ) → GoesOn (cell v k)
+unfolding cell
+goes_cell_of v k = record { from = λ s. onward_refl (left s) }
 
 pub goes_found_at : (at : Place) (k : Option ℕ) → GoesOn (found_at at k)
 goes_found_at at None = goes_fault

@@ -10,16 +10,19 @@ use Rattle.checked_tree.specs.declared.kind.Kind.{Kind}
 use Rattle.checked_tree.specs.Shape as shapes
 use Rattle.checked_tree.specs.Shape.{Shape}
 use Rattle.checked_tree.specs.Tasks.{Work}
-use Rattle.comet_meaning.specs.Values.{Value}
-use Rattle.comet_meaning.specs.Solvers.{SolverState}
+use Rattle.cbl_base.specs.declared.ids.VarId.{VarId}
+use Rattle.term_model.specs.declared.term.Term.{Term}
+use Rattle.comet_meaning.specs.Values.{Value, Variable, Variables}
+use Rattle.comet_meaning.specs.Solvers.{SolverState, has_variable}
 use Rattle.comet_meaning.specs.Outcome.{Act}
 use Rattle.comet_meaning.specs.Levels.{Level}
-use Rattle.comet_meaning.specs.Parts.{variable_value, read, value, number, truth, bounds, condition, values, is_defined}
+use Rattle.comet_meaning.specs.Parts.{needs_close, variable_value, read, value, number, truth, bounds, condition, values, term, terms, each_term}
 use Rattle.comet_meaning.specs.Operators.{unary_result, unary_form, compare_form, decides, linked, link_form, links_form, chain_form, range_form, conditional_form}
-use Rattle.comet_meaning.specs.Arrays.{list_form, index_form, cell_form, taken_whole, count_form}
+use Rattle.comet_meaning.specs.Arrays.{list_form, index_form, cell_form, count_form}
+use Rattle.comet_meaning.specs.Taking.{read_each, read_array, taken_whole}
 use Rattle.comet_meaning.specs.Generators.{Bound, with_bound, bind, generated, each_tuple}
 use Rattle.comet_meaning.specs.Onward.{GoesOn}
-use Rattle.comet_meaning.proofs.GoingOn.{goes_then, goes_give, goes_fault, goes_if, goes_give_or, goes_give_or_met, goes_charge, goes_at, goes_each_in, goes_put, goes_cells, goes_found_at}
+use Rattle.comet_meaning.proofs.GoingOn.{goes_then, goes_give, goes_fault, goes_if, goes_give_or, goes_charge, goes_at, goes_each_in, goes_put, goes_cells, goes_variables, goes_extent, goes_count_cells, goes_cell_of, goes_found_at}
 
 -- the parts that are one level further in go onward
 pub record LevelGoesOn (l : Level) : Type 0 where
@@ -32,7 +35,7 @@ pub record LevelGoesOn (l : Level) : Type 0 where
 
 pub goes_variable_value : (at : Place) (x : ℕ) (m : SolverState) → GoesOn (variable_value at x m)
 unfolding variable_value
-goes_variable_value at x m = goes_if m.closed (goes_give_or_met _) (goes_if (is_defined m x) goes_fault goes_give)
+goes_variable_value at x m = goes_if (has_variable m x) (goes_if (needs_close m x) goes_fault goes_give) goes_fault
 
 pub goes_read : (at : Place) (v : Value) → GoesOn (read at v)
 unfolding read
@@ -64,6 +67,21 @@ pub goes_values : (l : Level) → LevelGoesOn l → (es : List Shape) (vs : List
 unfolding values
 goes_values l h [] vs = goes_give
 goes_values l h (e ∷ es) vs = goes_then (goes_value l h e) (λ v. goes_values l h es (vs ++ v ∷ []))
+
+-- parts of terms
+
+pub goes_one_term : (l : Level) → LevelGoesOn l → (e : Shape) → GoesOn (term l e)
+unfolding term
+goes_one_term l h e = goes_then (h.term e) (λ t. goes_give)
+
+pub goes_terms : (l : Level) → LevelGoesOn l → (e : Shape) → GoesOn (terms l e)
+unfolding terms
+goes_terms l h e = goes_then (h.term e) (λ t. goes_give)
+
+pub goes_each_term : (l : Level) → LevelGoesOn l → (es : List Shape) (ts : List Term) → GoesOn (each_term l es ts)
+unfolding each_term
+goes_each_term l h [] ts = goes_give
+goes_each_term l h (e ∷ es) ts = goes_then (goes_one_term l h e) (λ t. goes_each_term l h es (ts ++ t ∷ []))
 
 -- operators
 
@@ -116,16 +134,26 @@ goes_list l h es = goes_then (goes_values l h es []) (λ vs. goes_give)
 pub goes_index : (l : Level) → LevelGoesOn l → (at : Place) (a i : Shape) → GoesOn (index_form l at a i)
 unfolding index_form
 goes_index l h at a i =
-    goes_then (goes_value l h a) (λ v. goes_then (goes_number l h i) (λ z. goes_then (goes_cells v) (λ c. goes_then (goes_found_at at _) (λ k. goes_give))))
+    goes_then (goes_value l h a) (λ v. goes_then (goes_number l h i) (λ z. goes_then (goes_extent v) (λ b. goes_then (goes_found_at at _) (λ k. goes_cell_of v k))))
 
 pub goes_cell : (l : Level) → LevelGoesOn l → (at : Place) (a i j : Shape) → GoesOn (cell_form l at a i j)
 unfolding cell_form
 goes_cell l h at a i j =
-    goes_then (goes_value l h a) (λ v. goes_then (goes_number l h i) (λ y. goes_then (goes_number l h j) (λ z. goes_then (goes_cells v) (λ c. goes_then (goes_found_at at _) (λ k. goes_give)))))
+    goes_then (goes_value l h a) (λ v. goes_then (goes_number l h i) (λ y. goes_then (goes_number l h j) (λ z. goes_then (goes_extent v) (λ b. goes_then (goes_found_at at _) (λ k. goes_cell_of v k)))))
+
+pub goes_read_each : (at : Place) (xs : List VarId) (vs : List Value) → GoesOn (read_each at xs vs)
+unfolding read_each
+goes_read_each at [] vs = goes_give
+goes_read_each at (x ∷ xs) vs = goes_then (goes_read at (Variable x)) (λ v. goes_read_each at xs (vs ++ v ∷ []))
+
+pub goes_read_array : (at : Place) (v : Value) → GoesOn (read_array at v)
+unfolding read_array
+goes_read_array at (Variables n) = goes_then (goes_variables (Variables n)) (λ c. goes_then (goes_read_each at c.variables []) (λ vs. goes_give))
+goes_read_array at v = goes_cells v
 
 pub goes_taken_whole : (at : Place) (v : Value) → GoesOn (taken_whole at v)
 unfolding taken_whole
-goes_taken_whole at v = goes_then (goes_cells v) (λ c. goes_then (goes_charge _ at) (λ _. goes_give))
+goes_taken_whole at v = goes_then (goes_count_cells v) (λ n. goes_then (goes_charge n at) (λ _. goes_then (goes_read_array at v) (λ c. goes_give)))
 
 pub goes_count : (l : Level) → LevelGoesOn l → (at : Place) (a e : Shape) → GoesOn (count_form l at a e)
 unfolding count_form

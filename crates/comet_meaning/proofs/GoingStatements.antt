@@ -1,52 +1,60 @@
 -- Statements and whole programs go onward.
-use Rattle.std.proofs.Common.{◌≤◌, refl, ℕ, zero, suc, ℤ, List, [], ◌∷◌, ◌++◌, Option, Some, None, nat_eq, arith}
+use Rattle.std.proofs.Common.{◌≤◌, refl, ℕ, zero, suc, ℤ, List, [], ◌∷◌, Option, Some, None, arith}
 use Rattle.cbl_base.specs.declared.place.Place.{Place}
+use Rattle.term_model.specs.declared.term.Term.{Term}
 use Rattle.comet_syntax.specs.declared.tree.statements.Step.{Step}
 use Rattle.comet_syntax.specs.declared.tree.statements.WriteOperator.{WriteOperator}
 use Rattle.comet_syntax.specs.declared.tree.statements.WriteOperator.TheVariants as writes
 use Rattle.checked_tree.specs.declared.kind.Kind.{Kind}
 use Rattle.checked_tree.specs.declared.kind.Kind.TheVariants as kinds
 use Rattle.checked_tree.specs.declared.expressions.Slot.{Slot}
-use Rattle.checked_tree.specs.declared.statements.Way.{Way}
-use Rattle.checked_tree.specs.declared.statements.Way.TheVariants as ways
 use Rattle.checked_tree.specs.Shape as shapes
 use Rattle.checked_tree.specs.Shape.{Shape, Seen, whole, optional}
 use Rattle.checked_tree.specs.Actions as deeds
-use Rattle.checked_tree.specs.Actions.{Deed, Shown, Started, Sized}
+use Rattle.checked_tree.specs.Actions.{Deed, Shown}
 use Rattle.checked_tree.specs.Tasks as works
 use Rattle.checked_tree.specs.Tasks.{Work, Counted, Whole}
-use Rattle.comet_meaning.specs.Values.{Value, Array, Row, number_of}
+use Rattle.comet_meaning.specs.Values.{Value, Array, Row, Variables, number_of}
 use Rattle.comet_meaning.specs.State.{State, left}
 use Rattle.comet_meaning.specs.Outcome.{Outcome, Went, Halted, Act}
 use Rattle.comet_meaning.specs.Levels.{Code, Level, Flow, Next, Returned, Target, Nowhere, Name, Element, Moved}
-use Rattle.comet_meaning.specs.Writes.{name_target, index_target, cell_target, target_of_form, target_of_expression, old_value, write, assign_form, changed, add_form, write_form, stepped, step_form}
-use Rattle.comet_meaning.specs.Declarations.{Dimension, copied_form, scalar_form, dimensions_form, put_named, cell_count, each_cell, every_cell, start_number, next_cell, listed_form, started_cells, numbers_form, array_form, make_input, object_form}
-use Rattle.comet_meaning.specs.Models.{make_solver}
-use Rattle.comet_meaning.specs.Printing.{array_text, value_text, print, shown_form, print_form}
+use Rattle.comet_meaning.specs.Writes.{element_of, name_target, index_target, cell_target, target_of_form, target_of_expression, old_value, write, assign_form, changed, add_form, defined_at, define_form, swapped_at, swap_form, write_form, stepped, step_form}
+use Rattle.comet_meaning.specs.Printing.{array_text, variables_text, value_text, print, shown_form, print_form}
 use Rattle.comet_meaning.specs.Loops.{tasks, then_next, tasks_form, if_form, if_else_form, end_or, turns, repeated, behind_body, turn_form, while_form, counter_form, for_form, is_next, visited, for_all_form}
 use Rattle.comet_meaning.specs.Statements.{alone_form, deed_form, return_form, action_form, step_of, meaning_of_form, meaning_of_statement}
 use Rattle.comet_meaning.specs.Program.{level, meaning_of_program, meant, run}
 use Rattle.comet_meaning.specs.Onward.{IsOnward, IsFront, left_by, GoesOn}
-use Rattle.comet_meaning.proofs.GoingOn.{onward_refl, goes_then, goes_give, goes_fault, goes_if, goes_give_or, goes_unless, goes_charge, goes_at, goes_look, goes_put, goes_cells, goes_new_array, goes_found_at, goes_put_number, goes_each_in}
-use Rattle.comet_meaning.proofs.GoingParts.{LevelGoesOn, goes_value, goes_number, goes_truth, goes_bounds, goes_condition, goes_each_tuple}
-use Rattle.comet_meaning.proofs.GoingExpressions.{goes_assign, goes_variable, goes_expression, goes_term}
+use Rattle.comet_meaning.proofs.GoingOn.{onward_refl, goes_then, goes_give, goes_fault, goes_if, goes_give_or, goes_charge, goes_at, goes_look, goes_put, goes_cells, goes_variables, goes_extent, goes_cell_of, goes_found_at, goes_put_number}
+use Rattle.comet_meaning.proofs.GoingParts.{LevelGoesOn, goes_value, goes_number, goes_truth, goes_condition, goes_one_term, goes_each_tuple, goes_read_each}
+use Rattle.comet_meaning.proofs.GoingModels.{goes_assign, goes_swap, goes_define}
+use Rattle.comet_meaning.proofs.GoingExpressions.{goes_expression}
+use Rattle.comet_meaning.proofs.GoingTerms.{goes_term}
+use Rattle.comet_meaning.proofs.GoingDeclarations.{goes_scalar, goes_array, goes_object}
+use Rattle.comet_meaning.proofs.GoingVariables.{goes_variable, goes_together}
 
 -- writes
 
 pub goes_name_target : (k : Kind) (slot : Slot) → GoesOn (name_target k slot)
 unfolding name_target
 goes_name_target kinds.Variable slot = goes_then (goes_look slot) (λ v. goes_give)
+goes_name_target kinds.SetVariable slot = goes_then (goes_look slot) (λ v. goes_give)
 goes_name_target k slot = goes_give
+
+pub goes_element : (v : Value) (k : ℕ) → GoesOn (element_of v k)
+unfolding element_of
+goes_element (Array n) k = goes_give
+goes_element (Variables n) k = goes_then (goes_cell_of (Variables n) k) (λ v. goes_give)
+goes_element v k = goes_give
 
 pub goes_index_target : (l : Level) → LevelGoesOn l → (at : Place) (a i : Shape) → GoesOn (index_target l at a i)
 unfolding index_target
 goes_index_target l h at a i =
-    goes_then (goes_value l h a) (λ v. goes_then (goes_number l h i) (λ z. goes_then (goes_cells v) (λ c. goes_then (goes_found_at at _) (λ k. goes_give))))
+    goes_then (goes_value l h a) (λ v. goes_then (goes_number l h i) (λ z. goes_then (goes_extent v) (λ b. goes_then (goes_found_at at _) (λ k. goes_element v k))))
 
 pub goes_cell_target : (l : Level) → LevelGoesOn l → (at : Place) (a i j : Shape) → GoesOn (cell_target l at a i j)
 unfolding cell_target
 goes_cell_target l h at a i j =
-    goes_then (goes_value l h a) (λ v. goes_then (goes_number l h i) (λ y. goes_then (goes_number l h j) (λ z. goes_then (goes_cells v) (λ c. goes_then (goes_found_at at _) (λ k. goes_give)))))
+    goes_then (goes_value l h a) (λ v. goes_then (goes_number l h i) (λ y. goes_then (goes_number l h j) (λ z. goes_then (goes_extent v) (λ b. goes_then (goes_found_at at _) (λ k. goes_element v k)))))
 
 pub goes_target_of_form : (l : Level) → LevelGoesOn l → (at : Place) (k : Kind) (form : Shape) → GoesOn (target_of_form l at k form)
 unfolding target_of_form
@@ -86,92 +94,33 @@ unfolding add_form
 goes_adding l h at f t e =
     goes_then (h.target (whole t)) (λ x. goes_then (goes_old_value x) (λ old. goes_then (goes_number l h (whole e)) (λ z. goes_changed at x (f (number_of old) z))))
 
+pub goes_defined_at : (at : Place) (t : Target) (u : Term) → GoesOn (defined_at at t u)
+goes_defined_at at (Moved x) u = goes_define at x u
+goes_defined_at at t u = goes_give
+
+pub goes_definition : (l : Level) → LevelGoesOn l → (at : Place) (t e : Seen) → GoesOn (define_form l at t e)
+unfolding define_form
+goes_definition l h at t e = goes_then (h.target (whole t)) (λ x. goes_then (goes_one_term l h (whole e)) (λ u. goes_defined_at at x u))
+
+pub goes_swapped_at : (at : Place) (t u : Target) → GoesOn (swapped_at at t u)
+goes_swapped_at at (Moved x) (Moved y) = goes_swap at x y
+goes_swapped_at at t u = goes_give
+
+pub goes_swapping : (l : Level) → LevelGoesOn l → (at : Place) (a b : Seen) → GoesOn (swap_form l at a b)
+unfolding swap_form
+goes_swapping l h at a b = goes_then (h.target (whole a)) (λ x. goes_then (h.target (whole b)) (λ y. goes_swapped_at at x y))
+
 pub goes_writing : (l : Level) → LevelGoesOn l → (at : Place) (o : WriteOperator) (t e : Seen) → GoesOn (write_form l at o t e)
 unfolding write_form
 goes_writing l h at writes.Set t e = goes_assigning l h at t e
 goes_writing l h at writes.Assign t e = goes_assigning l h at t e
 goes_writing l h at writes.Add t e = goes_adding l h at _ t e
 goes_writing l h at writes.Subtract t e = goes_adding l h at _ t e
-goes_writing l h at writes.Define t e = goes_give
+goes_writing l h at writes.Define t e = goes_definition l h at t e
 
 pub goes_stepping : (l : Level) → LevelGoesOn l → (at : Place) (x : Step) (t : Seen) → GoesOn (step_form l at x t)
 unfolding step_form
 goes_stepping l h at x t = goes_then (h.target (whole t)) (λ y. goes_then (goes_old_value y) (λ old. goes_changed at y (stepped x (number_of old))))
-
--- declarations
-
-pub goes_copied : (l : Level) → LevelGoesOn l → (at : Place) (slot : Slot) (e : Seen) → GoesOn (copied_form l at slot e)
-unfolding copied_form
-goes_copied l h at slot e =
-    goes_then (goes_value l h (whole e)) (λ v. goes_then (goes_cells v) (λ c. goes_then (goes_charge _ at) (λ _. goes_then (goes_new_array _) (λ a. goes_put slot a))))
-
-pub goes_scalar : (l : Level) → LevelGoesOn l → (at : Place) (slot : Slot) (k : Kind) (e : Option Seen) → GoesOn (scalar_form l at slot k e)
-unfolding scalar_form
-goes_scalar l h at slot k None = goes_put slot _
-goes_scalar l h at slot kinds.Array (Some e) = goes_copied l h at slot e
-goes_scalar l h at slot k (Some e) = goes_then (goes_value l h (whole e)) (λ v. goes_put slot _)
-
-pub goes_dimensions : (l : Level) → LevelGoesOn l → (ds : List Sized) (known : List Dimension) → GoesOn (dimensions_form l ds known)
-unfolding dimensions_form
-goes_dimensions l h [] known = goes_give
-goes_dimensions l h (d ∷ ds) known =
-    goes_then (goes_bounds l h (whole d.range)) (λ b. goes_dimensions l h ds (known ++ record { slot = d.slot; bounds = b } ∷ []))
-
-pub goes_put_named : (slot : Option Slot) (z : ℤ) → GoesOn (put_named slot z)
-goes_put_named None z = goes_give
-goes_put_named (Some slot) z = goes_put slot _
-
-pub goes_each_cell : (visit : List ℤ → Act (List ℤ)) (ds : List Dimension) (xs : List ℤ) → ((ys : List ℤ) → GoesOn (visit ys)) → GoesOn (each_cell visit ds xs)
-goes_each_cell visit [] xs k = k xs
-goes_each_cell visit (d ∷ ds) xs k =
-    goes_each_in _ _ _ xs (λ z ys. goes_then (goes_put_named d.slot z) (λ _. goes_each_cell visit ds ys k))
-
-pub goes_every_cell : (visit : List ℤ → Act (List ℤ)) (ds : List Dimension) → ((ys : List ℤ) → GoesOn (visit ys)) → GoesOn (every_cell visit ds)
-unfolding every_cell
-goes_every_cell visit ds k = goes_if (nat_eq (cell_count ds) 0) goes_give (goes_each_cell visit ds [] k)
-
-pub goes_start_number : (l : Level) → LevelGoesOn l → (e : Option Seen) → GoesOn (start_number l e)
-unfolding start_number
-goes_start_number l h None = goes_give
-goes_start_number l h (Some e) = goes_number l h (whole e)
-
-pub goes_next_cell : (l : Level) → LevelGoesOn l → (at : Place) (e : Option Seen) (xs : List ℤ) → GoesOn (next_cell l at e xs)
-unfolding next_cell
-goes_next_cell l h at e xs = goes_then (goes_charge 1 at) (λ _. goes_then (goes_start_number l h e) (λ z. goes_give))
-
-pub goes_listed : (l : Level) → LevelGoesOn l → (at : Place) (count : ℕ) (e : Seen) → GoesOn (listed_form l at count e)
-unfolding listed_form
-goes_listed l h at count e =
-    goes_then (goes_value l h (whole e)) (λ v. goes_then (goes_cells v) (λ c. goes_then (goes_unless _ at _) (λ _. goes_then (goes_charge count at) (λ _. goes_give))))
-
-pub goes_started_cells : (l : Level) → LevelGoesOn l → (at : Place) (ds : List Dimension) (w : Way) (e : Seen) → GoesOn (started_cells l at ds w e)
-unfolding started_cells
-goes_started_cells l h at ds ways.List e = goes_listed l h at _ e
-goes_started_cells l h at ds w e = goes_every_cell _ ds (λ xs. goes_next_cell l h at (Some e) xs)
-
-pub goes_numbers : (l : Level) → LevelGoesOn l → (at : Place) (ds : List Dimension) (x : Option Started) → GoesOn (numbers_form l at ds x)
-unfolding numbers_form
-goes_numbers l h at ds None = goes_every_cell _ ds (λ xs. goes_next_cell l h at None xs)
-goes_numbers l h at ds (Some x) = goes_started_cells l h at ds x.way x.value
-
-pub goes_array : (l : Level) → LevelGoesOn l → (at : Place) (slot : Slot) (sizes : List Sized) (x : Option Started) → GoesOn (array_form l at slot sizes x)
-unfolding array_form
-goes_array l h at slot sizes x =
-    goes_then (goes_dimensions l h sizes []) (λ ds. goes_then (goes_unless _ at _) (λ _. goes_then (goes_numbers l h at ds x) (λ xs. goes_then (goes_new_array _) (λ a. goes_put slot a))))
-
-pub goes_make_input : GoesOn make_input
-unfolding make_input
-goes_make_input = record { from = λ s. onward_refl (left s) }
-
-pub goes_make_solver : GoesOn make_solver
-unfolding make_solver
-goes_make_solver = record { from = λ s. onward_refl (left s) }
-
-pub goes_object : (slot : Slot) (k : Kind) → GoesOn (object_form slot k)
-unfolding object_form
-goes_object slot kinds.Solver = goes_then goes_make_solver (λ v. goes_put slot v)
-goes_object slot kinds.Input = goes_then goes_make_input (λ v. goes_put slot v)
-goes_object slot k = goes_give
 
 -- printing
 
@@ -179,10 +128,16 @@ pub goes_array_text : (at : Place) (v : Value) → GoesOn (array_text at v)
 unfolding array_text
 goes_array_text at v = goes_then (goes_cells v) (λ c. goes_then (goes_charge _ at) (λ _. goes_give))
 
+pub goes_variables_text : (at : Place) (v : Value) → GoesOn (variables_text at v)
+unfolding variables_text
+goes_variables_text at v =
+    goes_then (goes_variables v) (λ c. goes_then (goes_charge _ at) (λ _. goes_then (goes_read_each at c.variables []) (λ vs. goes_give)))
+
 pub goes_value_text : (at : Place) (v : Value) → GoesOn (value_text at v)
 unfolding value_text
 goes_value_text at (Array n) = goes_array_text at (Array n)
 goes_value_text at (Row xs) = goes_array_text at (Row xs)
+goes_value_text at (Variables n) = goes_variables_text at (Variables n)
 goes_value_text at v = goes_give
 
 pub goes_print : (text : List ℕ) → GoesOn (print text)
@@ -276,6 +231,7 @@ goes_deed l h at (deeds.declaring_array slot k sizes x) = goes_array l h at slot
 goes_deed l h at (deeds.declaring_variable v) = goes_variable l h at v
 goes_deed l h at (deeds.making slot k es) = goes_object slot k
 goes_deed l h at (deeds.writing o t e) = goes_writing l h at o t e
+goes_deed l h at (deeds.swapping a b) = goes_swapping l h at a b
 goes_deed l h at (deeds.stepping x t) = goes_stepping l h at x t
 goes_deed l h at (deeds.doing e) = goes_alone l h e
 goes_deed l h at (deeds.printing xs) = goes_printing l h xs
@@ -304,6 +260,7 @@ goes_meaning_of_form l h at (works.when_else e a b) = goes_when_else l h e a b
 goes_meaning_of_form l h at (works.loop test body) = goes_while l h at test body
 goes_meaning_of_form l h at (works.counting c test step body) = goes_for l h at c test (goes_step l h at step) body
 goes_meaning_of_form l h at (works.for_all gs c body) = goes_for_all l h at gs c body
+goes_meaning_of_form l h at (works.at_once mode slot body) = goes_together l h at slot body
 goes_meaning_of_form l h at w = goes_give
 
 pub goes_statement : (l : Level) → LevelGoesOn l → (w : Work) → GoesOn (meaning_of_statement l w)

@@ -1,9 +1,14 @@
 pub mod GoingOn
 pub mod GoingParts
+pub mod GoingModels
 pub mod GoingExpressions
+pub mod GoingTerms
+pub mod GoingDeclarations
+pub mod GoingVariables
 pub mod GoingStatements
 pub mod Spending
 pub mod SpendingForms
+pub mod SpendingTerms
 pub mod SpendingPrograms
 pub mod Computing
 pub mod Turns
@@ -11,5 +16,6 @@ pub mod Endings
 pub mod Tuples
 pub mod TupleSteps
 pub mod Rows
+pub mod RowsOfTerms
 pub mod TupleStack
 pub mod Domains

@@ -12,7 +12,6 @@ use Rattle.checked_tree.specs.Shape.{Shape, Seen, whole, rows, wholes}
 use Rattle.checked_tree.specs.Actions.{Shown, Sized}
 use Rattle.checked_tree.specs.Tasks.{Work, row_of}
 use Rattle.comet_meaning.specs.Values.{Value, Number, Bounds}
-use Rattle.comet_meaning.specs.Terms.{Term, joined}
 use Rattle.comet_meaning.specs.State.{State, Left, left}
 use Rattle.comet_meaning.specs.Outcome.{Outcome, Went, Halted, Halt, then_do}
 use Rattle.comet_meaning.specs.Levels.{Level, Flow, Next, Returned}
@@ -22,13 +21,13 @@ use Rattle.comet_meaning.specs.Cells.{put}
 use Rattle.comet_meaning.specs.Generators.{Bound, bind}
 use Rattle.comet_meaning.specs.Declarations.{Dimension, dimensions_form}
 use Rattle.comet_meaning.specs.Calls.{argument_form, arguments_form, own_array, own_arrays}
-use Rattle.comet_meaning.specs.TermForms.{joined_form}
 use Rattle.comet_meaning.specs.Printing.{shown_form, print_form}
 use Rattle.comet_meaning.specs.Loops.{tasks, then_next, tasks_form}
 use Rattle.comet_meaning.specs.Onward.{IsOnward, left_by}
 use Rattle.comet_meaning.proofs.GoingParts.{LevelGoesOn, goes_values, goes_links, goes_bind}
-use Rattle.comet_meaning.proofs.GoingExpressions.{goes_arguments, goes_own_arrays, goes_joined}
-use Rattle.comet_meaning.proofs.GoingStatements.{goes_dimensions, goes_printing, goes_then_next, goes_tasks}
+use Rattle.comet_meaning.proofs.GoingExpressions.{goes_arguments, goes_own_arrays}
+use Rattle.comet_meaning.proofs.GoingDeclarations.{goes_dimensions}
+use Rattle.comet_meaning.proofs.GoingStatements.{goes_printing, goes_then_next, goes_tasks}
 use Rattle.comet_meaning.proofs.Endings.{went_then, halted_then, Passes, passes_to}
 
 -- rows as lists
@@ -52,10 +51,10 @@ tasks_row (w ∷ ws) = ap (λ ys. w ∷ ys) (tasks_row ws)
 
 -- what is left of a row that is mapped
 
-at_next : {X Y Z : Type 0} (F : List Y → Z) (f : X → Y) (xs : List X) (i : ℕ) (x : X) → i < length xs → x ≡ get_or xs i x → F (map f (drop i xs)) ≡ F (f x ∷ map f (drop (i + 1) xs))
+pub at_next : {X Y Z : Type 0} (F : List Y → Z) (f : X → Y) (xs : List X) (i : ℕ) (x : X) → i < length xs → x ≡ get_or xs i x → F (map f (drop i xs)) ≡ F (f x ∷ map f (drop (i + 1) xs))
 at_next F f xs i x h is = at_drop_more (λ ys. F (map f ys)) xs i x h ∙ ap (λ y. F (f y ∷ map f (drop (i + 1) xs))) (sym is)
 
-at_end : {X Y Z : Type 0} (F : List Y → Z) (f : X → Y) (xs : List X) (i : ℕ) → length xs ≤ i → F (map f (drop i xs)) ≡ F []
+pub at_end : {X Y Z : Type 0} (F : List Y → Z) (f : X → Y) (xs : List X) (i : ℕ) → length xs ≤ i → F (map f (drop i xs)) ≡ F []
 at_end F f xs i h = at_drop_all (λ ys. F (map f ys)) xs i h
 
 -- an element that is found stands there
@@ -156,36 +155,6 @@ module _ {X : Type 0} {l : Level} {f : X → Shape} {xs : List X} {i : ℕ} {v :
 
     pub links_err : (P : (A : Type 0) → Outcome A → Type 0) → Passes P → LevelGoesOn l → P Value (link_form l at o e v s) → P Value w
     links_err P through k e = passes_to P through _ _ links_at (λ u. goes_links l k _ u) e
-
--- operands of a chain, as terms
-
-pub record TermsLeft {X : Type 0} (l : Level) (f : X → Shape) (xs : List X) (i : ℕ) (t : Term) (s : State) (w : Outcome Term) : Type 0 where
-  pub left : joined_form l (map f (drop i xs)) t s ≡ w
-
-pub terms_start : {X : Type 0} (l : Level) (f : X → Shape) (xs : List X) (es : List Shape) (t : Term) (s : State) → es ≡ map f xs → TermsLeft l f xs 0 t s (joined_form l es t s)
-terms_start l f xs es t s e = record { left = ap (λ ys. joined_form l ys t s) (sym e) }
-
-module _ {X : Type 0} {l : Level} {f : X → Shape} {xs : List X} {i : ℕ} {t : Term} {s : State} {w : Outcome Term} (m : TermsLeft l f xs i t s w) where
-  pub terms_end : length xs ≤ i → w ≡ Went t s
-  unfolding joined_form
-  terms_end h = sym m.left ∙ at_end (λ ys. joined_form l ys t s) f xs i h
-
-  pub terms_onward : LevelGoesOn l → IsOnward (left s) (left_by w)
-  terms_onward k = subst (λ o. IsOnward (left s) (left_by o)) m.left ((goes_joined l k (map f (drop i xs)) t).from s)
-
-  module _ {o : ChainOperator} {at : Place} {e : Shape} (x : X) (h : i < length xs) (is : x ≡ get_or xs i x) (link : f x ≡ shapes.link o at e) where
-    pub terms_at : then_do (l.term e s) (λ u. joined_form l (map f (drop (i + 1) xs)) (joined o at t u)) ≡ w
-    unfolding joined_form
-    terms_at = sym (at_next (λ ys. joined_form l ys t s) f xs i x h is ∙ ap (λ y. joined_form l (y ∷ map f (drop (i + 1) xs)) t s) link) ∙ m.left
-
-    pub terms_step : {u : Term} {r : State} → l.term e s ≡ Went u r → TermsLeft l f xs (i + 1) (joined o at t u) r w
-    terms_step e = record { left = sym (went_then _ e) ∙ terms_at }
-
-    pub terms_halt : {h : Halt} {r : Left} → l.term e s ≡ Halted h r → w ≡ Halted h r
-    terms_halt e = sym terms_at ∙ halted_then _ e
-
-    pub terms_err : (P : (A : Type 0) → Outcome A → Type 0) → Passes P → LevelGoesOn l → P Term (l.term e s) → P Term w
-    terms_err P through k e = passes_to P through _ _ terms_at (λ u. goes_joined l k _ _) e
 
 -- what is printed
 

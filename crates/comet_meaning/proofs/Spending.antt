@@ -5,10 +5,10 @@ use Rattle.cbl_base.specs.declared.place.Place.{Place}
 use Rattle.cbl_base.specs.declared.faults.RunFault.{RunFault}
 use Rattle.checked_tree.specs.declared.expressions.Slot.{Slot}
 use Rattle.comet_meaning.specs.Values.{Value, Range, Set}
-use Rattle.comet_meaning.specs.Terms.{Failure}
+use Rattle.model_values.specs.declared.failure.Failure.{Failure}
 use Rattle.comet_meaning.specs.State.{State, left}
 use Rattle.comet_meaning.specs.Outcome.{Outcome, Went, Halted, SpentAt, Act, then_do, ◌>>=◌, give, fault, give_or, give_or_met, unless, charge, each_of, each_from, each_in}
-use Rattle.comet_meaning.specs.Cells.{held, look, put, back_in, in_scope, in_frame, cells_of, cells, found_at}
+use Rattle.comet_meaning.specs.Cells.{held, look, put, back_in, in_scope, in_frame, cells_of, cells, variables_of, variables, extent_of, extent, size_in, count_cells, cell_in, cell, found_at}
 use Rattle.comet_meaning.specs.Spending.{IsSpent, IsBound, Outside, with_outside, leaving, SeesInside, OnlySpends, OnlyBinds}
 
 -- steps
@@ -150,6 +150,40 @@ spends_cells v = record { from = λ s. refl; inside = λ o s. taken v o s } wher
   taken (Value.Array n) o s = refl
   taken (Value.Row xs) o s = refl
   taken v o s = refl
+
+pub spends_variables : (v : Value) → OnlySpends (variables v)
+unfolding variables
+spends_variables v = record { from = λ s. refl; inside = λ o s. taken v o s } where
+  taken : (v : Value) (o : Outside) (s : State) → Went (variables_of (with_outside o s) v) (with_outside o s) ≡ Went (variables_of s v) (with_outside o s)
+  taken (Value.Variables n) o s = refl
+  taken v o s = refl
+
+pub spends_extent : (v : Value) → OnlySpends (extent v)
+unfolding extent
+spends_extent v = record { from = λ s. refl; inside = λ o s. taken v o s } where
+  taken : (v : Value) (o : Outside) (s : State) → Went (extent_of (with_outside o s) v) (with_outside o s) ≡ Went (extent_of s v) (with_outside o s)
+  taken (Value.Variables n) o s = refl
+  taken (Value.Array n) o s = refl
+  taken (Value.Row xs) o s = refl
+  taken v o s = refl
+
+pub spends_count_cells : (v : Value) → OnlySpends (count_cells v)
+unfolding count_cells
+spends_count_cells v = record { from = λ s. refl; inside = λ o s. taken v o s } where
+  taken : (v : Value) (o : Outside) (s : State) → Went (size_in (with_outside o s) v) (with_outside o s) ≡ Went (size_in s v) (with_outside o s)
+  taken (Value.Variables n) o s = refl
+  taken (Value.Array n) o s = refl
+  taken (Value.Row xs) o s = refl
+  taken v o s = refl
+
+pub spends_cell_of : (v : Value) (k : ℕ) → OnlySpends (cell v k)
+unfolding cell
+spends_cell_of v k = record { from = λ s. refl; inside = λ o s. taken v k o s } where
+  taken : (v : Value) (k : ℕ) (o : Outside) (s : State) → Went (cell_in (with_outside o s) v k) (with_outside o s) ≡ Went (cell_in s v k) (with_outside o s)
+  taken (Value.Variables n) k o s = refl
+  taken (Value.Array n) k o s = refl
+  taken (Value.Row xs) k o s = refl
+  taken v k o s = refl
 
 pub spends_found_at : (at : Place) (k : Option ℕ) → OnlySpends (found_at at k)
 spends_found_at at None = spends_fault

@@ -22,25 +22,27 @@ use Rattle.checked_tree.specs.Actions as deeds
 use Rattle.checked_tree.specs.Tasks as works
 use Rattle.checked_tree.specs.Tasks.{Work, Coded}
 use Rattle.type_rules.specs.Rows.{method_row}
-use Rattle.comet_meaning.specs.Values.{Value, bounds_of, size_of}
-use Rattle.comet_meaning.specs.Terms.{Term, joined}
-use Rattle.comet_meaning.specs.Solvers.{SolverState}
+use Rattle.comet_meaning.specs.Values.{Value, Range, Variable, Variables, bounds_of, size_of}
+use Rattle.cbl_base.specs.declared.ids.VarId.{VarId}
+use Rattle.cbl_base.specs.declared.faults.RunFault.TheVariants.{WrongSolver}
+use Rattle.comet_meaning.specs.Solvers.{SolverState, has_variable}
 use Rattle.comet_meaning.specs.Outcome.{Act, always}
 use Rattle.comet_meaning.specs.Cells.{put}
 use Rattle.comet_meaning.specs.Levels.{Code, Level}
-use Rattle.comet_meaning.specs.Parts.{items, solver_at, variable_value, read, value, number, truth, condition, values, is_defined}
+use Rattle.comet_meaning.specs.Parts.{items, solver_at, needs_close, variable_value, read, value, number, truth, condition, values}
 use Rattle.comet_meaning.specs.Operators.{unary_result, unary_form, compare_form, decides, linked, link_form, links_form, chain_form, range_form, conditional_form}
-use Rattle.comet_meaning.specs.Arrays.{list_form, index_form, cell_form, taken_whole, count_form}
+use Rattle.comet_meaning.specs.Arrays.{list_form, index_form, cell_form, count_form}
+use Rattle.comet_meaning.specs.Taking.{read_each, read_array, taken_whole}
+use Rattle.comet_meaning.specs.Models.{owns, domain_in, domain_at, domain_of}
 use Rattle.comet_meaning.specs.Generators.{Bound, with_bound, bind, generated, each_tuple}
 use Rattle.comet_meaning.specs.Builtins.{builtin_value, builtin_form}
 use Rattle.comet_meaning.specs.Aggregates.{Element, with_element, element_form, aggregate_value, aggregate_form}
-use Rattle.comet_meaning.specs.Methods.{fitting_number, method_value, method_form}
+use Rattle.comet_meaning.specs.Methods.{fitting_number, method_value, object_value, method_form}
 use Rattle.comet_meaning.specs.Purity.{is_pure, is_local, returned_by}
 use Rattle.comet_meaning.specs.Calls.{argument_form, arguments_form, body_form, called, call_form}
 use Rattle.comet_meaning.specs.Expressions.{set_form, value_of_form, value_of_expression}
-use Rattle.comet_meaning.specs.TermForms.{joined_form, moving_term, term_of_expression}
 use Rattle.comet_meaning.specs.Spending.{OnlySpends, OnlyBinds}
-use Rattle.comet_meaning.proofs.Spending.{binds, spends_then, binds_then, spends_give, spends_fault, spends_if, spends_give_or, spends_give_or_met, spends_unless, spends_charge, spends_at, binds_each_in, spends_look, binds_put, spends_in_scope, binds_in_frame, spends_cells, spends_found_at}
+use Rattle.comet_meaning.proofs.Spending.{binds, spends_then, binds_then, spends_give, spends_fault, spends_if, spends_give_or, spends_unless, spends_charge, spends_at, binds_each_in, spends_look, binds_put, spends_in_scope, binds_in_frame, spends_cells, spends_variables, spends_extent, spends_count_cells, spends_cell_of, spends_found_at}
 
 pub and_left : (a b : Bool) → (a && b) ≡ true → a ≡ true
 and_left true b e = refl
@@ -70,7 +72,7 @@ items_pure known e p = tt
 
 spends_variable_value : (at : Place) (x : ℕ) (m : SolverState) → OnlySpends (variable_value at x m)
 unfolding variable_value
-spends_variable_value at x m = spends_if m.closed (spends_give_or_met _) (spends_if (is_defined m x) spends_fault spends_give)
+spends_variable_value at x m = spends_if (has_variable m x) (spends_if (needs_close m x) spends_fault spends_give) spends_fault
 
 spends_read : (at : Place) (v : Value) → OnlySpends (read at v)
 unfolding read
@@ -81,7 +83,7 @@ spends_value : (k : List Bool) (l : Level) → LevelSpends k l → (e : Shape) �
 unfolding value
 spends_value k l h e p = spends_then (h.expr e p) (λ v. spends_read _ v)
 
-spends_number : (k : List Bool) (l : Level) → LevelSpends k l → (e : Shape) → is_pure k e ≡ true → OnlySpends (number l e)
+pub spends_number : (k : List Bool) (l : Level) → LevelSpends k l → (e : Shape) → is_pure k e ≡ true → OnlySpends (number l e)
 unfolding number
 spends_number k l h e p = spends_then (spends_value k l h e p) (λ v. spends_give)
 
@@ -89,7 +91,7 @@ spends_truth : (k : List Bool) (l : Level) → LevelSpends k l → (e : Shape) �
 unfolding truth
 spends_truth k l h e p = spends_then (spends_value k l h e p) (λ v. spends_give)
 
-spends_condition : (k : List Bool) (l : Level) → LevelSpends k l → (e : Shape) → is_pure k e ≡ true → OnlySpends (condition l e)
+pub spends_condition : (k : List Bool) (l : Level) → LevelSpends k l → (e : Shape) → is_pure k e ≡ true → OnlySpends (condition l e)
 unfolding condition
 spends_condition k l h shapes.left_out p = spends_give
 spends_condition k l h e p = spends_truth k l h e p
@@ -150,16 +152,26 @@ spends_list k l h es p = spends_then (spends_values k l h es [] p) (λ vs. spend
 spends_index : (k : List Bool) (l : Level) → LevelSpends k l → (at : Place) (a i : Shape) → is_pure k a ≡ true → is_pure k i ≡ true → OnlySpends (index_form l at a i)
 unfolding index_form
 spends_index k l h at a i p q =
-    spends_then (spends_value k l h a p) (λ v. spends_then (spends_number k l h i q) (λ z. spends_then (spends_cells v) (λ c. spends_then (spends_found_at at _) (λ n. spends_give))))
+    spends_then (spends_value k l h a p) (λ v. spends_then (spends_number k l h i q) (λ z. spends_then (spends_extent v) (λ b. spends_then (spends_found_at at _) (λ n. spends_cell_of v n))))
 
 spends_cell : (k : List Bool) (l : Level) → LevelSpends k l → (at : Place) (a i j : Shape) → is_pure k a ≡ true → is_pure k i ≡ true → is_pure k j ≡ true → OnlySpends (cell_form l at a i j)
 unfolding cell_form
 spends_cell k l h at a i j p q r =
-    spends_then (spends_value k l h a p) (λ v. spends_then (spends_number k l h i q) (λ y. spends_then (spends_number k l h j r) (λ z. spends_then (spends_cells v) (λ c. spends_then (spends_found_at at _) (λ n. spends_give)))))
+    spends_then (spends_value k l h a p) (λ v. spends_then (spends_number k l h i q) (λ y. spends_then (spends_number k l h j r) (λ z. spends_then (spends_extent v) (λ b. spends_then (spends_found_at at _) (λ n. spends_cell_of v n)))))
+
+spends_read_each : (at : Place) (xs : List VarId) (vs : List Value) → OnlySpends (read_each at xs vs)
+unfolding read_each
+spends_read_each at [] vs = spends_give
+spends_read_each at (x ∷ xs) vs = spends_then (spends_read at (Variable x)) (λ v. spends_read_each at xs (vs ++ v ∷ []))
+
+spends_read_array : (at : Place) (v : Value) → OnlySpends (read_array at v)
+unfolding read_array
+spends_read_array at (Variables n) = spends_then (spends_variables (Variables n)) (λ c. spends_then (spends_read_each at c.variables []) (λ vs. spends_give))
+spends_read_array at v = spends_cells v
 
 spends_taken_whole : (at : Place) (v : Value) → OnlySpends (taken_whole at v)
 unfolding taken_whole
-spends_taken_whole at v = spends_then (spends_cells v) (λ c. spends_then (spends_charge _ at) (λ _. spends_give))
+spends_taken_whole at v = spends_then (spends_count_cells v) (λ n. spends_then (spends_charge n at) (λ _. spends_then (spends_read_array at v) (λ c. spends_give)))
 
 spends_count : (k : List Bool) (l : Level) → LevelSpends k l → (at : Place) (a e : Shape) → is_pure k a ≡ true → is_pure k e ≡ true → OnlySpends (count_form l at a e)
 unfolding count_form
@@ -191,7 +203,7 @@ spends_builtin k l h at f es p = spends_then (spends_values k l h es [] p) (λ v
 -- generators and aggregates
 
 -- the names of generators lie in the frame
-abbrev AllLocal : List Bound → Type 0
+abbrev pub AllLocal : List Bound → Type 0
 AllLocal [] = Unit {0}
 AllLocal (b ∷ bs) = (is_local b.slot ≡ true) × AllLocal bs
 
@@ -212,7 +224,7 @@ binds_generated : {A : Type 0} (at : Place) (known : List Bound) {next : Act A} 
 unfolding generated
 binds_generated at known p k = binds_then (binds (spends_charge 1 at)) (λ _. binds_then (binds_bind known p) (λ _. k))
 
-binds_each_tuple : {A : Type 0} (k : List Bool) (l : Level) → LevelSpends k l → (at : Place) (more : A → Bool) (visit : ℤ → A → Act A) (known : List Bound) (gs : List Shape) (x : A) → AllLocal known → AllPure k gs → ((v : ℤ) (x : A) → OnlyBinds (visit v x)) → OnlyBinds (each_tuple l at more visit known gs x)
+pub binds_each_tuple : {A : Type 0} (k : List Bool) (l : Level) → LevelSpends k l → (at : Place) (more : A → Bool) (visit : ℤ → A → Act A) (known : List Bound) (gs : List Shape) (x : A) → AllLocal known → AllPure k gs → ((v : ℤ) (x : A) → OnlyBinds (visit v x)) → OnlyBinds (each_tuple l at more visit known gs x)
 unfolding each_tuple
 binds_each_tuple k l h at more visit known (shapes.generator place slot domain ∷ []) x n p q =
     binds_then (binds (spends_value k l h domain (and_right (is_local slot) (is_pure k domain) p.0))) (λ d.
@@ -255,6 +267,16 @@ impure m p q = absurd (clash (method_row m).impure p q) where
   clash true p q = (let no : false ≡ true = p in absurd cc)
   clash false p q = (let no : false ≡ true = q in absurd cc)
 
+spends_domain_at : (at : Place) (x : VarId) (m : SolverState) → OnlySpends (domain_at at x m)
+unfolding domain_at
+spends_domain_at at x m =
+    spends_then (spends_unless (owns x.solver m x) at WrongSolver) (λ _. spends_give {x = Range (domain_in (slice_get m.model.vars.items x.index))})
+
+spends_domain_of : (at : Place) (v : Value) → OnlySpends (domain_of at v)
+unfolding domain_of
+spends_domain_of at (Variable x) = spends_at {f = λ s. domain_at at x (solver_at s x.solver)} (λ o s. refl) (λ s. spends_domain_at at x _)
+spends_domain_of at v = spends_give
+
 spends_method_value : (at : Place) (m : Method) (o : Shape) (v : Value) (vs : List Value) → not (method_row m).impure ≡ true → OnlySpends (method_value at m o v vs)
 unfolding method_value
 spends_method_value at methods.Low o v vs p = spends_give
@@ -264,15 +286,21 @@ spends_method_value at methods.Contains o v (x ∷ []) p = spends_give
 spends_method_value at methods.SetSize o v vs p = spends_give
 spends_method_value at methods.Insert o v (x ∷ []) p = impure methods.Insert p refl
 spends_method_value at methods.Delete o v (x ∷ []) p = impure methods.Delete p refl
-spends_method_value at methods.ArraySize o v vs p = spends_then (spends_cells v) (λ a. spends_give)
+spends_method_value at methods.ArraySize o v vs p = spends_then (spends_count_cells v) (λ n. spends_give)
 spends_method_value at methods.ReadInt o v vs p = impure methods.ReadInt p refl
 spends_method_value at methods.Close o v vs p = impure methods.Close p refl
+spends_method_value at methods.Domain o v vs p = spends_domain_of at v
 spends_method_value at m o v vs p = spends_give
+
+spends_object_value : (k : List Bool) (l : Level) → LevelSpends k l → (m : Method) (o : Shape) → is_pure k o ≡ true → OnlySpends (object_value l m o)
+unfolding object_value
+spends_object_value k l h methods.Domain o p = h.expr o p
+spends_object_value k l h m o p = spends_value k l h o p
 
 spends_method : (k : List Bool) (l : Level) → LevelSpends k l → (at : Place) (m : Method) (o : Shape) (es : List Shape) → not (method_row m).impure ≡ true → is_pure k o ≡ true → AllPure k es → OnlySpends (method_form l at m o es)
 unfolding method_form
 spends_method k l h at m o es p q r =
-    spends_then (spends_value k l h o q) (λ v. spends_then (spends_values k l h es [] r) (λ vs. spends_then (spends_charge 1 at) (λ _. spends_method_value at m o v vs p)))
+    spends_then (spends_object_value k l h m o q) (λ v. spends_then (spends_values k l h es [] r) (λ vs. spends_then (spends_charge 1 at) (λ _. spends_method_value at m o v vs p)))
 
 -- calls
 
@@ -313,7 +341,7 @@ spends_call c r l h at f es p q =
 
 -- expressions
 
-spends_form : (c : Code) → KnowsPure c → (l : Level) → LevelSpends c.pure l → (at : Place) (kind : Kind) (form : Shape) → is_pure c.pure form ≡ true → OnlySpends (value_of_form c l at kind form)
+pub spends_form : (c : Code) → KnowsPure c → (l : Level) → LevelSpends c.pure l → (at : Place) (kind : Kind) (form : Shape) → is_pure c.pure form ≡ true → OnlySpends (value_of_form c l at kind form)
 unfolding value_of_form
 spends_form c r l h at kind (shapes.number n) p = spends_give
 spends_form c r l h at kind (shapes.truth b) p = spends_give
@@ -347,28 +375,6 @@ pub spends_expression : (c : Code) → KnowsPure c → (l : Level) → LevelSpen
 unfolding value_of_expression
 spends_expression c r l h (shapes.typed start at kind moving form) p = spends_form c r l h at kind form p
 spends_expression c r l h e p = spends_give
-
--- terms
-
-spends_joined : (k : List Bool) (l : Level) → LevelSpends k l → (links : List Shape) (t : Term) → AllPure k links → OnlySpends (joined_form l links t)
-unfolding joined_form
-spends_joined k l h [] t p = spends_give
-spends_joined k l h (shapes.link o at e ∷ links) t p = spends_then (h.term e p.0) (λ u. spends_joined k l h links (joined o at t u) p.1)
-spends_joined k l h (x ∷ links) t p = spends_joined k l h links t p.1
-
-spends_moving : (k : List Bool) (l : Level) → LevelSpends k l → (form : Shape) → is_pure k form ≡ true → OnlySpends (moving_term l form)
-unfolding moving_term
-spends_moving k l h (shapes.name slot) p = spends_then (spends_look slot) (λ v. spends_give)
-spends_moving k l h (shapes.parentheses e) p = h.term e p
-spends_moving k l h (shapes.chain first links) p =
-    spends_then (h.term first (and_left (is_pure k first) (is_pure k links) p)) (λ t. spends_joined k l h (items links) t (items_pure k links (and_right (is_pure k first) (is_pure k links) p)))
-spends_moving k l h form p = spends_give
-
-pub spends_term : (c : Code) → KnowsPure c → (l : Level) → LevelSpends c.pure l → (e : Shape) → is_pure c.pure e ≡ true → OnlySpends (term_of_expression c l e)
-unfolding term_of_expression
-spends_term c r l h (shapes.typed start at kind moving form) p =
-    spends_if moving (spends_moving c.pure l h form p) (spends_then (spends_form c r l h at kind form p) (λ v. spends_give))
-spends_term c r l h e p = spends_give
 
 pub spends_returned : (k : List Bool) (l : Level) → LevelSpends k l → (e : Seen) → is_pure k (whole e) ≡ true → OnlySpends (value l (whole e))
 spends_returned k l h e p = spends_value k l h (whole e) p

@@ -15,7 +15,8 @@ use Rattle.comet_meaning.specs.Purity.{is_pure, is_local, returned_by, returns_p
 use Rattle.comet_meaning.specs.Program.{level, code_of}
 use Rattle.comet_meaning.specs.Spending.{OnlySpends}
 use Rattle.comet_meaning.proofs.Spending.{spends_then, spends_give, spends_fault, spends_charge}
-use Rattle.comet_meaning.proofs.SpendingForms.{and_left, and_right, LevelSpends, ReturnsPure, KnowsPure, spends_returned, spends_expression, spends_term}
+use Rattle.comet_meaning.proofs.SpendingForms.{and_left, and_right, LevelSpends, ReturnsPure, KnowsPure, spends_returned, spends_expression}
+use Rattle.comet_meaning.proofs.SpendingTerms.{spends_term}
 
 -- what is pure where some functions are known to be pure is so where more are
 

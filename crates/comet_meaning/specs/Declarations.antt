@@ -15,9 +15,10 @@ use Rattle.comet_meaning.specs.Values.{Value, Number, Input, Range, Bounds, size
 use Rattle.comet_meaning.specs.Limits.{most_cells}
 use Rattle.comet_meaning.specs.State.{Cells}
 use Rattle.comet_meaning.specs.Outcome.{Went, Act, ◌>>=◌, give, unless, charge, each_in, always}
-use Rattle.comet_meaning.specs.Cells.{put, cells, row_of, new_array}
+use Rattle.comet_meaning.specs.Cells.{put, row_of, new_array}
 use Rattle.comet_meaning.specs.Levels.{Level}
 use Rattle.comet_meaning.specs.Parts.{value, number, bounds}
+use Rattle.comet_meaning.specs.Taking.{read_array}
 use Rattle.comet_meaning.specs.Models.{make_solver}
 
 -- names of one value
@@ -26,7 +27,7 @@ use Rattle.comet_meaning.specs.Models.{make_solver}
 unfoldable pub copied_form : Level → Place → Slot → Seen → Act (Unit {0})
 copied_form l at slot e = do
   v ← value l (whole e)
-  c ← cells v
+  c ← read_array e.place v
   _ ← charge (length c.numbers) at
   a ← new_array (row_of c.numbers)
   put slot a
@@ -55,14 +56,15 @@ abbrev pub put_named : Option Slot → ℤ → Act (Unit {0})
 put_named None z = give tt
 put_named (Some slot) z = put slot (Number z)
 
--- what is done for each cell, row by row, with the names of the dimensions bound
-abbrev pub each_cell : (List ℤ → Act (List ℤ)) → List Dimension → List ℤ → Act (List ℤ)
-each_cell visit [] xs = visit xs
-each_cell visit (d ∷ ds) xs = each_in always (λ z ys. put_named d.slot z >>= λ _. each_cell visit ds ys) (Range d.bounds) xs
+-- what is done for each cell, row by row, with the names of the dimensions bound; it is told the cell's indices, behind
+-- those before
+abbrev pub each_cell : {A : Type 0} → (List ℤ → A → Act A) → List Dimension → List ℤ → A → Act A
+each_cell visit [] is x = visit is x
+each_cell visit (d ∷ ds) is x = each_in always (λ z y. put_named d.slot z >>= λ _. each_cell visit ds (is ++ z ∷ []) y) (Range d.bounds) x
 
--- the numbers of all cells from the first; where there is no cell nothing is done, however many rows there are
-unfoldable pub every_cell : (List ℤ → Act (List ℤ)) → List Dimension → Act (List ℤ)
-every_cell visit ds = if nat_eq (cell_count ds) 0 then give [] else each_cell visit ds []
+-- what is made of all cells, from the first; where there is no cell nothing is done, however many rows there are
+unfoldable pub every_cell : {A : Type 0} → (List ℤ → List A → Act (List A)) → List Dimension → Act (List A)
+every_cell visit ds = if nat_eq (cell_count ds) 0 then give [] else each_cell visit ds [] []
 
 -- the number of a cell; without a start it is 0
 unfoldable pub start_number : Level → Option Seen → Act ℤ
@@ -70,8 +72,8 @@ start_number l None = give (pos 0)
 start_number l (Some e) = number l (whole e)
 
 -- one more cell: its unit, and then its number
-unfoldable pub next_cell : Level → Place → Option Seen → List ℤ → Act (List ℤ)
-next_cell l at e xs = do
+unfoldable pub next_cell : Level → Place → Option Seen → List ℤ → List ℤ → Act (List ℤ)
+next_cell l at e is xs = do
   _ ← charge 1 at
   z ← start_number l e
   give (xs ++ z ∷ [])
@@ -80,7 +82,7 @@ next_cell l at e xs = do
 unfoldable pub listed_form : Level → Place → ℕ → Seen → Act (List ℤ)
 listed_form l at count e = do
   v ← value l (whole e)
-  c ← cells v
+  c ← read_array e.place v
   _ ← unless (nat_eq (length c.numbers) count) at OutOfRange
   _ ← charge count at
   give c.numbers

@@ -7,6 +7,7 @@ use Rattle.comet_syntax.specs.declared.tree.expressions.ChainOperator.TheVariant
 use Rattle.comet_syntax.specs.declared.tree.expressions.Comparison.{Comparison}
 use Rattle.comet_syntax.specs.declared.tree.expressions.Comparison.TheVariants as comparisons
 use Rattle.comet_syntax.specs.declared.tree.expressions.UnaryOperator.TheVariants as unaries
+use Rattle.comet_syntax.specs.declared.tree.statements.WithMode.TheVariants as modes
 use Rattle.comet_syntax.specs.declared.tree.statements.WriteOperator.TheVariants as writes
 use Rattle.checked_tree.specs.declared.kind.Kind.{Kind}
 use Rattle.checked_tree.specs.declared.kind.Kind.TheVariants as kinds
@@ -102,18 +103,21 @@ reading = program (
     statement 16 (deeds.printing (deeds.value (next_read 24) ∷ deeds.end_line ∷ [])) ∷
     statement 45 (deeds.declaring (Global 1) kinds.Int (Some (next_read 53))) ∷ [])
 
--- `Solver<LS> m(); var{int} x(m) := 3; var{int} y(m) <- x*x+1;`, and then more
+-- `Solver<LS> m(); var{int} x(m) := 1; var{int} y(m) := 2;`, and then more
 
-abbrev variable_with : Slot → ℕ → Option Started → Deed
-variable_with slot n start = deeds.declaring_variable (record {
+abbrev variable_with : Slot → ℕ → Slot → Option Seen → Option Started → Deed
+variable_with slot n solver domain start = deeds.declaring_variable (record {
   slot = slot;
   name = [];
   kind = kinds.Variable;
   dimensions = [];
-  solver = Global 0;
-  domain = None;
+  solver = solver;
+  domain = domain;
   start = start;
 })
+
+abbrev starting : ℕ → ℤ → Option Started
+starting n z = Some (record { way = ways.Each; value = literal n z })
 
 abbrev x_read : ℕ → Seen
 x_read n = use_of n kinds.Variable (Global 1)
@@ -121,52 +125,95 @@ x_read n = use_of n kinds.Variable (Global 1)
 abbrev y_read : ℕ → Seen
 y_read n = use_of n kinds.Variable (Global 2)
 
-abbrev x_in_term : ℕ → Seen
-x_in_term n = moving_part n kinds.Variable (shapes.name (Global 1))
-
-abbrev square : Seen
-square = moving_part 54 kinds.Int (shapes.chain (whole (x_in_term 54)) (rows (shapes.link chains.Multiply (column 55) (whole (x_in_term 56)) ∷ [])))
-
-abbrev square_and_one : Seen
-square_and_one = moving_part 54 kinds.Int (shapes.chain (whole square) (rows (shapes.link chains.Add (column 57) (whole (literal 58 (pos 1))) ∷ [])))
-
-abbrev pub with_square : List Work → Whole
-with_square ws = program (
+abbrev pub with_two : List Work → Whole
+with_two ws = program (
     statement 1 (deeds.making (Global 0) kinds.Solver []) ∷
-    statement 17 (variable_with (Global 1) 17 (Some (record { way = ways.Each; value = literal 34 (pos 3) }))) ∷
-    statement 37 (variable_with (Global 2) 37 (Some (record { way = ways.Define; value = square_and_one }))) ∷ ws)
+    statement 17 (variable_with (Global 1) 17 (Global 0) None (starting 34 (pos 1))) ∷
+    statement 37 (variable_with (Global 2) 37 (Global 0) None (starting 54 (pos 2))) ∷ ws)
 
 abbrev closing : ℕ → Work
 closing n = statement n (deeds.doing (record { start = column n; place = column (n + 2); kind = kinds.Nothing; moving = false; form = shapes.method methods.Close (whole (use_of n kinds.Solver (Global 0))) (wholes []) }))
 
-abbrev printing_y : ℕ → Work
-printing_y n = statement n (deeds.printing (deeds.value (y_read (n + 8)) ∷ deeds.end_line ∷ []))
+abbrev printing_both : ℕ → Work
+printing_both n = statement n (deeds.printing (deeds.value (x_read (n + 8)) ∷ deeds.text (codes " ") ∷ deeds.value (y_read (n + 13)) ∷ deeds.end_line ∷ []))
 
 abbrev assigning : ℕ → Seen → Seen → Work
 assigning n t e = statement n (deeds.writing writes.Assign t e)
 
--- `m.close(); cout << y << endl; x := 5; cout << y << endl;`
-abbrev pub squaring : Whole
-squaring = with_square (closing 61 ∷ printing_y 72 ∷ assigning 91 (x_read 91) (literal 96 (pos 5)) ∷ printing_y 99 ∷ [])
+abbrev at_once : ℕ → List Work → Work
+at_once n ws = works.task (column n) (works.at_once modes.Atomic (Global 0) (works.task (column (n + 15)) (works.block (row_of ws))))
 
--- `x := 4294967296; m.close();`
-abbrev pub squaring_too_much : Whole
-squaring_too_much = with_square (assigning 61 (x_read 61) (literal 66 (pos 4294967296)) ∷ closing 78 ∷ [])
+-- `x := y; y := x;`
+abbrev taking : ℕ → List Work
+taking n = assigning n (x_read n) (y_read (n + 5)) ∷ assigning (n + 8) (y_read (n + 8)) (x_read (n + 13)) ∷ []
 
--- `cout << y << endl;`
-abbrev pub reading_early : Whole
-reading_early = with_square (printing_y 61 ∷ [])
+-- `m.close(); with atomic(m) { x := y; y := x; } cout << x << " " << y << endl;`
+abbrev pub committing : Whole
+committing = with_two (closing 57 ∷ at_once 68 (taking 85) ∷ printing_both 103 ∷ [])
 
-abbrev too_much : ℕ → Seen
-too_much n = of_two n (literal n (pos 9223372036854775807)) (shapes.link chains.Add (column (n + 20)) (whole (literal (n + 22) (pos 1))))
+-- `m.close(); with atomic(m) { x := y; with atomic(m) { y := x; } x := 5; } cout << x << " " << y << endl;`
+abbrev pub joining : Whole
+joining = with_two (closing 57 ∷
+    at_once 68 (assigning 85 (x_read 85) (y_read 90) ∷ at_once 93 (assigning 110 (y_read 110) (x_read 115) ∷ []) ∷ assigning 120 (x_read 120) (literal 125 (pos 5)) ∷ []) ∷
+    printing_both 130 ∷ [])
 
--- `y := 9223372036854775807 + 1;`
-abbrev pub assigning_too_much : Whole
-assigning_too_much = with_square (assigning 61 (y_read 61) (too_much 66) ∷ [])
+-- `with atomic(m) { }`
+abbrev pub committing_early : Whole
+committing_early = with_two (at_once 57 [] ∷ [])
 
--- `y := 1;`
-abbrev pub assigning_defined : Whole
-assigning_defined = with_square (assigning 61 (y_read 61) (literal 66 (pos 1)) ∷ [])
+-- `x :=: y; cout << x << " " << y << endl;`
+abbrev pub exchanging : Whole
+exchanging = with_two (statement 57 (deeds.swapping (x_read 57) (y_read 63)) ∷ printing_both 66 ∷ [])
+
+-- `Solver<LS> n(); var{int} z(n); x :=: z;`
+abbrev pub exchanging_apart : Whole
+exchanging_apart = with_two (
+    statement 57 (deeds.making (Global 3) kinds.Solver []) ∷
+    statement 73 (variable_with (Global 4) 73 (Global 3) None None) ∷
+    statement 88 (deeds.swapping (x_read 88) (use_of 94 kinds.Variable (Global 4))) ∷ [])
+
+-- `m.close(); y <- 1 / 0 + x;`
+abbrev pub defining_by_zero : Whole
+defining_by_zero = with_two (closing 57 ∷ statement 68 (deeds.writing writes.Define (y_read 68)
+    (record {
+      start = column 73;
+      place = column 73;
+      kind = kinds.Int;
+      moving = true;
+      form = shapes.chain
+          (whole (of_two 73 (literal 73 (pos 1)) (shapes.link chains.Divide (column 75) (whole (literal 77 (pos 0))))))
+          (rows (shapes.link chains.Add (column 79) (whole (record { start = column 81; place = column 81; kind = kinds.Variable; moving = true; form = shapes.name (Global 1) })) ∷ []));
+    })) ∷ [])
+
+-- `m.close(); m.close();`
+abbrev pub closing_twice : Whole
+closing_twice = with_two (closing 57 ∷ closing 68 ∷ [])
+
+-- `Solver<LS> m(); var{int} a[i in 1..3](m, 0..9) := i * i; cout << a << a[2]; a[2] := 7; cout << a << a[2].getDomain();`
+
+abbrev squares : Work
+squares = statement 17 (deeds.declaring_variable (record {
+  slot = Global 1;
+  name = codes "a";
+  kind = kinds.VariableArray;
+  dimensions = record { slot = Some (Local 0); range = record { start = column 33; place = column 34; kind = kinds.Range; moving = false; form = shapes.range (whole (literal 33 (pos 1))) (whole (literal 36 (pos 3))) } } ∷ [];
+  solver = Global 0;
+  domain = Some (record { start = column 42; place = column 43; kind = kinds.Range; moving = false; form = shapes.range (whole (literal 42 (pos 0))) (whole (literal 45 (pos 9))) });
+  start = Some (record { way = ways.Each; value = of_two 51 (use_of 51 kinds.Int (Local 0)) (shapes.link chains.Multiply (column 53) (whole (use_of 55 kinds.Int (Local 0)))) });
+}))
+
+abbrev second : ℕ → Seen
+second n = record { start = column n; place = column (n + 1); kind = kinds.Variable; moving = false; form = shapes.index (whole (use_of n kinds.VariableArray (Global 1))) (whole (literal (n + 2) (pos 2))) }
+
+abbrev second_domain : ℕ → Seen
+second_domain n = record { start = column n; place = column (n + 5); kind = kinds.Range; moving = false; form = shapes.method methods.Domain (whole (second n)) (wholes []) }
+
+abbrev pub squaring_cells : Whole
+squaring_cells = program (
+    statement 1 (deeds.making (Global 0) kinds.Solver []) ∷ squares ∷
+    statement 58 (deeds.printing (deeds.value (use_of 66 kinds.VariableArray (Global 1)) ∷ deeds.value (second 71) ∷ [])) ∷
+    assigning 77 (second 77) (literal 85 (pos 7)) ∷
+    statement 88 (deeds.printing (deeds.value (use_of 96 kinds.VariableArray (Global 1)) ∷ deeds.value (second_domain 101) ∷ [])) ∷ [])
 
 -- `function void f(int[] a, set{int} s) { a[0] = 1; s.insert(9); } int[] b = [0,2]; set{int} t = {1}; f(b,t); cout << b << t;`
 

@@ -6,7 +6,7 @@ use Rattle.checked_tree.specs.Tasks.{Work, Coded}
 use Rattle.checked_tree.specs.declared.expressions.Slot.{Slot}
 use Rattle.cbl_base.specs.declared.ids.VarId.{VarId}
 use Rattle.comet_meaning.specs.Values.{Value}
-use Rattle.comet_meaning.specs.Terms.{Term}
+use Rattle.comet_meaning.specs.Terms.{InTerm}
 use Rattle.comet_meaning.specs.Outcome.{Act}
 
 -- the functions of a program, and for each whether it is pure
@@ -31,7 +31,7 @@ pub record Level : Type 0 where
   pub expr : Shape → Act Value
   -- what an expression stands for where it is written
   pub target : Shape → Act Target
-  -- the term that an expression stands for in a term
-  pub term : Shape → Act Term
+  -- what an expression stands for in a term
+  pub term : Shape → Act InTerm
   -- what a statement does
   pub stmt : Work → Act Flow

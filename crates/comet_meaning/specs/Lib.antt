@@ -1,13 +1,14 @@
 pub mod Values
 pub mod Arithmetic
 pub mod Limits
-pub mod Terms
 pub mod Solvers
 pub mod State
 pub mod Outcome
 pub mod Cells
+pub mod Terms
 pub mod Levels
 pub mod Parts
+pub mod Taking
 pub mod Operators
 pub mod Arrays
 pub mod Builtins
@@ -24,6 +25,8 @@ pub mod TermForms
 pub mod Writes
 pub mod Declarations
 pub mod Printing
+pub mod Variables
+pub mod Blocks
 pub mod Loops
 pub mod Statements
 pub mod Program

@@ -1,12 +1,20 @@
 -- The limits of a run. A rule of this project.
 use Rattle.std.specs.Prelude.{ℕ}
+use Rattle.cbl_base.specs.declared.limits.TheConstants.{MAX_TERM_DEPTH, MAX_TERM_NODES, MAX_VARIABLES}
 
 -- how many statements and expressions may be executed inside each other
 abbrev pub most_depth : ℕ
 most_depth = 1000
 
 abbrev pub most_variables : ℕ
-most_variables = 262144
+most_variables = MAX_VARIABLES
+
+-- how deep a term may be, and how many distinct subterms a model may have
+abbrev pub most_term_depth : ℕ
+most_term_depth = MAX_TERM_DEPTH
+
+abbrev pub most_terms : ℕ
+most_terms = MAX_TERM_NODES
 
 abbrev pub most_cells : ℕ
 most_cells = 16777216

@@ -10,11 +10,11 @@ use Rattle.checked_tree.specs.Shape as shapes
 use Rattle.checked_tree.specs.Shape.{Shape}
 use Rattle.comet_meaning.specs.Values.{Value, Nothing, Number, Truth, Set, number_of, bounds_of, members_of, solver_of, size_of}
 use Rattle.comet_meaning.specs.Outcome.{Act, ◌>>=◌, give, give_or, charge}
-use Rattle.comet_meaning.specs.Cells.{cells, look, put}
+use Rattle.comet_meaning.specs.Cells.{count_cells, look, put}
 use Rattle.comet_meaning.specs.Levels.{Level}
 use Rattle.comet_meaning.specs.Parts.{value, values}
 use Rattle.comet_meaning.specs.Data.{next_number}
-use Rattle.comet_meaning.specs.Models.{close}
+use Rattle.comet_meaning.specs.Models.{close, domain_of}
 
 -- a number that an object gives must fit
 abbrev pub fitting_number : Place → ℤ → Act Value
@@ -40,14 +40,20 @@ method_value at methods.Contains o v (x ∷ []) = give (Truth (is_member (number
 method_value at methods.SetSize o v vs = give (Number (pos (length (members_of v))))
 method_value at methods.Insert o v (x ∷ []) = put_set o (with_member (number_of x))
 method_value at methods.Delete o v (x ∷ []) = put_set o (without_member (number_of x))
-method_value at methods.ArraySize o v vs = cells v >>= λ a. give (Number (pos (length a.numbers)))
+method_value at methods.ArraySize o v vs = count_cells v >>= λ n. give (Number (pos n))
 method_value at methods.ReadInt o v vs = next_number at v
 method_value at methods.Close o v vs = close at (solver_of v)
+method_value at methods.Domain o v vs = domain_of at v
 method_value at m o v vs = give Nothing
+
+-- the object's value; of a variable whose domain is asked the variable itself
+unfoldable pub object_value : Level → Method → Shape → Act Value
+object_value l methods.Domain o = l.expr o
+object_value l m o = value l o
 
 unfoldable pub method_form : Level → Place → Method → Shape → List Shape → Act Value
 method_form l at m o es = do
-  v ← value l o
+  v ← object_value l m o
   vs ← values l es []
   _ ← charge 1 at
   method_value at m o v vs

@@ -1,23 +1,23 @@
--- Solvers and their variables. The operands of a statement are evaluated first, and then the solver is asked: after
--- `close` no variable and no definition comes, a variable with a definition is assigned nothing, and each change of a
--- closed solver evaluates all variables afresh. From the language.
-use Rattle.std.specs.Prelude.{ℕ, ℤ, pos, negsuc, Bool, true, not, [], ◌∷◌, ◌++◌, length, Option, Some, None, nat_lt, slice_set, if◌then◌else◌}
+-- Solvers: what is asked of them when the operands of a statement have their values. After `close` no definition comes; a
+-- variable has one definition, and one that has it is assigned nothing; each change of a closed solver evaluates all
+-- afresh. While a `with` is open on a solver, what is assigned waits for its end. From the language.
+use Rattle.std.specs.Prelude.{ℕ, ℤ, pos, Bool, true, false, not, ◌&&◌, List, [], ◌∷◌, ◌++◌, fold, length, Option, Some, None, nat_eq, nat_le, slice_get, slice_index_or, slice_set, if◌then◌else◌}
+use Rattle.cbl_base.specs.Inputs.{InputKind, number_kind, set_kind}
 use Rattle.cbl_base.specs.declared.ids.VarId.{VarId}
 use Rattle.cbl_base.specs.declared.place.Place.{Place}
-use Rattle.cbl_base.specs.declared.faults.Limit.TheVariants.{Variables}
+use Rattle.cbl_base.specs.declared.faults.Limit.TheVariants.{TermNodes}
 use Rattle.cbl_base.specs.declared.faults.RunFault.TheVariants.{AlreadyClosed, DefinedVariable, TooMany, WrongSolver}
-use Rattle.checked_tree.specs.declared.statements.Way.{Way}
-use Rattle.checked_tree.specs.declared.statements.Way.TheVariants as ways
-use Rattle.checked_tree.specs.Shape.{Shape, Seen, whole}
-use Rattle.checked_tree.specs.Actions.{Started, Varying}
-use Rattle.comet_meaning.specs.Values.{Value, Nothing, Solver, Variable, Bounds, solver_of}
-use Rattle.comet_meaning.specs.Terms.{Term, belongs_to}
-use Rattle.comet_meaning.specs.Solvers.{SolverState, new_solver, fresh_values}
-use Rattle.comet_meaning.specs.Limits.{most_variables}
-use Rattle.comet_meaning.specs.Outcome.{Went, Act, ◌>>=◌, give, give_or_met, unless}
-use Rattle.comet_meaning.specs.Cells.{look, put}
-use Rattle.comet_meaning.specs.Levels.{Level}
-use Rattle.comet_meaning.specs.Parts.{solver_at, is_defined, bounds, number}
+use Rattle.term_model.specs.Kinds.{kinds_in, kind_of_term}
+use Rattle.term_model.specs.Subterms.{distinct_subterms, subterms, with_subterm}
+use Rattle.term_model.specs.declared.model.VarDecl.{VarDecl}
+use Rattle.term_model.specs.declared.term.Term.{Term}
+use Rattle.model_view.specs.Building.{constant, constant_set, with_definition}
+use Rattle.model_view.specs.Variables.{all_variables}
+use Rattle.comet_meaning.specs.Values.{Value, Nothing, Range, Solver, Variable, Bounds}
+use Rattle.comet_meaning.specs.Solvers.{SolverState, new_solver, has_variable, is_defined, kind_in, fresh_values, cycle_in, names_in}
+use Rattle.comet_meaning.specs.Limits.{most_terms}
+use Rattle.comet_meaning.specs.Outcome.{Went, Cyclic, Act, ◌>>=◌, give, halt, give_or_met, unless}
+use Rattle.comet_meaning.specs.Parts.{solver_at}
 
 -- a new solver, which gets the next number
 unfoldable pub make_solver : Act Value
@@ -28,85 +28,114 @@ put_solver k m = λ s. Went tt (record s { solvers = slice_set s.solvers k m })
 
 -- a closed solver is evaluated as it changes, and its first fault halts the run
 unfoldable pub put_evaluated : ℕ → SolverState → Act (Unit {0})
-put_evaluated k m = if m.closed then (give_or_met (fresh_values m) >>= λ values. put_solver k m) else put_solver k m
+put_evaluated k m = if m.closed then (give_or_met (fresh_values m) >>= λ fresh. put_solver k m) else put_solver k m
 
--- `close`
+-- `close`: a cycle of definitions halts the run before any is evaluated
 
 abbrev pub closed_now : SolverState → SolverState
 closed_now m = record m { closed = true }
 
+abbrev pub without_cycle : Place → SolverState → Option (List ℕ) → Act (Unit {0})
+without_cycle at m None = give tt
+without_cycle at m (Some xs) = halt (Cyclic at (names_in m xs))
+
+unfoldable pub closing : Place → ℕ → SolverState → Act Value
+closing at k m = do
+  _ ← unless (not m.closed) at AlreadyClosed
+  _ ← without_cycle at m (cycle_in m)
+  _ ← put_evaluated k (closed_now m)
+  give Nothing
+
 unfoldable pub close : Place → ℕ → Act Value
-close at k = λ s. (do
-  _ ← unless (not (solver_at s k).closed) at AlreadyClosed
-  _ ← put_evaluated k (closed_now (solver_at s k))
-  give Nothing) s
+close at k = λ s. closing at k (solver_at s k) s
+
+-- new numbers of variables, of which the last one counts
+
+abbrev pub after_moves : List (ℕ × ℤ) → List ℤ → List ℤ
+after_moves moves a = fold (λ b move. slice_set b move.0 move.1) a moves
+
+abbrev pub moving : ℕ → List (ℕ × ℤ) → SolverState → Option (List ℤ) → Act (Unit {0})
+moving k moves m None = put_evaluated k (record m { assignment = after_moves moves m.assignment })
+moving k moves m (Some a) = put_solver k (record m { waiting = Some (after_moves moves a) })
+
+-- they are committed at once, or wait where a `with` is open
+unfoldable pub move : ℕ → List (ℕ × ℤ) → Act (Unit {0})
+move k moves = λ s. moving k moves (solver_at s k) (solver_at s k).waiting s
+
+-- whether it is a variable of the solver with this number
+abbrev pub owns : ℕ → SolverState → VarId → Bool
+owns k m x = nat_eq x.solver k && has_variable m x.index
 
 -- `x := e`
 
-abbrev pub assigned : SolverState → ℕ → ℤ → SolverState
-assigned m x z = record m { assignment = slice_set m.assignment x z }
+unfoldable pub assigning : Place → VarId → ℤ → SolverState → Act (Unit {0})
+assigning at x z m = do
+  _ ← unless (owns x.solver m x) at WrongSolver
+  _ ← unless (not (is_defined m x.index)) at DefinedVariable
+  move x.solver ((x.index, z) ∷ [])
 
 unfoldable pub assign : Place → VarId → ℤ → Act (Unit {0})
-assign at x z = λ s. (do
-  _ ← unless (not (is_defined (solver_at s x.solver) x.index)) at DefinedVariable
-  put_evaluated x.solver (assigned (solver_at s x.solver) x.index z)) s
+assign at x z = λ s. assigning at x z (solver_at s x.solver) s
 
--- a variable's declaration
+-- `x :=: y`: each gets the number that the other has now
 
--- the domain of a variable without one
-abbrev pub all_numbers : Bounds
-all_numbers = record { low = negsuc 9223372036854775807; up = pos 9223372036854775807 }
+abbrev pub number_now : SolverState → ℕ → ℤ
+number_now m x = slice_index_or m.assignment x (pos 0)
 
-unfoldable pub domain_form : Level → Option Seen → Act Bounds
-domain_form l None = give all_numbers
-domain_form l (Some e) = bounds l (whole e)
+abbrev pub exchanged : SolverState → ℕ → ℕ → List (ℕ × ℤ)
+exchanged m x y = (x, number_now m y) ∷ (y, number_now m x) ∷ []
 
--- how a variable begins: with a number, or with a definition
-pub data Beginning : Type 0 where
-  free : ℤ → Beginning
-  defined : Term → Beginning
+unfoldable pub swapping : Place → VarId → VarId → SolverState → Act (Unit {0})
+swapping at x y m = do
+  _ ← unless (owns x.solver m x && owns x.solver m y) at WrongSolver
+  _ ← unless (not (is_defined m x.index) && not (is_defined m y.index)) at DefinedVariable
+  move x.solver (exchanged m x.index y.index)
 
-unfoldable pub started_form : Level → Way → Shape → Act Beginning
-started_form l ways.Define e = l.term e >>= λ t. give (defined t)
-started_form l w e = number l e >>= λ z. give (free z)
+unfoldable pub swap : Place → VarId → VarId → Act (Unit {0})
+swap at x y = λ s. swapping at x y (solver_at s x.solver) s
 
-unfoldable pub beginning_form : Level → Option Started → Act Beginning
-beginning_form l None = give (free (pos 0))
-beginning_form l (Some x) = started_form l x.way (whole x.value)
+-- `x <- e`
 
-abbrev pub first_number : Beginning → ℤ
-first_number (free z) = z
-first_number (defined t) = pos 0
+-- a checked program gives a variable a term of its kind; any other one stands for 0, or for the empty set
+abbrev pub same_kind : InputKind → Option InputKind → Bool
+same_kind number_kind (Some number_kind) = true
+same_kind set_kind (Some set_kind) = true
+same_kind k other = false
 
-abbrev pub definition_of : Beginning → Option Term
-definition_of (free z) = None
-definition_of (defined t) = Some t
+abbrev pub nothing_of : InputKind → Term
+nothing_of number_kind = constant (pos 0)
+nothing_of set_kind = constant_set []
 
--- whether all variables that it names are this solver's
-abbrev pub begins_in : ℕ → Beginning → Bool
-begins_in k (free z) = true
-begins_in k (defined t) = belongs_to k t
+abbrev pub term_for : SolverState → ℕ → Term → Term
+term_for m x t = if same_kind (kind_in m x) (kind_of_term (kinds_in m.model.vars.items) t) then t else nothing_of (kind_in m x)
 
-abbrev pub with_variable : SolverState → Bounds → Beginning → SolverState
-with_variable m d b = record m {
-  variables = m.variables ++ record { domain = d; definition = definition_of b } ∷ [];
-  assignment = m.assignment ++ first_number b ∷ [];
-}
+abbrev pub defined_by : SolverState → VarId → Term → SolverState
+defined_by m x t = record m { model = with_definition m.model x (term_for m x.index t) }
 
--- a new variable, which gets the next index
-unfoldable pub new_variable : Place → ℕ → Bounds → Beginning → Act Value
-new_variable at k d b = λ s. (do
-  _ ← unless (not (solver_at s k).closed) at AlreadyClosed
-  _ ← unless (nat_lt (length (solver_at s k).variables) most_variables) at (TooMany Variables)
-  _ ← unless (begins_in k b) at WrongSolver
-  _ ← put_solver k (with_variable (solver_at s k) d b)
-  give (Variable (record { solver = k; index = length (solver_at s k).variables }))) s
+-- whether a model has room for the distinct subterms of a term that aren't among its own
+abbrev pub has_room : SolverState → Term → Bool
+has_room m t = nat_le (length (fold with_subterm (distinct_subterms m.model) (subterms t))) most_terms
 
--- the domain, then the number or the term, and then the variable
-unfoldable pub variable_form : Level → Place → Varying → Act (Unit {0})
-variable_form l at v = do
-  d ← domain_form l v.domain
-  b ← beginning_form l v.start
-  m ← look v.solver
-  x ← new_variable at (solver_of m) d b
-  put v.slot x
+unfoldable pub defining : Place → VarId → Term → SolverState → Act (Unit {0})
+defining at x t m = do
+  _ ← unless (not m.closed) at AlreadyClosed
+  _ ← unless (owns x.solver m x && all_variables (owns x.solver m) t) at WrongSolver
+  _ ← unless (not (is_defined m x.index)) at DefinedVariable
+  _ ← unless (has_room m (term_for m x.index t)) at (TooMany TermNodes)
+  put_solver x.solver (defined_by m x t)
+
+unfoldable pub define : Place → VarId → Term → Act (Unit {0})
+define at x t = λ s. defining at x t (solver_at s x.solver) s
+
+-- `x.getDomain()`
+
+abbrev pub domain_in : Option VarDecl → Bounds
+domain_in None = record { low = pos 0; up = pos 0 }
+domain_in (Some d) = record { low = d.low; up = d.up }
+
+unfoldable pub domain_at : Place → VarId → SolverState → Act Value
+domain_at at x m = unless (owns x.solver m x) at WrongSolver >>= λ _. give (Range (domain_in (slice_get m.model.vars.items x.index)))
+
+unfoldable pub domain_of : Place → Value → Act Value
+domain_of at (Variable x) = λ s. domain_at at x (solver_at s x.solver) s
+domain_of at v = give Nothing

@@ -1,17 +1,19 @@
--- What a part of a program does: it gives a value and leaves a state, or it halts the run, with a fault or because the
--- fuel is spent, each at a place. Of a state at which a run halts only the fuel and what was printed are told. Parts
+-- What a part of a program does: it gives a value and leaves a state, or it halts the run, with a fault, because the fuel
+-- is spent, or at a cycle of definitions, each at a place. Of a state at which a run halts only the fuel and what was printed are told. Parts
 -- follow one another by `>>=`. A rule of this project.
 use Rattle.std.specs.Prelude.{ℕ, zero, suc, ◌-◌, ℤ, pos, ◌+ℤ◌, Bool, true, List, [], ◌∷◌, nat_le, Result, Ok, Err, if◌then◌else◌}
 use Rattle.cbl_base.specs.declared.place.Place.{Place}
 use Rattle.cbl_base.specs.declared.faults.RunFault.{RunFault}
 use Rattle.comet_meaning.specs.Values.{Value, Range, Set, size_of}
-use Rattle.comet_meaning.specs.Terms.{Failure}
+use Rattle.model_values.specs.declared.failure.Failure.{Failure}
 use Rattle.comet_meaning.specs.State.{State, Left, left}
 
 -- why a run ends before its last statement
 pub data Halt : Type 0 where
   Faulted : Place → RunFault → Halt
   SpentAt : Place → Halt
+  -- with the names of the variables on the cycle
+  Cyclic : Place → List (List ℕ) → Halt
 
 pub data Outcome (A : Type 0) : Type 0 where
   Went : A → State → Outcome A

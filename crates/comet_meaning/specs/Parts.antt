@@ -1,15 +1,20 @@
 -- The parts of an expression, and their values. Outside terms a variable is read as its value, where it stands: before
--- `close` only a free variable can be read. From the language.
-use Rattle.std.specs.Prelude.{ℕ, ℤ, pos, Bool, true, false, List, [], ◌∷◌, ◌++◌, Option, Some, None, Ok, slice_get, slice_index_or, if◌then◌else◌}
+-- `close` only a free variable of numbers can be read. From the language.
+use Rattle.std.specs.Prelude.{ℕ, ℤ, Bool, true, not, ◌&&◌, ◌||◌, List, [], ◌∷◌, ◌++◌, Option, Some, None, slice_index_or, if◌then◌else◌}
+use Rattle.cbl_base.specs.Inputs.{is_number_kind}
+use Rattle.cbl_base.specs.declared.input.Input.{Input}
 use Rattle.cbl_base.specs.declared.place.Place.{Place}
-use Rattle.cbl_base.specs.declared.faults.RunFault.TheVariants.{NotClosed}
+use Rattle.cbl_base.specs.declared.faults.RunFault.TheVariants.{NotClosed, WrongSolver}
 use Rattle.checked_tree.specs.Shape as shapes
 use Rattle.checked_tree.specs.Shape.{Shape}
-use Rattle.comet_meaning.specs.Values.{Value, Number, Variable, Bounds, number_of, truth_of, bounds_of}
-use Rattle.comet_meaning.specs.Terms.{Term, ◌and_then◌}
-use Rattle.comet_meaning.specs.Solvers.{SolverState, Modelled, new_solver, fresh_values}
+use Rattle.comet_meaning.specs.Values.{Value, Nothing, Variable, Bounds, number_of, truth_of, bounds_of, value_of_input}
+use Rattle.term_model.specs.Users.{no_users}
+use Rattle.term_model.specs.declared.term.Term.{Term}
+use Rattle.model_values.specs.VarOutcomes.{outcome_of_var}
+use Rattle.comet_meaning.specs.Terms.{TermCells, single_of, several_of}
+use Rattle.comet_meaning.specs.Solvers.{SolverState, new_solver, has_variable, is_defined, kind_in}
 use Rattle.comet_meaning.specs.State.{State}
-use Rattle.comet_meaning.specs.Outcome.{Act, ◌>>=◌, give, fault, give_or_met}
+use Rattle.comet_meaning.specs.Outcome.{Act, ◌>>=◌, give, fault}
 use Rattle.comet_meaning.specs.Levels.{Level}
 
 -- parts in a row
@@ -33,25 +38,21 @@ read_place e = place_of e
 abbrev pub solver_at : State → ℕ → SolverState
 solver_at s m = slice_index_or s.solvers m new_solver
 
-abbrev pub is_there : {A : Type 0} → Option A → Bool
-is_there None = false
-is_there (Some x) = true
+-- what a variable of a model comes to; in a closed solver each comes to a value
+abbrev pub value_of : Option Input → Value
+value_of (Some x) = value_of_input x
+value_of None = Nothing
 
-abbrev pub definition_in : Option Modelled → Option Term
-definition_in None = None
-definition_in (Some x) = x.definition
+abbrev pub value_now : SolverState → ℕ → Value
+value_now m x = value_of (outcome_of_var no_users m.model m.assignment x)
 
-abbrev pub is_defined : SolverState → ℕ → Bool
-is_defined m x = is_there (definition_in (slice_get m.variables x))
-
--- the number of a variable among those of all
-abbrev pub number_in : List ℤ → ℕ → Value
-number_in values x = Number (slice_index_or values x (pos 0))
+-- whether only a closed solver has a value for it
+abbrev pub needs_close : SolverState → ℕ → Bool
+needs_close m x = not m.closed && (is_defined m x || not (is_number_kind (kind_in m x)))
 
 unfoldable pub variable_value : Place → ℕ → SolverState → Act Value
 variable_value at x m =
-    if m.closed then give_or_met (fresh_values m and_then λ values. Ok (number_in values x))
-    else (if is_defined m x then fault at NotClosed else give (number_in m.assignment x))
+    if has_variable m x then (if needs_close m x then fault at NotClosed else give (value_now m x)) else fault at WrongSolver
 
 -- a variable is read as its value; anything else is itself
 unfoldable pub read : Place → Value → Act Value
@@ -81,3 +82,21 @@ condition l e = truth l e
 unfoldable pub values : Level → List Shape → List Value → Act (List Value)
 values l [] vs = give vs
 values l (e ∷ es) vs = value l e >>= λ v. values l es (vs ++ v ∷ [])
+
+-- parts of terms
+
+unfoldable pub term : Level → Shape → Act Term
+term l e = l.term e >>= λ t. give (single_of t)
+
+unfoldable pub terms : Level → Shape → Act TermCells
+terms l e = l.term e >>= λ t. give (several_of t)
+
+-- the terms of parts from the left, behind those before
+unfoldable pub each_term : Level → List Shape → List Term → Act (List Term)
+each_term l [] ts = give ts
+each_term l (e ∷ es) ts = term l e >>= λ t. each_term l es (ts ++ t ∷ [])
+
+-- whether a part of a term holds incremental variables
+abbrev pub is_moving : Shape → Bool
+is_moving (shapes.typed start place kind moving form) = moving
+is_moving x = not true

@@ -1,35 +1,53 @@
--- A solver is its model, an assignment, and whether it is closed. Once it is closed a free variable has its number in
--- the assignment, and a defined one the value of its term, where all variables have their values: each is evaluated
--- afresh. From the book: a defined variable always equals its expression.
-use Rattle.std.specs.Prelude.{ℤ, pos, Bool, false, List, [], ◌∷◌, ◌++◌, length, Option, Some, None, Result, Ok, slice_index_or}
-use Rattle.comet_meaning.specs.Values.{Bounds}
-use Rattle.comet_meaning.specs.Terms.{Term, Failure, ◌and_then◌, term_value}
-
--- a variable of a model: its domain, which is kept, and its definition, where it has one
-pub record Modelled : Type 0 where
-  pub domain : Bounds
-  pub definition : Option Term
+-- A solver is its model, an assignment, and whether it is closed; and beside these the names of its variables, and what
+-- waits for the end of an open `with`. Once it is closed the values of its variables are those of the model under the
+-- assignment, evaluated afresh. From the book: a defined variable always equals its expression.
+use Rattle.std.specs.Prelude.{ℕ, ℤ, Bool, false, List, [], length, map, Option, None, Some, Result, is_some, nat_lt, slice_index_or}
+use Rattle.cbl_base.specs.Inputs.{InputKind, number_kind}
+use Rattle.term_model.specs.Definitions.{definition_of}
+use Rattle.term_model.specs.Kinds.{kinds_in}
+use Rattle.term_model.specs.Users.{no_users}
+use Rattle.term_model.specs.declared.model.Model.{Model}
+use Rattle.model_values.specs.Fresh.{Fresh, fresh_of}
+use Rattle.model_values.specs.declared.failure.Failure.{Failure}
+use Rattle.model_view.specs.Building.{empty_model}
+use Rattle.model_view.specs.Naming.{named_cycle, dependencies}
 
 -- The assignment has a number for each variable; that of a defined one isn't looked at.
 pub record SolverState : Type 0 where
-  pub variables : List Modelled
+  pub model : Model
   pub assignment : List ℤ
   pub closed : Bool
+  pub names : List (List ℕ)
+  -- while a `with` is open, the assignment that its end commits
+  pub waiting : Option (List ℤ)
 
 abbrev pub new_solver : SolverState
-new_solver = record { variables = []; assignment = []; closed = false }
+new_solver = record { model = empty_model; assignment = []; closed = false; names = []; waiting = None }
 
--- the value of one more variable, from its number in the assignment and its definition
-abbrev pub value_behind : List ℤ → ℤ → Option Term → Result ℤ Failure
-value_behind known given None = Ok given
-value_behind known given (Some term) = term_value known term
+abbrev pub variable_count : SolverState → ℕ
+variable_count m = length m.model.vars.items
 
--- the values of all variables, behind those before; a definition names only variables before it
-abbrev pub values_behind : List ℤ → List Modelled → List ℤ → Result (List ℤ) Failure
-values_behind known [] given = Ok known
-values_behind known (x ∷ xs) given =
-    value_behind known (slice_index_or given (length known) (pos 0)) x.definition and_then λ v. values_behind (known ++ v ∷ []) xs given
+abbrev pub has_variable : SolverState → ℕ → Bool
+has_variable m x = nat_lt x (variable_count m)
 
--- the value of each variable, or the fault of the first operation that fails, in order of definition
-unfoldable pub fresh_values : SolverState → Result (List ℤ) Failure
-fresh_values m = values_behind [] m.variables m.assignment
+abbrev pub is_defined : SolverState → ℕ → Bool
+is_defined m x = is_some (definition_of m.model x)
+
+-- the kind of a variable, that of numbers where there is none
+abbrev pub kind_or_number : Option InputKind → InputKind
+kind_or_number (Some k) = k
+kind_or_number None = number_kind
+
+abbrev pub kind_in : SolverState → ℕ → InputKind
+kind_in m x = kind_or_number (kinds_in m.model.vars.items x)
+
+-- the values of all variables, or the fault of the least numbered operation that fails, with its place
+unfoldable pub fresh_values : SolverState → Result Fresh Failure
+fresh_values m = fresh_of no_users m.model m.assignment
+
+-- the cycle that is named, if definitions lead from a variable back to it, and the names of its variables
+abbrev pub cycle_in : SolverState → Option (List ℕ)
+cycle_in m = named_cycle (dependencies m.model)
+
+abbrev pub names_in : SolverState → List ℕ → List (List ℕ)
+names_in m xs = map (λ x. slice_index_or m.names x []) xs

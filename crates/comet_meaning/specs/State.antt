@@ -1,8 +1,9 @@
--- The state of a run: the cells of the global names and of those of the running call; the arrays and the objects; how
--- much fuel is left; and what was printed. The frames of the calls that wait are kept by these calls, and how many
+-- The state of a run: the cells of the global names and of those of the running call; the arrays of numbers and of
+-- variables, and the objects; how much fuel is left; and what was printed. The frames of the calls that wait are kept by these calls, and how many
 -- statements and expressions are being executed inside each other is told by the level of the meaning that is asked.
 -- From the language.
 use Rattle.std.specs.Prelude.{ℕ, ℤ, List, [], Option}
+use Rattle.cbl_base.specs.declared.ids.VarId.{VarId}
 use Rattle.comet_meaning.specs.Values.{Value, Bounds}
 use Rattle.comet_meaning.specs.Solvers.{SolverState}
 
@@ -12,10 +13,17 @@ pub record Cells : Type 0 where
   pub columns : Option Bounds
   pub numbers : List ℤ
 
+-- an array of variables in the same way
+pub record VariableCells : Type 0 where
+  pub rows : Bounds
+  pub columns : Option Bounds
+  pub variables : List VarId
+
 pub record State : Type 0 where
   pub globals : List Value
   pub frame : List Value
   pub arrays : List Cells
+  pub variable_arrays : List VariableCells
   pub solvers : List SolverState
   -- what each `InputFile` has not read yet
   pub inputs : List (List ℕ)
@@ -37,6 +45,7 @@ first_state fuel text = record {
   globals = [];
   frame = [];
   arrays = [];
+  variable_arrays = [];
   solvers = [];
   inputs = [];
   data_text = text;

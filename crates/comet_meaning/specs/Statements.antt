@@ -9,9 +9,10 @@ use Rattle.checked_tree.specs.Tasks.{Work}
 use Rattle.comet_meaning.specs.Outcome.{Act, ◌>>=◌, give, charge}
 use Rattle.comet_meaning.specs.Levels.{Level, Flow, Next, Returned}
 use Rattle.comet_meaning.specs.Parts.{value}
-use Rattle.comet_meaning.specs.Writes.{write_form, step_form}
+use Rattle.comet_meaning.specs.Writes.{write_form, swap_form, step_form}
 use Rattle.comet_meaning.specs.Declarations.{scalar_form, array_form, object_form}
-use Rattle.comet_meaning.specs.Models.{variable_form}
+use Rattle.comet_meaning.specs.Variables.{variable_form}
+use Rattle.comet_meaning.specs.Blocks.{together_form}
 use Rattle.comet_meaning.specs.Printing.{print_form}
 use Rattle.comet_meaning.specs.Loops.{tasks, tasks_form, if_form, if_else_form, while_form, for_form, for_all_form}
 
@@ -27,6 +28,7 @@ deed_form l at (deeds.declaring_array slot k sizes start) = array_form l at slot
 deed_form l at (deeds.declaring_variable v) = variable_form l at v
 deed_form l at (deeds.making slot k es) = object_form slot k
 deed_form l at (deeds.writing o t e) = write_form l at o t e
+deed_form l at (deeds.swapping a b) = swap_form l at a b
 deed_form l at (deeds.stepping x t) = step_form l at x t
 deed_form l at (deeds.doing e) = alone_form l e
 deed_form l at (deeds.printing xs) = print_form l xs
@@ -55,6 +57,7 @@ meaning_of_form l at (works.when_else e a b) = if_else_form l e a b
 meaning_of_form l at (works.loop test body) = while_form l at test body
 meaning_of_form l at (works.counting c test step body) = for_form l at c test (step_of l at step) body
 meaning_of_form l at (works.for_all gs c body) = for_all_form l at gs c body
+meaning_of_form l at (works.at_once mode slot body) = together_form l at slot body
 meaning_of_form l at w = give Next
 
 -- the place of a statement

@@ -1,40 +1,57 @@
--- Terms, which define variables: a number, a variable, or an operation with its place. The fault of a term is that of
--- its first operation, in post-order, whose parts have values and which fails. A rule of this project.
-use Rattle.std.specs.Prelude.{ℕ, ℤ, pos, Bool, true, ◌&&◌, nat_eq, List, Result, Ok, Err, slice_index_or}
-use Rattle.cbl_base.specs.declared.ids.VarId.{VarId}
-use Rattle.cbl_base.specs.declared.place.Place.{Place}
-use Rattle.cbl_base.specs.declared.faults.RunFault.{RunFault}
-use Rattle.comet_syntax.specs.declared.tree.expressions.ChainOperator.{ChainOperator}
-use Rattle.comet_meaning.specs.Arithmetic.{result_of}
+-- Terms, as statements make them: an expression stands in a term for a term, or for an array of terms. From the language.
+use Rattle.std.specs.Prelude.{ℕ, pos, List, [], length, map, Option, None, slice_index_or}
+use Rattle.term_model.specs.declared.term.Term.{Term}
+use Rattle.model_view.specs.Building.{constant, constant_set, variable}
+use Rattle.comet_meaning.specs.Values.{Value, Variable, Variables, Array, Row, Set, Bounds, Extent, from_zero, number_of}
+use Rattle.comet_meaning.specs.State.{State, Cells, VariableCells}
+use Rattle.comet_meaning.specs.Outcome.{Went, Act}
+use Rattle.comet_meaning.specs.Cells.{cells_of, variables_of}
 
-pub data Term : Type 0 where
-  constant : ℤ → Term
-  variable : VarId → Term
-  joined : ChainOperator → Place → Term → Term → Term
+-- an array of terms with one dimension or two, row by row
+pub record TermCells : Type 0 where
+  pub rows : Bounds
+  pub columns : Option Bounds
+  pub terms : List Term
 
--- a fault, and where
-pub record Failure : Type 0 where
-  pub place : Place
-  pub fault : RunFault
+pub data InTerm : Type 0 where
+  Single : Term → InTerm
+  Several : TermCells → InTerm
 
-infixl 10 ◌and_then◌
-abbrev pub ◌and_then◌ : {A B : Type 0} → Result A Failure → (A → Result B Failure) → Result B Failure
-(Ok x) and_then f = f x
-(Err failure) and_then f = Err failure
+-- terms in a row, as an array from 0
+abbrev pub term_row : List Term → TermCells
+term_row ts = record { rows = from_zero (length ts); columns = None; terms = ts }
 
--- a fault that is met at a place
-abbrev pub met_at : {A : Type 0} → Place → Result A RunFault → Result A Failure
-met_at place (Ok x) = Ok x
-met_at place (Err fault) = Err (record { place = place; fault = fault })
+abbrev pub term_extent : TermCells → Extent
+term_extent c = record { rows = c.rows; columns = c.columns }
 
--- the value of a term where the variables have these values, by their indices
-abbrev pub term_value : List ℤ → Term → Result ℤ Failure
-term_value values (constant z) = Ok z
-term_value values (variable x) = Ok (slice_index_or values x.index (pos 0))
-term_value values (joined o place a b) = term_value values a and_then λ x. term_value values b and_then λ y. met_at place (result_of o x y)
+abbrev pub term_at : TermCells → ℕ → Term
+term_at c k = slice_index_or c.terms k (constant (pos 0))
 
--- whether all variables in a term are this solver's
-abbrev pub belongs_to : ℕ → Term → Bool
-belongs_to m (constant z) = true
-belongs_to m (variable x) = nat_eq x.solver m
-belongs_to m (joined o place a b) = belongs_to m a && belongs_to m b
+-- What is asked of what stands in a term; a checked program asks an array only of an array.
+
+abbrev pub single_of : InTerm → Term
+single_of (Single t) = t
+single_of (Several c) = constant (pos 0)
+
+abbrev pub several_of : InTerm → TermCells
+several_of (Several c) = c
+several_of (Single t) = term_row []
+
+-- what a value stands for: a variable for itself, and a truth value for 1 or 0
+
+abbrev pub constants : Cells → TermCells
+constants c = record { rows = c.rows; columns = c.columns; terms = map constant c.numbers }
+
+abbrev pub variable_terms : VariableCells → TermCells
+variable_terms c = record { rows = c.rows; columns = c.columns; terms = map variable c.variables }
+
+abbrev pub standing_of : State → Value → InTerm
+standing_of s (Variable x) = Single (variable x)
+standing_of s (Set xs) = Single (constant_set xs)
+standing_of s (Variables n) = Several (variable_terms (variables_of s (Variables n)))
+standing_of s (Array n) = Several (constants (cells_of s (Array n)))
+standing_of s (Row xs) = Several (constants (cells_of s (Row xs)))
+standing_of s v = Single (constant (number_of v))
+
+unfoldable pub standing : Value → Act InTerm
+standing v = λ s. Went (standing_of s v) s

@@ -1,8 +1,10 @@
 -- Values are what expressions give and what the cells of names hold. Numbers, truth values, ranges and sets are
 -- values of their own, and are copied. An array, a variable and an object are known by their numbers, so all who
 -- have one have the same. From the language.
-use Rattle.std.specs.Prelude.{ℕ, suc, ℤ, pos, ◌-ℤ◌, Bool, false, not, ◌&&◌, List, [], nat_abs, int_lt, if◌then◌else◌}
+use Rattle.std.specs.Prelude.{ℕ, suc, ℤ, pos, ◌-ℤ◌, Bool, false, not, ◌&&◌, List, [], Option, nat_abs, int_lt, if◌then◌else◌}
 use Rattle.cbl_base.specs.declared.ids.VarId.{VarId}
+use Rattle.cbl_base.specs.declared.input.Input.{Input as ModelValue}
+use Rattle.cbl_base.specs.declared.input.Input.TheVariants as inputs
 use Rattle.checked_tree.specs.declared.kind.Kind.{Kind}
 use Rattle.checked_tree.specs.declared.kind.Kind.TheVariants as kinds
 
@@ -10,6 +12,11 @@ use Rattle.checked_tree.specs.declared.kind.Kind.TheVariants as kinds
 pub record Bounds : Type 0 where
   pub low : ℤ
   pub up : ℤ
+
+-- the bounds of an array's first index, and of its second one where it has two
+pub record Extent : Type 0 where
+  pub rows : Bounds
+  pub columns : Option Bounds
 
 pub data Value : Type 0 where
   -- what gives no value
@@ -22,7 +29,9 @@ pub data Value : Type 0 where
   Array : ℕ → Value
   -- numbers in a row that are no array yet: what a list or an `all` gives
   Row : List ℤ → Value
+  -- a variable that isn't read yet, and an array of variables, by its number
   Variable : VarId → Value
+  Variables : ℕ → Value
   Solver : ℕ → Value
   Input : ℕ → Value
 
@@ -50,6 +59,11 @@ members_of v = []
 abbrev pub solver_of : Value → ℕ
 solver_of (Solver m) = m
 solver_of v = 0
+
+-- the value of a variable as a model has it
+abbrev pub value_of_input : ModelValue → Value
+value_of_input (inputs.Int z) = Number z
+value_of_input (inputs.Set s) = Set s
 
 -- how many numbers lie within bounds
 abbrev pub size_of : Bounds → ℕ

@@ -7,17 +7,18 @@ use Rattle.comet_syntax.specs.declared.tree.statements.Step.{Step}
 use Rattle.comet_syntax.specs.declared.tree.statements.Step.TheVariants as steps
 use Rattle.comet_syntax.specs.declared.tree.statements.WriteOperator.{WriteOperator}
 use Rattle.comet_syntax.specs.declared.tree.statements.WriteOperator.TheVariants as writes
+use Rattle.term_model.specs.declared.term.Term.{Term}
 use Rattle.checked_tree.specs.declared.kind.Kind.{Kind}
 use Rattle.checked_tree.specs.declared.kind.Kind.TheVariants as kinds
 use Rattle.checked_tree.specs.declared.expressions.Slot.{Slot}
 use Rattle.checked_tree.specs.Shape as shapes
 use Rattle.checked_tree.specs.Shape.{Shape, Seen, whole}
-use Rattle.comet_meaning.specs.Values.{Value, Nothing, Number, Array, Variable, number_of, as_kind}
+use Rattle.comet_meaning.specs.Values.{Value, Nothing, Number, Array, Variable, Variables, number_of, as_kind}
 use Rattle.comet_meaning.specs.Outcome.{Act, ◌>>=◌, give, give_or}
-use Rattle.comet_meaning.specs.Cells.{look, put, cells, at_index, at_indices, found_at, number_at, put_number}
+use Rattle.comet_meaning.specs.Cells.{look, put, cells, extent, cell, at_index, at_indices, found_at, number_at, put_number}
 use Rattle.comet_meaning.specs.Levels.{Level, Target, Nowhere, Name, Element, Moved}
-use Rattle.comet_meaning.specs.Parts.{value, number}
-use Rattle.comet_meaning.specs.Models.{assign}
+use Rattle.comet_meaning.specs.Parts.{value, number, term}
+use Rattle.comet_meaning.specs.Models.{assign, swap, define}
 
 -- what is written
 
@@ -25,31 +26,34 @@ abbrev pub moved : Value → Target
 moved (Variable x) = Moved x
 moved v = Nowhere
 
-abbrev pub element_of : Value → ℕ → Target
-element_of (Array n) k = Element n k
-element_of v k = Nowhere
+-- a cell of an array of numbers, and of one of variables the variable
+unfoldable pub element_of : Value → ℕ → Act Target
+element_of (Array n) k = give (Element n k)
+element_of (Variables n) k = cell (Variables n) k >>= λ v. give (moved v)
+element_of v k = give Nowhere
 
 -- a name of a variable stands for the variable, and any other for its own cell
 unfoldable pub name_target : Kind → Slot → Act Target
 name_target kinds.Variable slot = look slot >>= λ v. give (moved v)
+name_target kinds.SetVariable slot = look slot >>= λ v. give (moved v)
 name_target kind slot = give (Name slot)
 
 unfoldable pub index_target : Level → Place → Shape → Shape → Act Target
 index_target l at a i = do
   v ← value l a
   z ← number l i
-  c ← cells v
-  k ← found_at at (at_index c z)
-  give (element_of v k)
+  b ← extent v
+  k ← found_at at (at_index b z)
+  element_of v k
 
 unfoldable pub cell_target : Level → Place → Shape → Shape → Shape → Act Target
 cell_target l at a i j = do
   v ← value l a
   y ← number l i
   z ← number l j
-  c ← cells v
-  k ← found_at at (at_indices c y z)
-  give (element_of v k)
+  b ← extent v
+  k ← found_at at (at_indices b y z)
+  element_of v k
 
 unfoldable pub target_of_form : Level → Place → Kind → Shape → Act Target
 target_of_form l at kind (shapes.name slot) = name_target kind slot
@@ -95,13 +99,36 @@ add_form l at f t e = do
   z ← number l (whole e)
   changed at target (f (number_of old) z)
 
--- a definition is no statement yet
+-- `t <- e`
+
+abbrev pub defined_at : Place → Target → Term → Act (Unit {0})
+defined_at at (Moved x) u = define at x u
+defined_at at target u = give tt
+
+unfoldable pub define_form : Level → Place → Seen → Seen → Act (Unit {0})
+define_form l at t e = do
+  target ← l.target (whole t)
+  u ← term l (whole e)
+  defined_at at target u
+
+-- `a :=: b`
+
+abbrev pub swapped_at : Place → Target → Target → Act (Unit {0})
+swapped_at at (Moved x) (Moved y) = swap at x y
+swapped_at at target other = give tt
+
+unfoldable pub swap_form : Level → Place → Seen → Seen → Act (Unit {0})
+swap_form l at a b = do
+  target ← l.target (whole a)
+  other ← l.target (whole b)
+  swapped_at at target other
+
 unfoldable pub write_form : Level → Place → WriteOperator → Seen → Seen → Act (Unit {0})
 write_form l at writes.Set t e = assign_form l at t e
 write_form l at writes.Assign t e = assign_form l at t e
 write_form l at writes.Add t e = add_form l at ◌+ℤ◌ t e
 write_form l at writes.Subtract t e = add_form l at ◌-ℤ◌ t e
-write_form l at writes.Define t e = give tt
+write_form l at writes.Define t e = define_form l at t e
 
 -- `t++` and `t--`
 

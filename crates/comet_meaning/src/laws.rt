@@ -3,7 +3,7 @@ ghost use Rattle.std.specs.Prelude.{◌≡◌, ℕ, ◌≤◌, true, List, [], c
 ghost use Rattle.cbl_base.specs.declared.place.Place.{Place};
 ghost use Rattle.checked_tree.specs.Shape.{Shape, Seen, whole};
 ghost use Rattle.checked_tree.specs.Tasks.{Coded, Whole, Work};
-ghost use Rattle.cbl_base.specs.declared.faults.RunFault.TheVariants.{Depth, DefinedVariable, NoData, NotClosed, Overflow};
+ghost use Rattle.cbl_base.specs.declared.faults.RunFault.TheVariants.{AlreadyClosed, Depth, DivideByZero, NoData, NotClosed, WrongSolver};
 ghost use Rattle.comet_meaning.specs.Outcome.{Faulted, SpentAt, then_do, give};
 ghost use Rattle.comet_meaning.specs.Loops.{while_form, turn_form, end_or};
 ghost use Rattle.comet_meaning.specs.State.{State};
@@ -61,25 +61,31 @@ pub fn numbers_are_read_in_order()
     ensures { meaning examples.reading 10 (codes " 7\n") ≡ record { end = Stopped (Faulted (examples.column 55) NoData); fuel = 5; printed = codes "7\n" } }
 {}
 
-/// A defined variable equals its expression at `close` and behind each assignment.
-pub fn square_invariant()
-    ensures { meaning examples.squaring 8 [] ≡ record { end = Done; fuel = 0; printed = codes "10\n26\n" } }
+/// What is assigned in a `with` waits for its end, and what is read there has the value of its start. A block inside it on
+/// the same solver is a part of it, and of several numbers for a variable the last one counts.
+pub fn blocks_commit_at_their_end()
+    ensures one { (meaning examples.committing 100 []).printed ≡ codes "2 1\n" }
+    ensures inner { (meaning examples.joining 100 []).printed ≡ codes "5 1\n" }
+    ensures early { (meaning examples.committing_early 100 []).end ≡ Stopped (Faulted (examples.column 57) NotClosed) }
 {}
 
-/// `close` has the fault of the operation that fails, at its place.
-pub fn close_evaluates_all()
-    ensures { (meaning examples.squaring_too_much 10 []).end ≡ Stopped (Faulted (examples.column 55) Overflow) }
+/// A swap gives each of two variables the number of the other, also before `close`; variables of two solvers are no pair.
+pub fn swaps_exchange_numbers()
+    ensures numbers { (meaning examples.exchanging 100 []).printed ≡ codes "2 1\n" }
+    ensures apart { (meaning examples.exchanging_apart 100 []).end ≡ Stopped (Faulted (examples.column 88) WrongSolver) }
 {}
 
-/// A defined variable has no value before `close`.
-pub fn defined_variable_waits_for_close()
-    ensures { (meaning examples.reading_early 10 []).end ≡ Stopped (Faulted (examples.column 69) NotClosed) }
-{}
-
-/// The right side of an assignment is evaluated before the solver refuses it.
+/// The right side of a definition is evaluated before the solver refuses it, and a solver is closed once.
 pub fn right_side_comes_first()
-    ensures right { (meaning examples.assigning_too_much 10 []).end ≡ Stopped (Faulted (examples.column 86) Overflow) }
-    ensures solver { (meaning examples.assigning_defined 10 []).end ≡ Stopped (Faulted (examples.column 61) DefinedVariable) }
+    ensures right { (meaning examples.defining_by_zero 100 []).end ≡ Stopped (Faulted (examples.column 75) DivideByZero) }
+    ensures solver { (meaning examples.closing_twice 100 []).end ≡ Stopped (Faulted (examples.column 70) AlreadyClosed) }
+{}
+
+/// An array of variables costs a unit for each cell where it is declared, and where it is printed; each of its cells is
+/// a variable of its own.
+pub fn cells_are_variables()
+    ensures enough { meaning examples.squaring_cells 15 [] ≡ record { end = Done; fuel = 0; printed = codes "[1,4,9]4[1,7,9]0..9" } }
+    ensures less { (meaning examples.squaring_cells 14 []).end ≡ Stopped (SpentAt (examples.column 106)) }
 {}
 
 /// A function writes the array that it is given, and its own copy of a set.

@@ -10,8 +10,6 @@ pub mod laws;
 mod lex_comment;
 mod lex_front;
 mod lex_string;
-#[cfg(test)]
-mod lex_tests;
 mod lexeme;
 mod lexer;
 mod limits;

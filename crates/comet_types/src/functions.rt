@@ -1,7 +1,7 @@
 //! What functions are, with their effects.
 ghost use Rattle.std.specs.Prelude.{◌≡◌, map};
 ghost use Rattle.checked_tree.specs.Tasks.{work_of, function_of};
-ghost use Rattle.checked_tree.specs.Makes.{Makes};
+ghost use Rattle.tree_makers.specs.Makes.{Makes};
 ghost use Rattle.type_scopes.specs.Did.{Did};
 ghost use Rattle.type_scopes.specs.Names as names;
 ghost use Rattle.type_expressions.specs.Expressions as expressions;

@@ -9,8 +9,6 @@ mod item;
 pub mod laws;
 mod limits;
 mod setting;
-#[cfg(test)]
-mod tests;
 mod value;
 mod words;
 

@@ -19,6 +19,3 @@ pub use any_of::AnyOf;
 pub use of_one::OfOne;
 pub use relation::Relation;
 pub use weighted_total::WeightedTotal;
-
-#[cfg(test)]
-mod tests;

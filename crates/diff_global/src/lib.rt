@@ -9,8 +9,6 @@
 
 mod all_different;
 mod cardinality;
-#[cfg(test)]
-mod tests;
 
 pub use all_different::AllDifferent;
 pub use cardinality::{Cardinality, Demand};

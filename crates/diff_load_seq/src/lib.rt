@@ -18,6 +18,3 @@ mod windows;
 pub use knapsack::Knapsack;
 pub use multi_knapsack::MultiKnapsack;
 pub use sequence::Sequence;
-
-#[cfg(test)]
-mod tests;

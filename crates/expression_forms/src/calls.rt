@@ -2,7 +2,7 @@
 ghost use Rattle.std.specs.Prelude.{◌≡◌, ℕ, List, [], Option, Some, map};
 ghost use Rattle.checked_tree.specs.Tasks.{function_of};
 ghost use Rattle.comet_meaning.specs.Calls as calls;
-ghost use Rattle.comet_meaning.specs.Methods.{method_form};
+ghost use Rattle.comet_meaning.specs.Methods.{method_form, object_value};
 ghost use Rattle.comet_meaning.specs.Program.{level};
 ghost use Rattle.run_steps.specs.Does.{Does};
 ghost use Rattle.run_steps.specs.Views.{code_seen, part, row};
@@ -134,7 +134,25 @@ pub fn evaluate_method<O: Out, W: Within<O>>(
     requires ready { W.is_ready inside.now }
     ensures did { Does value_seen result (state_seen s.new (O.taken out.new)) (method_form (level (W.code inside.now) (W.depth inside.now)) at method (part object.now) (row arguments.now) (state_seen s.old (O.taken out.old))) }
 {
-    let value = value_of(s, out, inside, object)?;
+    let value = object_value(s, out, inside, method, object)?;
     let values = values_of(s, out, inside, arguments);
     call_on(s, at, method, object, &value, values)
+}
+
+/// The object of a method: a variable whose domain is asked itself, and else a value.
+#[tactic(auto, unfolding(comet_meaning::specs::Methods::object_value))]
+fn object_value<O: Out, W: Within<O>>(
+    s: &mut State,
+    out: &mut O,
+    inside: &W,
+    method: Method,
+    object: &Typed,
+) -> Result<Value, Stop>
+    requires ready { W.is_ready inside.now }
+    ensures did { Does value_seen result (state_seen s.new (O.taken out.new)) (object_value (level (W.code inside.now) (W.depth inside.now)) method (part object.now) (state_seen s.old (O.taken out.old))) }
+{
+    match method {
+        Method::Domain => inside.evaluate(s, out, object),
+        _ => value_of(s, out, inside, object),
+    }
 }

@@ -22,7 +22,7 @@ use run_state::{Out, State};
 use run_steps::code::Code;
 use run_steps::inside::Within;
 use run_steps::operands::{as_bounds, as_held, as_number, as_truth, read_part};
-use run_steps::plain::{plain_number, plain_truth, plain_value};
+use run_steps::plain::{plain_name, plain_number, plain_truth, plain_value};
 use run_values::{Bounds, Stop, Value};
 
 /// The value of a form of an expression of this kind at this place.
@@ -99,10 +99,55 @@ pub fn value_of<O: Out, W: Within<O>>(
 {
     match plain_value(s, inside.room(), e) {
         Some(value) => Ok(value),
-        None => {
-            let value = inside.evaluate(s, out, e);
-            read_part(s, e, value)
-        }
+        None => called_value_of(s, out, inside, e),
+    }
+}
+
+/// The value of a part that isn't plain, where a variable is read.
+fn called_value_of<O: Out, W: Within<O>>(
+    s: &mut State,
+    out: &mut O,
+    inside: &W,
+    e: &Typed,
+) -> Result<Value, Stop>
+    requires ready { W.is_ready inside.now }
+    ensures did { Does value_seen result (state_seen s.new (O.taken out.new)) (parts.value (level (W.code inside.now) (W.depth inside.now)) (part e.now) (state_seen s.old (O.taken out.old))) }
+{
+    match inside.called_number(s, e) {
+        Some(number) => Ok(Value::Number(number)),
+        None => evaluated_value_of(s, out, inside, e),
+    }
+}
+
+/// The same, whatever the part is.
+#[tactic(auto, unfolding(comet_meaning::specs::Parts::value))]
+fn evaluated_value_of<O: Out, W: Within<O>>(
+    s: &mut State,
+    out: &mut O,
+    inside: &W,
+    e: &Typed,
+) -> Result<Value, Stop>
+    requires ready { W.is_ready inside.now }
+    ensures did { Does value_seen result (state_seen s.new (O.taken out.new)) (parts.value (level (W.code inside.now) (W.depth inside.now)) (part e.now) (state_seen s.old (O.taken out.old))) }
+{
+    let value = inside.evaluate(s, out, e);
+    read_part(s, e, value)
+}
+
+/// The value of a part that is no plain number, where a variable is read.
+#[tactic(auto, unfolding(comet_meaning::specs::Parts::value))]
+pub fn other_value_of<O: Out, W: Within<O>>(
+    s: &mut State,
+    out: &mut O,
+    inside: &W,
+    e: &Typed,
+) -> Result<Value, Stop>
+    requires ready { W.is_ready inside.now }
+    ensures did { Does value_seen result (state_seen s.new (O.taken out.new)) (parts.value (level (W.code inside.now) (W.depth inside.now)) (part e.now) (state_seen s.old (O.taken out.old))) }
+{
+    match plain_name(s, inside.room(), e) {
+        Some(value) => Ok(value),
+        None => called_value_of(s, out, inside, e),
     }
 }
 

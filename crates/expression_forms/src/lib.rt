@@ -10,5 +10,4 @@ pub mod arrays;
 pub mod calls;
 pub mod expressions;
 pub mod operators;
-pub mod terms;
 pub mod tuples;

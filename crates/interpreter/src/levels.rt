@@ -4,6 +4,7 @@ ghost use Rattle.checked_tree.specs.Tasks.{work_of};
 ghost use Rattle.comet_meaning.specs.Limits.{most_depth};
 ghost use Rattle.comet_meaning.specs.Loops.{tasks_form};
 ghost use Rattle.comet_meaning.specs.Program.{level};
+ghost use Rattle.run_state.specs.InTerms.{in_term_seen};
 ghost use Rattle.run_state.specs.Targets.{target_seen};
 ghost use Rattle.run_state.specs.Views.{state_seen};
 ghost use Rattle.run_steps.specs.Does.{Does};
@@ -13,14 +14,13 @@ ghost use Rattle.run_values.specs.Views.{value_seen};
 use cbl_base::RunFault;
 use checked_tree::{Task, Typed};
 use expression_forms::expressions::evaluate_form;
-use expression_forms::terms::{constant_term, moving_term};
-use run_models::Term;
-use run_state::{Out, State, Target};
+use run_state::{InTerm, Out, State, Target};
 use run_steps::code::{Code, Flow};
 use run_steps::inside::Inside;
 use run_values::{Stop, Value};
 use statement_forms::statements::{execute_act, execute_all};
 use statement_forms::targets::target_of_form;
+use term_forms::terms::{constant_term, moving_term};
 
 /// How many statements and expressions may be executed inside each other.
 const MOST_DEPTH: u32 = 1000;
@@ -93,7 +93,8 @@ fn locate<O: Out>(
     target_of_form(s, out, &inside, &target, e.place, e.kind, &e.form)
 }
 
-/// The term of an expression, with the same room and fault: a part without incremental variables is its value now.
+/// What an expression stands for in a term, with the same room and fault: a part without incremental variables for its
+/// value now.
 #[cycle(run)]
 fn define<O: Out>(
     s: &mut State,
@@ -101,8 +102,8 @@ fn define<O: Out>(
     code: &Code<'_>,
     room: u32,
     e: &Typed,
-) -> Result<Term, Stop>
-    ensures did { Does (λ t. t) result (state_seen s.new (O.taken out.new)) ((level (code_seen code.now) room).term (part e.now) (state_seen s.old (O.taken out.old))) }
+) -> Result<InTerm, Stop>
+    ensures did { Does in_term_seen result (state_seen s.new (O.taken out.new)) ((level (code_seen code.now) room).term (part e.now) (state_seen s.old (O.taken out.old))) }
 {
     if room == 0 {
         return Err(Stop::Fault(e.place, RunFault::Depth));
@@ -114,8 +115,8 @@ fn define<O: Out>(
     let statement = |s: &mut State, out: &mut O, t: &Task| -> Result<Flow, Stop>
         ensures did { Does flow_seen result (state_seen s.new (O.taken out.new)) ((level (code_seen code.entry.now) room).stmt (work_of t.now) (state_seen s.old (O.taken out.old))) }
     { execute(s, out, code, room, t) };
-    let term = |s: &mut State, out: &mut O, e: &Typed| -> Result<Term, Stop>
-        ensures did { Does (λ t. t) result (state_seen s.new (O.taken out.new)) ((level (code_seen code.entry.now) room).term (part e.now) (state_seen s.old (O.taken out.old))) }
+    let term = |s: &mut State, out: &mut O, e: &Typed| -> Result<InTerm, Stop>
+        ensures did { Does in_term_seen result (state_seen s.new (O.taken out.new)) ((level (code_seen code.entry.now) room).term (part e.now) (state_seen s.old (O.taken out.old))) }
     { define(s, out, code, room, e) };
     let inside = Inside {
         code,
@@ -126,7 +127,7 @@ fn define<O: Out>(
         locate: (),
     };
     if e.moving {
-        moving_term(s, out, &inside, &e.form)
+        moving_term(s, out, &inside, e.place, &e.form)
     } else {
         constant_term(s, out, &inside, code, e.place, e.kind, &e.form)
     }
@@ -154,8 +155,8 @@ fn execute<O: Out>(
     let statement = |s: &mut State, out: &mut O, t: &Task| -> Result<Flow, Stop>
         ensures did { Does flow_seen result (state_seen s.new (O.taken out.new)) ((level (code_seen code.entry.now) room).stmt (work_of t.now) (state_seen s.old (O.taken out.old))) }
     { execute(s, out, code, room, t) };
-    let term = |s: &mut State, out: &mut O, e: &Typed| -> Result<Term, Stop>
-        ensures did { Does (λ t. t) result (state_seen s.new (O.taken out.new)) ((level (code_seen code.entry.now) room).term (part e.now) (state_seen s.old (O.taken out.old))) }
+    let term = |s: &mut State, out: &mut O, e: &Typed| -> Result<InTerm, Stop>
+        ensures did { Does in_term_seen result (state_seen s.new (O.taken out.new)) ((level (code_seen code.entry.now) room).term (part e.now) (state_seen s.old (O.taken out.old))) }
     { define(s, out, code, room, e) };
     let target = |s: &mut State, out: &mut O, e: &Typed| -> Result<Target, Stop>
         ensures did { Does target_seen result (state_seen s.new (O.taken out.new)) ((level (code_seen code.entry.now) room).target (part e.now) (state_seen s.old (O.taken out.old))) }

@@ -18,8 +18,6 @@ mod rounds;
 mod search;
 mod shortest;
 mod stop;
-#[cfg(test)]
-mod tests;
 mod uses;
 
 pub use layers::Layers;

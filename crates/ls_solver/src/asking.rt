@@ -1,10 +1,12 @@
 //! What a caller may ask before a call that needs it.
-ghost use Rattle.std.specs.Prelude.{◌≡◌, ◌<◌, ℕ, [], false, Some, length, IfOk};
+ghost use Rattle.std.specs.Prelude.{◌≡◌, ◌<◌, ◌≤◌, ℕ, [], false, Some, length, IfOk};
 ghost use Rattle.std.specs.Bool.{OnFalse, OnTrue};
 ghost use Rattle.std.specs.Option.{option_map};
 ghost use Rattle.cbl_base.specs.Inputs.{number_kind};
+ghost use Rattle.cbl_base.specs.declared.limits.TheConstants.{MAX_TERM_DEPTH};
 ghost use Rattle.ls_solver.specs.Asking.{own_kind};
 ghost use Rattle.ls_solver.specs.Kept.{AreMarkedOrNumbers, mark_at};
+ghost use Rattle.term_model.specs.Depth.{depth_of};
 ghost use Rattle.term_model.specs.Kinds.{kind_of_term, kind_of_var, kinds_in};
 ghost use Rattle.term_model.specs.Naming.{users_of};
 ghost use Rattle.term_model.specs.Wellformed.{HasDefinedSets};
@@ -13,7 +15,7 @@ use crate::defining::mark_at;
 use crate::solver::Solver;
 use cbl_base::{NoMemory, VarId};
 use std::alloc::Global;
-use term_model::{Term, VarDecl, VarKind, kind_at, kind_within, push_users};
+use term_model::{Term, VarDecl, VarKind, kind_at, kind_within, push_users, term_kind};
 
 /// Whether a term holds a user's constraint.
 fn holds_user(alloc: Global, term: &Term) -> Result<bool, NoMemory>
@@ -85,6 +87,14 @@ impl Solver {
             return None;
         }
         kind_at(&self.model.vars, x.index)
+    }
+
+    /// The kind of a term that is no deeper than the limit, exactly where it is well kinded.
+    pub fn kind_of(&self, term: &Term) -> Result<Option<VarKind>, NoMemory>
+        requires { depth_of term.now ≤ MAX_TERM_DEPTH }
+        ensures { IfOk result (λ kind. option_map kind_of_var kind ≡ kind_of_term (kinds_in self.now.model.vars.items) term.now) }
+    {
+        term_kind(self.alloc, &self.model.vars, term)
     }
 
     /// Whether a term is of the kind of a variable, and holds no user's constraint, as `define` needs. That it says so

@@ -114,6 +114,19 @@ impl Solver {
         requires kinds { (k : ℕ) (m : VarId × ℤ) → slice_get moves.now k ≡ Some m → is_own self.old m.0 ≡ true → kinds_in self.old.model.vars.items m.0.index ≡ Some number_kind }
         ensures { Commits self.old moves.now self.new result }
     {
+        self.commit_uncounted(moves)
+    }
+
+    /// The same without a count of steps.
+    pub fn commit_uncounted(
+        &mut self,
+        moves: &[(VarId, i64)],
+    ) -> Result<Vec<VarChange>, SolverFault>
+        requires usable { self.old.usable ≡ true }
+        requires distinct { AreDistinct moves.now }
+        requires kinds { (k : ℕ) (m : VarId × ℤ) → slice_get moves.now k ≡ Some m → is_own self.old m.0 ≡ true → kinds_in self.old.model.vars.items m.0.index ≡ Some number_kind }
+        ensures { Commits self.old moves.now self.new result }
+    {
         match self.commit_refusal(moves) {
             Some(fault) => Err(SolverFault::Run(fault)),
             None => self.commit_own(moves),

@@ -74,8 +74,10 @@ impl Solver {
         Some(RunFault::TooMany(Limit::Variables))
     }
 
-    /// Puts a variable behind the others.
-    fn declare(&mut self, decl: VarDecl, start: i64) -> Result<VarId, SolverFault>
+    /// A new variable as it is declared, and with its number in the assignment. A set variable must have a definition once
+    /// the solver is closed. Refused as `new_var`.
+    pub fn declare(&mut self, decl: VarDecl, start: i64) -> Result<VarId, SolverFault>
+        requires { self.old.usable ≡ true }
         ensures answer { Answers (variable_refusal self.old) result }
         ensures id { IfOk result (λ x. x ≡ id_at self.old (length self.old.model.vars.items)) }
         ensures declared { OnOk result (Declares self.old self.new decl start) }

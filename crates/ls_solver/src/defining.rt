@@ -96,7 +96,7 @@ fn push_definition(model: &mut Model, definition: Definition) -> Result<(), NoMe
 
 impl Solver {
     /// Why a variable can't have a definition, whatever the size of its term.
-    fn early_refusal(&self, x: VarId, term: &Term) -> Option<RunFault>
+    pub fn early_refusal(&self, x: VarId, term: &Term) -> Option<RunFault>
         ensures { result ≡ early_refusal self.now x term.now }
     {
         if self.closed {

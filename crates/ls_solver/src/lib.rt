@@ -20,8 +20,6 @@ mod fault;
 mod ids;
 mod reading;
 mod solver;
-#[cfg(test)]
-mod tests;
 
 pub use fault::SolverFault;
 pub use solver::Solver;

@@ -46,7 +46,7 @@ fn start_in(assignment: &[i64], index: u32) -> i64
 
 impl Solver {
     /// Whether a variable is this solver's.
-    pub(crate) fn owns(&self, x: VarId) -> bool
+    pub fn owns(&self, x: VarId) -> bool
         ensures { result ≡ is_own self.now x }
     {
         is_given(self.number, self.model.vars.len(), x)
@@ -54,7 +54,7 @@ impl Solver {
 
     /// Whether a variable is this solver's and has a definition.
     #[tactic(auto, using(crate::proofs::MarkLaws::marked_is))]
-    fn defines(&self, x: VarId) -> bool
+    pub fn defines(&self, x: VarId) -> bool
         ensures { result ≡ (is_own self.now x && has_definition self.now.model x.index) }
     {
         is_given(self.number, self.model.vars.len(), x) && mark_at(&self.marks, x.index)
@@ -132,7 +132,6 @@ impl Solver {
     /// isn't this solver's. It never wants memory.
     pub fn domain(&self, x: VarId) -> Result<(i64, i64), SolverFault>
         requires usable { self.now.usable ≡ true }
-        requires kind { is_own self.now x ≡ true → kinds_in self.now.model.vars.items x.index ≡ Some number_kind }
         ensures answer { Tells (domain_refusal self.now x) result }
         ensures domain { IfOk result (λ d. option_map (λ decl. (decl.low, decl.up)) (slice_get self.now.model.vars.items x.index) ≡ Some d) }
     {

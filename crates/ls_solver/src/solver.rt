@@ -1,6 +1,7 @@
 //! The solver, and what it keeps.
-ghost use Rattle.std.specs.Prelude.{◌≡◌, []};
+ghost use Rattle.std.specs.Prelude.{◌≡◌, ◌<◌, ◌^◌, [], length};
 ghost use Rattle.ls_solver.specs.State.{IsNew};
+ghost use Rattle.term_model.specs.Wellformed.{IsWellFormed};
 
 use cbl_base::Input;
 use std::alloc::Global;
@@ -76,6 +77,22 @@ impl Solver {
             closed: false,
             usable: true,
         }
+    }
+
+    /// A law of every solver: its model is well formed, and the assignment has a number for each of its variables.
+    pub fn keeps_form(&self)
+        ensures formed { IsWellFormed self.now.model }
+        ensures few { length self.now.model.vars.items < 2 ^ 32 }
+        ensures assigned { length self.now.assignment ≡ length self.now.model.vars.items }
+    {
+        let _ = &self.model;
+    }
+
+    /// Whether it is closed.
+    pub fn is_closed(&self) -> bool
+        ensures { result ≡ self.now.closed }
+    {
+        self.closed
     }
 
     /// Whether it may still be used: `false` exactly after `At` and `NoMemory` from `close` and `commit`.

@@ -6,9 +6,9 @@ use cbl_base::{Place, RunFault};
 
 /// The fault of a subterm whose arguments all have values and whose own operation fails, with its place.
 #[derive(Clone, Copy)]
-pub(crate) struct Failure {
-    pub(crate) place: Place,
-    pub(crate) fault: RunFault,
+pub struct Failure {
+    pub place: Place,
+    pub fault: RunFault,
 }
 
 impl Failure {

@@ -26,8 +26,9 @@ mod wholes;
 
 pub use asked::AskStop;
 pub use deltas::{Move, delta};
+pub use failure::Failure;
 pub use fresh_values::{fresh, fresh_with};
-pub use laws::closed_model_law;
+pub use laws::{closed_model_law, defined_variable_law};
 pub use operation_values::{NoUsers, UserValues};
 pub use system_shares::variable_violations;
 pub use values::{ModelStop, Values};

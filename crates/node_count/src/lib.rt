@@ -17,6 +17,3 @@ pub use after::number_after;
 pub use count::Count;
 pub use element::Element;
 pub use element2::Element2;
-
-#[cfg(test)]
-mod tests;

@@ -12,8 +12,6 @@ mod copying;
 mod kind;
 mod making;
 mod operation_kind;
-#[cfg(test)]
-mod tests;
 
 pub use constant::Constant;
 pub use constraint_kind::ConstraintKind;

@@ -17,6 +17,3 @@ pub use card::Card;
 pub use member::Member;
 pub use set_of::SetOf;
 pub use two_sets::TwoSets;
-
-#[cfg(test)]
-mod tests;

@@ -1,5 +1,8 @@
-//! Values on the heap.
-ghost use Rattle.std.specs.Prelude.{◌≡◌, IfOk};
+//! Values on the heap, and values that stand beside what may fail.
+//!
+//! Where something can't be made, a function that is generic in the values beside it drops them: then its callers, which
+//! know the values as trees, owe nothing for their drop.
+ghost use Rattle.std.specs.Prelude.{◌≡◌, IfOk, Ok};
 ghost use Rattle.comet_syntax.specs.Written.Statements.{unboxed};
 
 use cbl_base::NoMemory;
@@ -57,4 +60,24 @@ pub fn box_branches<A: Drop, B: Drop>(
     let (test, then) = box_two(alloc, test, then)?;
     let otherwise = box_some(alloc, otherwise)?;
     Ok((test, then, otherwise))
+}
+
+/// What was made, with a value that stands beside it.
+pub fn beside<A: Drop, B: Drop>(made: Result<A, NoMemory>, other: B) -> Result<(A, B), NoMemory>
+    ensures { IfOk result (λ both. (made ≡ Ok both.0) × (both.1 ≡ other)) }
+{
+    let made = made?;
+    Ok((made, other))
+}
+
+/// What was made, with two values that stand beside it.
+pub fn beside_two<A: Drop, B: Drop, C: Drop>(
+    made: Result<A, NoMemory>,
+    other: B,
+    third: C,
+) -> Result<(A, B, C), NoMemory>
+    ensures { IfOk result (λ all. (made ≡ Ok all.0) × (all.1 ≡ other) × (all.2 ≡ third)) }
+{
+    let made = made?;
+    Ok((made, other, third))
 }

@@ -9,12 +9,12 @@ mod raising;
 mod stacks;
 mod tails;
 
-pub use boxes::{box_branches, box_some, box_three, box_two};
+pub use boxes::{beside, beside_two, box_branches, box_some, box_three, box_two};
 pub use raising::{
-    link, name_operand, raise, raise_to_comparison, raise_to_conjunction, raise_to_range,
-    raise_to_total, suffix,
+    link, name_operand, raise, raise_name, raise_to_comparison, raise_to_conjunction,
+    raise_to_range, raise_to_total, suffix,
 };
-pub use stacks::{Stacks, put, take, take_behind};
+pub use stacks::{Stacks, put, put_before, take, take_behind};
 pub use tails::{
     Behind, Branches, Compared, DimensionRest, IntRest, NamedRest, NewValue, Pair, PairRest,
     ParameterType, UpTo, VariableRest, WriteRest,

@@ -3,6 +3,7 @@ ghost use Rattle.std.specs.Prelude.{◌≡◌, IfOk, map, reverse};
 ghost use Rattle.comet_syntax.specs.Written.Expressions.{written, written_link, written_suffix, chain, postfix_by};
 ghost use Rattle.parse_stacks.specs.Raised.{linked, with_suffixes, compared_with, ranged, branched, called_by, named_operand, total_of, range_level, comparison_level, conjunction_level, raised};
 
+use crate::boxes::beside;
 use crate::tails::{Behind, Branches, Compared, UpTo};
 use cbl_base::NoMemory;
 use comet_syntax::tree::{Argument, Expression, Link, Name, Suffix};
@@ -224,5 +225,20 @@ pub fn name_operand(
 {
     let primary = call(alloc, name, called)?;
     let all = suffix(alloc, primary, suffixes)?;
+    Ok(all)
+}
+
+/// An operand that begins with a name, with all that stands behind it: a whole expression.
+pub fn raise_name(
+    alloc: Global,
+    name: Name,
+    called: Option<Vec<Argument>>,
+    suffixes: Vec<Suffix>,
+    behind: Behind,
+) -> Result<Expression, NoMemory>
+    ensures { IfOk result (λ e. written e ≡ raised (named_operand name called suffixes) behind) }
+{
+    let (operand, behind) = beside(name_operand(alloc, name, called, suffixes), behind)?;
+    let all = raise(alloc, operand, behind)?;
     Ok(all)
 }

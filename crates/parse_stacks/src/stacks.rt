@@ -145,6 +145,15 @@ pub fn put<T: Drop>(stack: &mut Vec<T>, value: T) -> Result<(), NoMemory>
     Ok(())
 }
 
+/// A list, whose last member stands first, with one more before all.
+pub fn put_before<T: Drop>(all: Vec<T>, first: T) -> Result<Vec<T>, NoMemory>
+    ensures { IfOk result (λ more. reverse more.items ≡ first ∷ reverse all.items) }
+{
+    let mut more = all;
+    put(&mut more, first)?;
+    Ok(more)
+}
+
 /// Takes what stands behind an operand, level by level: the four topmost lists of links, and the tops of the other
 /// stacks.
 pub fn take_behind(

@@ -10,7 +10,8 @@ fn is_built_method(method: Method) -> bool
 {
     matches!(
         method,
-        Method::ReadInt
+        Method::Close
+            | Method::ReadInt
             | Method::Low
             | Method::Up
             | Method::RangeSize
@@ -19,6 +20,7 @@ fn is_built_method(method: Method) -> bool
             | Method::Contains
             | Method::SetSize
             | Method::ArraySize
+            | Method::Domain
     )
 }
 
@@ -50,7 +52,7 @@ pub(crate) fn is_built_part(part: &Typed) -> bool
 /// Whether it is of a form that runs by now, and its parts are.
 #[cycle(expression)]
 #[tactic(auto, unfolding(checked_tree::specs::Shape::shape_of, checked_tree::specs::Shape::shape_of_link, checked_tree::specs::Shape::shape_of_generator))]
-pub(crate) fn is_built_expression(form: &Form) -> bool
+fn is_built_expression(form: &Form) -> bool
     ensures { result ≡ built.is_built_expression (shape_of form.now) }
 {
     match form {

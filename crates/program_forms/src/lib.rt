@@ -10,7 +10,6 @@ pub mod functions;
 pub mod programs;
 mod purity;
 mod tasks;
-mod terms;
 
 pub use functions::pure_functions;
 pub use programs::is_built;

@@ -1,5 +1,5 @@
 //! The statements that run by now.
-ghost use Rattle.std.specs.Prelude.{◌≡◌, ◌&&◌, false, map, option_map};
+ghost use Rattle.std.specs.Prelude.{◌≡◌, ◌&&◌, map, option_map};
 ghost use Rattle.std.specs.List.{list_all};
 ghost use Rattle.checked_tree.specs.Shape.{seen, shape_of_generator};
 ghost use Rattle.checked_tree.specs.Actions.{deed_of};
@@ -20,11 +20,11 @@ fn is_built_counter(counter: &Option<Counter>) -> bool
 }
 
 fn is_built_step(step: &Option<Action>) -> bool
-    ensures { result ≡ built.is_built_option (built.is_built_deed false) (option_map deed_of step.now) }
+    ensures { result ≡ built.is_built_option built.is_built_deed (option_map deed_of step.now) }
 {
     match step {
         None => true,
-        Some(step) => is_built_action(false, step),
+        Some(step) => is_built_action(step),
     }
 }
 
@@ -35,7 +35,7 @@ fn is_built_head(generators: &[Generator], condition: &Option<Typed>) -> bool
     are_built_generators(generators) && is_built_option(condition)
 }
 
-/// Whether a statement inside of another one, or of a function, runs by now.
+/// Whether a statement runs by now, with those in it.
 #[cycle(task)]
 #[tactic(auto, unfolding(checked_tree::specs::Tasks::work_of, checked_tree::specs::Tasks::work_of_act))]
 pub(crate) fn is_built_task(task: &Task) -> bool
@@ -50,7 +50,7 @@ fn is_built_act(act: &Act) -> bool
     ensures { result ≡ built.is_built_work (work_of_act act.now) }
 {
     match act {
-        Act::Action(action) => is_built_action(false, action),
+        Act::Action(action) => is_built_action(action),
         Act::Block(tasks) => are_built_tasks(tasks),
         Act::If { test, then } => is_built_part(test) && is_built_task(then),
         Act::IfElse {
@@ -77,7 +77,7 @@ fn is_built_act(act: &Act) -> bool
         Act::SelectBy { .. } => false,
         Act::Neighbor { .. } => false,
         Act::Whenever { .. } => false,
-        Act::With { .. } => false,
+        Act::With { body, .. } => is_built_task(body),
         Act::Parall { .. } => false,
     }
 }

@@ -1,1 +1,2 @@
-pub mod FoundSolvers
+pub mod MethodStops
+pub mod WithLaws

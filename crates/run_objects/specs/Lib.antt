@@ -1,2 +1,3 @@
 pub mod Made
 pub mod SetChanges
+pub mod WithBlocks

@@ -11,7 +11,9 @@ pub mod writes;
 
 pub use methods::method;
 pub use objects::make_object;
-pub use variables::{assign, close, new_variable, read};
+pub use variables::{
+    assign, close, commit_waiting, define, domain_of, new_variable, open_with, swap, variable_in,
+};
 pub use writes::{added, stepped, subtracted, write};
 
 #[cfg(test)]

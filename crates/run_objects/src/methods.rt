@@ -6,13 +6,14 @@ ghost use Rattle.checked_tree.specs.Shape.{seen, whole};
 ghost use Rattle.comet_meaning.specs.Methods.{fitting_number, method_value, put_set};
 ghost use Rattle.comet_meaning.specs.State as states;
 ghost use Rattle.comet_meaning.specs.Values.{bounds_of, members_of, number_of, size_of};
+ghost use Rattle.run_solvers.specs.Stopping.{IsEndOrMemory};
 ghost use Rattle.run_values.specs.Did.{Did, IsFaultOrMemory};
 ghost use Rattle.run_values.specs.Views.{value_seen};
 ghost use Rattle.run_values.specs.declared.stop.Stop.TheVariants.{NoMemory};
 ghost use Rattle.run_state.specs.Views.{state_seen};
 ghost use Rattle.run_objects.specs.SetChanges.{set_changed};
 
-use crate::variables::close;
+use crate::variables::{close, domain_of};
 use cbl_base::{IntSet, Place, RunFault};
 use checked_tree::{Form, Method, Slot, Typed};
 use run_state::State;
@@ -20,9 +21,10 @@ use run_values::{Stop, Value};
 use std::alloc::Global;
 
 /// What a method does, and what it gives of its object's value and those of its arguments. `Overflow` at this place
-/// exactly where a range has more numbers than fit 64 bits signed; `getInt` has the stops of `next_number`, and `close`
-/// those of `close`. A method of what isn't run yet gives nothing, and so does one with another number of arguments.
-#[tactic(auto, unfolding(comet_meaning::specs::Methods::method_value))]
+/// exactly where a range has more numbers than fit 64 bits signed; `getInt` has the stops of `next_number`, `close` those
+/// of `close`, and `getDomain` those of `domain_of`. A method of what isn't run yet gives nothing, and so does one with
+/// another number of arguments.
+#[tactic(auto, using(crate::proofs::MethodStops::stops_so), unfolding(comet_meaning::specs::Methods::method_value))]
 pub fn method(
     s: &mut State,
     at: Place,
@@ -32,7 +34,7 @@ pub fn method(
     arguments: &[Value],
 ) -> Result<Value, Stop>
     ensures did { (printed : List ℕ) → Did value_seen result (state_seen s.new printed) (method_value at method (whole (seen object.now)) (value_seen value.now) (map value_seen arguments.now) (state_seen s.old printed)) }
-    ensures stop { IfErr result IsFaultOrMemory }
+    ensures stop { IfErr result IsEndOrMemory }
     ensures fuel { s.new.fuel ≡ s.old.fuel }
 {
     match method {
@@ -55,6 +57,7 @@ pub fn method(
         Method::ArraySize => Ok(s.array_size(value)),
         Method::ReadInt => s.next_number(at, value),
         Method::Close => close(s, at, value),
+        Method::Domain => domain_of(s, at, value),
         Method::Post
         | Method::Violations
         | Method::SystemAssignDelta
@@ -73,8 +76,7 @@ pub fn method(
         | Method::CopyBest
         | Method::Stop
         | Method::IsStopped
-        | Method::Restore
-        | Method::Domain => Ok(Value::Nothing),
+        | Method::Restore => Ok(Value::Nothing),
     }
 }
 

@@ -9,7 +9,6 @@ ghost use Rattle.run_state.specs.Views.{state_seen};
 ghost use Rattle.run_objects.specs.Made.{made_into};
 
 use checked_tree::{Kind, Slot};
-use run_models::Solver;
 use run_state::State;
 use run_values::{Stop, Value};
 
@@ -49,13 +48,13 @@ fn put_input(s: &mut State, slot: Slot) -> Result<(), Stop>
 }
 
 /// A new solver, which is open and has no variables. `NoMemory` where there is none for it.
-#[tactic(auto, unfolding(comet_meaning::specs::Models::make_solver))]
 fn make_solver(s: &mut State) -> Result<Value, Stop>
     ensures did { (printed : List ℕ) → Did value_seen result (state_seen s.new printed) (models.make_solver (state_seen s.old printed)) }
     ensures memory { IfErr result (λ stop. stop ≡ NoMemory) }
     ensures fuel { s.new.fuel ≡ s.old.fuel }
 {
-    let number = s.solvers.len();
-    s.solvers.push(Solver::new(s.alloc))?;
-    Ok(Value::Solver(number))
+    match s.solvers.make(s.alloc) {
+        Ok(number) => Ok(Value::Solver(number)),
+        Err(stop) => Err(stop),
+    }
 }

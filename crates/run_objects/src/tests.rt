@@ -1,16 +1,22 @@
 //! What a program does with a solver and its variables, and what they must then be.
 use super::*;
-use cbl_base::{Place, RunFault, VarId};
+use cbl_base::{Place, RunFault, Text, VarId};
+use cbl_operations::Op;
 use checked_tree::{Form, Kind, Method, Slot, Typed};
-use comet_syntax::tree::{ChainOperator, Step};
-use run_models::{Beginning, Term};
+use comet_syntax::tree::Step;
+use run_solvers::{Beginning, Built};
 use run_state::{State, Target};
-use run_values::{Bounds, Stop, Value};
+use run_values::{Stop, Value};
 use std::test::*;
+use term_model::{VarDecl, VarKind};
 
 const AT: Place = Place { line: 3, col: 7 };
 
-const TEN: Bounds = Bounds { low: 1, up: 10 };
+const TEN: VarDecl = VarDecl {
+    kind: VarKind::Number,
+    low: 1,
+    up: 10,
+};
 
 const X: VarId = VarId {
     solver: 0,
@@ -22,42 +28,105 @@ const DOUBLE: VarId = VarId {
     index: 1,
 };
 
-/// The number of what is given, or why the run stops.
-fn number(given: Result<Value, Stop>) -> Result<i64, Stop> {
+/// How a part ends: it goes on, a fault, or something else.
+#[derive(Clone, Copy, PartialEq, Eq, Debug)]
+enum End {
+    On,
+    Fault(RunFault),
+    Other,
+}
+
+/// How the run stops.
+fn stopped(stop: Stop) -> End {
+    match stop {
+        Stop::Fault(_, fault) => End::Fault(fault),
+        _ => End::Other,
+    }
+}
+
+/// How a part ends that gives nothing.
+fn ended(done: Result<(), Stop>) -> End {
+    match done {
+        Ok(()) => End::On,
+        Err(stop) => stopped(stop),
+    }
+}
+
+/// The number of what is given, or how the run stops.
+fn number(given: Result<Value, Stop>) -> Result<i64, End> {
     match given {
         Ok(value) => Ok(value.number()),
-        Err(stop) => Err(stop),
+        Err(stop) => Err(stopped(stop)),
     }
 }
 
 /// The size of the set that a name holds.
-fn size(s: &mut State, set: &Typed, slot: Slot) -> Result<i64, Stop> {
-    let held = s.look(slot)?;
-    number(method(s, AT, Method::SetSize, set, &held, &[]))
+fn size(s: &mut State, set: &Typed, slot: Slot) -> Result<i64, End> {
+    match s.look(slot) {
+        Ok(held) => number(method(s, AT, Method::SetSize, set, &held, &[])),
+        Err(stop) => Err(stopped(stop)),
+    }
+}
+
+/// A state with a solver that has `x` and then `x + x`.
+fn doubled(rt: &HostRuntime) -> Result<State, Fail> {
+    let alloc = rt.alloc();
+    let mut s = State::new(alloc, 100, Vec::new(alloc));
+    let solver = Value::Solver(0);
+    let made = make_object(&mut s, Slot::Global(0), Kind::Solver);
+    let x = new_variable(
+        &mut s,
+        AT,
+        &solver,
+        TEN,
+        Text::from_slice(alloc, b"x")?,
+        Beginning::Free(3),
+    );
+    let both = vec![in alloc; Built::variable(X), Built::variable(X)]?;
+    let double = Built::node(AT, Op::Add, both);
+    match (made, x, double) {
+        (Ok(()), Ok(_), Ok(double)) => {
+            let name = Text::from_slice(alloc, b"double")?;
+            match new_variable(&mut s, AT, &solver, TEN, name, Beginning::Defined(double)) {
+                Ok(_) => Ok(s),
+                Err(_) => Err(Fail::from("no variable")),
+            }
+        }
+        _ => Err(Fail::from("no solver")),
+    }
 }
 
 /// A variable that is `x + x` can't be read before `close`, and follows `x` behind it.
 #[test]
 fn defined_variable_follows(rt: HostRuntime) -> Result<(), Fail> {
-    let alloc = rt.alloc();
-    let mut s = State::new(alloc, 100, Vec::new(alloc));
+    let mut s = doubled(&rt)?;
     let solver = Value::Solver(0);
-    assert_eq!(rt; make_object(&mut s, Slot::Global(0), Kind::Solver), Ok(()));
-    let again = Term::variable(alloc, X)?;
-    let double = Term::variable(alloc, X)?.join(ChainOperator::Add, AT, again)?;
-    let x = new_variable(&mut s, AT, &solver, TEN, Beginning::Free(3));
-    assert!(rt; x.is_ok());
-    let y = new_variable(&mut s, AT, &solver, TEN, Beginning::Defined(double));
-    assert!(rt; y.is_ok());
-    let early = number(read(&s, AT, Value::Variable(DOUBLE)));
-    assert_eq!(rt; early, Err(Stop::Fault(AT, RunFault::NotClosed)));
+    let early = number(s.read(AT, Value::Variable(DOUBLE)));
+    assert_eq!(rt; early, Err(End::Fault(RunFault::NotClosed)));
     assert_eq!(rt; number(close(&mut s, AT, &solver)), Ok(0));
-    assert_eq!(rt; number(read(&s, AT, Value::Variable(DOUBLE))), Ok(6));
+    assert_eq!(rt; number(s.read(AT, Value::Variable(DOUBLE))), Ok(6));
     let less = stepped(&mut s, AT, &Target::Moved(X), Step::Decrement, 3);
-    assert_eq!(rt; less, Ok(()));
-    assert_eq!(rt; number(read(&s, AT, Value::Variable(DOUBLE))), Ok(4));
+    assert_eq!(rt; ended(less), End::On);
+    assert_eq!(rt; number(s.read(AT, Value::Variable(DOUBLE))), Ok(4));
     let defined = write(&mut s, AT, &Target::Moved(DOUBLE), Value::Number(1));
-    assert_eq!(rt; defined, Err(Stop::Fault(AT, RunFault::DefinedVariable)));
+    assert_eq!(rt; ended(defined), End::Fault(RunFault::DefinedVariable));
+    Ok(())
+}
+
+/// What is assigned in a `with` is read behind it.
+#[test]
+fn assigned_numbers_wait(rt: HostRuntime) -> Result<(), Fail> {
+    let mut s = doubled(&rt)?;
+    let solver = Value::Solver(0);
+    assert_eq!(rt; number(close(&mut s, AT, &solver)), Ok(0));
+    let outermost = open_with(&mut s, AT, &solver);
+    assert!(rt; matches!(outermost, Ok(true)));
+    assert_eq!(rt; ended(assign(&mut s, AT, X, 5)), End::On);
+    assert_eq!(rt; number(s.read(AT, Value::Variable(DOUBLE))), Ok(6));
+    let inner = open_with(&mut s, AT, &solver);
+    assert!(rt; matches!(inner, Ok(false)));
+    assert_eq!(rt; ended(commit_waiting(&mut s, &solver)), End::On);
+    assert_eq!(rt; number(s.read(AT, Value::Variable(DOUBLE))), Ok(10));
     Ok(())
 }
 
@@ -80,11 +149,14 @@ fn methods_give(rt: HostRuntime) -> Result<(), Fail> {
         assert_eq!(rt; number(inserted), Ok(0));
     }
     assert_eq!(rt; size(&mut s, &set, slot), Ok(1));
-    assert_eq!(rt; make_object(&mut s, Slot::Global(0), Kind::Input), Ok(()));
+    assert_eq!(rt;
+        ended(make_object(&mut s, Slot::Global(0), Kind::Input)),
+        End::On
+    );
     let input = Value::Input(0);
     let first = method(&mut s, AT, Method::ReadInt, &set, &input, &[]);
     assert_eq!(rt; number(first), Ok(-12));
     let second = method(&mut s, AT, Method::ReadInt, &set, &input, &[]);
-    assert_eq!(rt; number(second), Err(Stop::Fault(AT, RunFault::BadData)));
+    assert_eq!(rt; number(second), Err(End::Fault(RunFault::BadData)));
     Ok(())
 }

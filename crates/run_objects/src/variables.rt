@@ -1,141 +1,150 @@
-//! Variables: how they are read, and what changes them.
+//! What changes solvers and their variables.
 ghost use Rattle.std.specs.Prelude.{◌≡◌, ℕ, List, IfErr};
+ghost use Rattle.comet_meaning.specs.Blocks as blocks;
 ghost use Rattle.comet_meaning.specs.Models as models;
-ghost use Rattle.comet_meaning.specs.Parts as parts;
-ghost use Rattle.comet_meaning.specs.Parts.{solver_at};
-ghost use Rattle.comet_meaning.specs.State as states;
-ghost use Rattle.comet_meaning.specs.Values.{Nothing, solver_of};
-ghost use Rattle.run_models.specs.Views.{beginning_seen};
-ghost use Rattle.run_values.specs.Did.{Did, IsFault, IsFaultOrMemory};
-ghost use Rattle.run_values.specs.Views.{value_seen, bounds_seen};
+ghost use Rattle.comet_meaning.specs.Values as values;
+ghost use Rattle.comet_meaning.specs.Values.{solver_of};
+ghost use Rattle.comet_meaning.specs.Variables as variables;
+ghost use Rattle.run_solvers.specs.Opening.{opened};
+ghost use Rattle.run_solvers.specs.Stopping.{IsEndOrMemory};
+ghost use Rattle.run_solvers.specs.Views.{beginning_seen};
+ghost use Rattle.run_values.specs.Did.{Did, IsFaultOrMemory};
+ghost use Rattle.run_values.specs.Views.{value_seen};
 ghost use Rattle.run_state.specs.Views.{state_seen};
 
-use cbl_base::{Place, RunFault, VarId};
-use run_models::{Beginning, Solver};
+use cbl_base::{Place, Text, VarId};
+use checked_tree::Slot;
+use run_solvers::{Beginning, Built};
 use run_state::State;
-use run_values::{Bounds, Stop, Value};
-use std::alloc::Global;
+use run_values::{Stop, Value};
+use term_model::VarDecl;
 
-/// What is read at a place: of a variable its value, and anything else as it is. `NotClosed` at this place exactly for a
-/// variable with a definition before its solver is closed; there is no other stop.
-#[tactic(auto, unfolding(comet_meaning::specs::Parts::read))]
-pub fn read(s: &State, at: Place, value: Value) -> Result<Value, Stop>
-    ensures did { (printed : List ℕ) → Did value_seen result (state_seen s.now printed) (parts.read at (value_seen value) (state_seen s.now printed)) }
-    ensures stop { IfErr result IsFault }
+/// Closes a solver, and evaluates its variables; gives no value. `AlreadyClosed` at this place exactly where it is
+/// closed, else the named cycle of its definitions at this place, and else the first fault of its variables, where it was
+/// met.
+pub fn close(s: &mut State, at: Place, solver: &Value) -> Result<Value, Stop>
+    ensures did { (printed : List ℕ) → Did value_seen result (state_seen s.new printed) (models.close at (solver_of (value_seen solver.now)) (state_seen s.old printed)) }
+    ensures stop { IfErr result IsEndOrMemory }
+    ensures fuel { s.new.fuel ≡ s.old.fuel }
 {
-    match value {
-        Value::Variable(variable) => variable_value(&s.solvers, at, variable),
-        value => Ok(value),
+    match s.solvers.close(at, solver.solver()) {
+        Ok(()) => Ok(Value::Nothing),
+        Err(stop) => Err(stop),
     }
 }
 
-/// Closes a solver, and evaluates its variables; gives no value. `AlreadyClosed` at this place exactly where it is
-/// closed, and else the first fault of its variables, at that place. With an `Err` the state is as before.
-pub fn close(s: &mut State, at: Place, value: &Value) -> Result<Value, Stop>
-    ensures did { (printed : List ℕ) → Did value_seen result (state_seen s.new printed) (models.close at (solver_of (value_seen value.now)) (state_seen s.old printed)) }
-    ensures stop { IfErr result IsFaultOrMemory }
-    ensures fuel { s.new.fuel ≡ s.old.fuel }
-{
-    close_solver(&mut s.solvers, s.alloc, at, value.solver())?;
-    Ok(Value::Nothing)
-}
-
-/// Gives a variable a number, and evaluates the variables of a closed solver. `DefinedVariable` at this place exactly
-/// where it has a definition, and else the first fault of the closed solver's variables, at that place. With an `Err`
-/// the state is as before.
+/// Gives a variable a number, which waits while a `with` is open, and else evaluates the variables of a closed solver. At
+/// this place `WrongSolver` where there is no such variable, and then `DefinedVariable` where it has a definition; and
+/// else the first fault of the closed solver's variables, where it was met.
 pub fn assign(s: &mut State, at: Place, variable: VarId, number: i64) -> Result<(), Stop>
     ensures did { (printed : List ℕ) → Did (λ _. tt) result (state_seen s.new printed) (models.assign at variable number (state_seen s.old printed)) }
     ensures stop { IfErr result IsFaultOrMemory }
     ensures fuel { s.new.fuel ≡ s.old.fuel }
 {
-    assign_in(&mut s.solvers, s.alloc, at, variable, number)
+    s.solvers.assign(at, variable, number)
 }
 
-/// A new variable of a solver, with a domain, which begins with a number or a definition. At this place `AlreadyClosed`
-/// where the solver is closed, `TooMany` variables where it has 262,144, and `WrongSolver` where the definition names a
-/// variable of another solver, whichever comes first. With an `Err` the state is as before. `NoMemory` also for a solver
-/// whose number doesn't fit 32 bits, which no machine has memory for.
+/// Gives each of two variables the number that the other has, which wait while a `with` is open. The stops are those of
+/// `assign`, of both variables; `WrongSolver` also where they aren't of one solver.
+pub fn swap(s: &mut State, at: Place, x: VarId, y: VarId) -> Result<(), Stop>
+    ensures did { (printed : List ℕ) → Did (λ _. tt) result (state_seen s.new printed) (models.swap at x y (state_seen s.old printed)) }
+    ensures stop { IfErr result IsFaultOrMemory }
+    ensures fuel { s.new.fuel ≡ s.old.fuel }
+{
+    s.solvers.swap(at, x, y)
+}
+
+/// Defines a variable by a term. At this place `AlreadyClosed` where its solver is closed; then `WrongSolver` where the
+/// variable, or one in the term, isn't the solver's; then `DefinedVariable` where it has a definition; and then `TooMany`
+/// term nodes where all terms have more distinct subterms than they may.
+pub fn define(s: &mut State, at: Place, variable: VarId, term: Built) -> Result<(), Stop>
+    ensures did { (printed : List ℕ) → Did (λ _. tt) result (state_seen s.new printed) (models.define at variable term (state_seen s.old printed)) }
+    ensures stop { IfErr result IsFaultOrMemory }
+    ensures fuel { s.new.fuel ≡ s.old.fuel }
+{
+    s.solvers.define(at, variable, term)
+}
+
+/// A new variable of a solver, as it is declared, with a name, which begins with a number or a definition. At this place
+/// `AlreadyClosed` where the solver is closed, then `TooMany` variables where it has 262,144, and then the stops of
+/// `define`. `NoMemory` also for a set variable that begins with a number, and where there is no such solver: no checked
+/// program asks for these.
 pub fn new_variable(
     s: &mut State,
     at: Place,
     solver: &Value,
-    domain: Bounds,
+    decl: VarDecl,
+    name: Text,
     beginning: Beginning,
-) -> Result<Value, Stop>
-    ensures did { (printed : List ℕ) → Did value_seen result (state_seen s.new printed) (models.new_variable at (solver_of (value_seen solver.now)) (bounds_seen domain) (beginning_seen beginning) (state_seen s.old printed)) }
+) -> Result<VarId, Stop>
+    ensures did { (printed : List ℕ) → Did (λ x. x) result (state_seen s.new printed) (variables.new_variable at (solver_of (value_seen solver.now)) decl name (beginning_seen beginning) (state_seen s.old printed)) }
     ensures stop { IfErr result IsFaultOrMemory }
     ensures fuel { s.new.fuel ≡ s.old.fuel }
 {
-    add_to(&mut s.solvers, at, solver.solver(), domain, beginning)
+    s.solvers.add(at, solver.solver(), decl, name, beginning)
 }
 
-/// The value of a variable. One that isn't there has 0.
-fn variable_value(solvers: &[Solver], at: Place, variable: VarId) -> Result<Value, Stop>
-    ensures did { (s : states.State) → s.solvers ≡ solvers.now → Did value_seen result s (parts.variable_value at variable.index (solver_at s variable.solver) s) }
-    ensures stop { IfErr result IsFault }
-{
-    let number = variable.solver as usize;
-    if number >= solvers.len() {
-        return Ok(Value::Number(0));
-    }
-    let value = solvers[number].value(at, variable.index)?;
-    Ok(Value::Number(value))
-}
-
-/// Closes the solver with this number. One that isn't there has no variables.
-fn close_solver(
-    solvers: &mut Vec<Solver>,
-    alloc: Global,
+/// The same of the solver that a name holds.
+#[tactic(auto, unfolding(comet_meaning::specs::Variables::variable_in, comet_meaning::specs::Cells::look))]
+pub fn variable_in(
+    s: &mut State,
     at: Place,
-    number: usize,
-) -> Result<(), Stop>
-    ensures did { (s : states.State) → s.solvers ≡ solvers.old.items → Did (λ _. Nothing) result (record s { solvers = solvers.new.items }) (models.close at number s) }
-    ensures stop { IfErr result IsFaultOrMemory }
-{
-    if number >= solvers.len() {
-        return Ok(());
-    }
-    solvers[number].close(alloc, at)
-}
-
-/// Assigns to a variable. One that isn't there is left alone.
-fn assign_in(
-    solvers: &mut Vec<Solver>,
-    alloc: Global,
-    at: Place,
-    variable: VarId,
-    number: i64,
-) -> Result<(), Stop>
-    ensures did { (s : states.State) → s.solvers ≡ solvers.old.items → Did (λ _. tt) result (record s { solvers = solvers.new.items }) (models.assign at variable number s) }
-    ensures stop { IfErr result IsFaultOrMemory }
-{
-    let own = variable.solver as usize;
-    if own >= solvers.len() {
-        return Ok(());
-    }
-    solvers[own].assign(alloc, at, variable.index, number)
-}
-
-/// Adds a variable to the solver with this number. One that isn't there has no variables, and is left alone.
-fn add_to(
-    solvers: &mut Vec<Solver>,
-    at: Place,
-    number: usize,
-    domain: Bounds,
+    slot: Slot,
+    decl: VarDecl,
+    name: Text,
     beginning: Beginning,
-) -> Result<Value, Stop>
-    ensures did { (s : states.State) → s.solvers ≡ solvers.old.items → Did value_seen result (record s { solvers = solvers.new.items }) (models.new_variable at number (bounds_seen domain) (beginning_seen beginning) s) }
+) -> Result<VarId, Stop>
+    ensures did { (printed : List ℕ) → Did (λ x. x) result (state_seen s.new printed) (variables.variable_in at slot decl name (beginning_seen beginning) (state_seen s.old printed)) }
+    ensures stop { IfErr result IsFaultOrMemory }
+    ensures fuel { s.new.fuel ≡ s.old.fuel }
+{
+    match s.look(slot) {
+        Ok(solver) => new_variable(s, at, &solver, decl, name, beginning),
+        Err(stop) => Err(stop),
+    }
+}
+
+/// The domain of a variable, and nothing of what is none. `WrongSolver` at this place exactly where there is no such
+/// variable.
+#[tactic(auto, unfolding(comet_meaning::specs::Models::domain_of))]
+pub fn domain_of(s: &State, at: Place, value: &Value) -> Result<Value, Stop>
+    ensures did { (printed : List ℕ) → Did value_seen result (state_seen s.now printed) (models.domain_of at (value_seen value.now) (state_seen s.now printed)) }
     ensures stop { IfErr result IsFaultOrMemory }
 {
-    let Ok(solver) = u32::try_from(number) else {
-        return Err(Stop::NoMemory);
-    };
-    if number >= solvers.len() {
-        if beginning.begins_in(number) {
-            return Ok(Value::Variable(VarId { solver, index: 0 }));
-        }
-        return Err(Stop::Fault(at, RunFault::WrongSolver));
+    match value {
+        Value::Variable(variable) => variable_domain(s, at, *variable),
+        _ => Ok(Value::Nothing),
     }
-    let index = solvers[number].add(at, number, domain, beginning)?;
-    Ok(Value::Variable(VarId { solver, index }))
+}
+
+/// The domain of a variable.
+#[tactic(auto, unfolding(comet_meaning::specs::Models::domain_of))]
+fn variable_domain(s: &State, at: Place, variable: VarId) -> Result<Value, Stop>
+    ensures did { (printed : List ℕ) → Did value_seen result (state_seen s.now printed) (models.domain_of at (values.Variable variable) (state_seen s.now printed)) }
+    ensures stop { IfErr result IsFaultOrMemory }
+{
+    match s.solvers.domain(at, variable) {
+        Ok(domain) => Ok(Value::Range(domain)),
+        Err(stop) => Err(stop),
+    }
+}
+
+/// Opens a `with` on a solver, and tells whether it is the outermost. `NotClosed` at this place exactly where the solver
+/// is open.
+pub fn open_with(s: &mut State, at: Place, solver: &Value) -> Result<bool, Stop>
+    ensures did { (printed : List ℕ) → Did (λ b. b) result (state_seen s.new printed) (opened at (solver_of (value_seen solver.now)) (state_seen s.old printed)) }
+    ensures stop { IfErr result IsFaultOrMemory }
+    ensures fuel { s.new.fuel ≡ s.old.fuel }
+{
+    s.solvers.open_block(at, solver.solver())
+}
+
+/// Commits what waits in a solver, at the end of the outermost `with`. The stop is the first fault of the solver's
+/// variables, where it was met.
+pub fn commit_waiting(s: &mut State, solver: &Value) -> Result<(), Stop>
+    ensures did { (printed : List ℕ) → Did (λ _. tt) result (state_seen s.new printed) (blocks.commit_waiting (solver_of (value_seen solver.now)) (state_seen s.old printed)) }
+    ensures stop { IfErr result IsFaultOrMemory }
+    ensures fuel { s.new.fuel ≡ s.old.fuel }
+{
+    s.solvers.commit_waiting(solver.solver())
 }

@@ -1,7 +1,10 @@
 pub mod ActLaws
 pub mod ArrayLaws
 pub mod DigitLaws
+pub mod EitherArray
 pub mod OwnArrays
 pub mod PrintLaws
+pub mod ReadLaws
+pub mod StandingLaws
 pub mod WordLaws
 pub mod WrittenCells

@@ -1,5 +1,6 @@
 pub mod Acts
 pub mod Copies
+pub mod InTerms
 pub mod Numbers
 pub mod Plain
 pub mod Shares

@@ -1,12 +1,11 @@
 //! Arrays that are taken whole, and arrays of their own.
-ghost use Rattle.std.specs.Prelude.{◌≡◌, ◌≤◌, ℕ, List, [], IfErr, map, pos};
-ghost use Rattle.cbl_base.specs.Counts.{count_of};
+ghost use Rattle.std.specs.Prelude.{◌≡◌, ◌≤◌, ℕ, List, [], IfErr, map};
 ghost use Rattle.comet_meaning.specs.Calls as meaning;
 ghost use Rattle.run_values.specs.Did.{Did};
 ghost use Rattle.run_values.specs.Views.{value_seen};
 ghost use Rattle.run_values.specs.declared.stop.Stop.TheVariants.{NoMemory};
 ghost use Rattle.run_state.specs.Acts.{counted, copied_into, listed};
-ghost use Rattle.run_state.specs.Stops.{IsQuiet, IsSpent};
+ghost use Rattle.run_state.specs.Stops.{IsQuiet};
 ghost use Rattle.run_state.specs.Views.{state_seen};
 
 use crate::fuel::spend;
@@ -17,9 +16,9 @@ use run_values::{Cells, Stop, Value};
 use std::mem;
 
 impl State {
-    /// How often a number stands in an array. The call is charged, and then the cells, at the array's place. `Spent` at
-    /// the place whose charge the fuel doesn't reach for; there is no other stop.
-    #[tactic(auto, unfolding(comet_meaning::specs::Cells::cells, comet_meaning::specs::Arrays::taken_whole))]
+    /// How often a number stands in an array. The call is charged, and then the cells, at the array's place, where each
+    /// variable is read. `Spent` at the place whose charge the fuel doesn't reach for; else it stops as reading does.
+    #[tactic(auto, unfolding(comet_meaning::specs::Cells::count_cells, comet_meaning::specs::Taking::taken_whole))]
     pub fn count(
         &mut self,
         call: Place,
@@ -28,45 +27,57 @@ impl State {
         number: i64,
     ) -> Result<Value, Stop>
         ensures did { (printed : List ℕ) → Did value_seen result (state_seen self.new printed) (counted call place (value_seen array.now) number (state_seen self.old printed)) }
-        ensures stop { IfErr result IsSpent }
-        ensures never_rises { self.new.fuel ≤ self.old.fuel }
-    {
-        spend(&mut self.fuel, 1, call)?;
-        let cells = self.numbers(array).len();
-        spend(&mut self.fuel, cells as u64, place)?;
-        Ok(Value::Number(count_in(number, self.numbers(array))))
-    }
-
-    /// A name gets a new array of the numbers of an array, whose cells are charged at this place. `Spent` where the fuel
-    /// doesn't reach for them, and `NoMemory` where there is none; there is no other stop.
-    #[tactic(auto, unfolding(comet_meaning::specs::Cells::cells))]
-    pub fn copy_array(&mut self, at: Place, slot: Slot, array: &Value) -> Result<(), Stop>
-        ensures did { (printed : List ℕ) → Did (λ _. tt) result (state_seen self.new printed) (copied_into at slot (value_seen array.now) (state_seen self.old printed)) }
         ensures stop { IfErr result IsQuiet }
         ensures never_rises { self.new.fuel ≤ self.old.fuel }
     {
-        let cells = self.numbers(array).len();
+        spend(&mut self.fuel, 1, call)?;
+        let cells = self.size(array);
+        spend(&mut self.fuel, cells as u64, place)?;
+        let count = self.count_read(place, array, number)?;
+        Ok(Value::Number(count))
+    }
+
+    /// A name gets a new array of the numbers of an array, of which each variable is read at the second place; then the
+    /// cells are charged at the first one. It stops as reading does, `Spent` where the fuel doesn't reach for them, and
+    /// `NoMemory` where there is none.
+    pub fn copy_array(
+        &mut self,
+        at: Place,
+        place: Place,
+        slot: Slot,
+        array: &Value,
+    ) -> Result<(), Stop>
+        ensures did { (printed : List ℕ) → Did (λ _. tt) result (state_seen self.new printed) (copied_into at place slot (value_seen array.now) (state_seen self.old printed)) }
+        ensures stop { IfErr result IsQuiet }
+        ensures never_rises { self.new.fuel ≤ self.old.fuel }
+    {
+        let numbers = self.read_numbers(place, array)?;
+        let cells = numbers.len();
         spend(&mut self.fuel, cells as u64, at)?;
-        let numbers = Vec::from_slice(self.alloc, self.numbers(array))?;
         let array = self.new_array(Cells::row(numbers))?;
         self.put(slot, array)
     }
 
-    /// The numbers of a list of exactly so many, which are charged at this place. `OutOfRange` exactly where they are
-    /// more or fewer, before anything is charged; `Spent` where the fuel doesn't reach for them, and `NoMemory` where
-    /// there is none for a copy.
-    #[tactic(auto, unfolding(comet_meaning::specs::Cells::cells))]
-    pub fn listed(&mut self, at: Place, count: u128, list: &Value) -> Result<Vec<i64>, Stop>
-        ensures did { (printed : List ℕ) → Did (λ numbers. numbers.items) result (state_seen self.new printed) (listed at count (value_seen list.now) (state_seen self.old printed)) }
+    /// The numbers of a list of exactly so many, of which each variable is read at the second place; then they are charged
+    /// at the first one. It stops as reading does; `OutOfRange` exactly where they are more or fewer, before anything is
+    /// charged; `Spent` where the fuel doesn't reach for them, and `NoMemory` where there is none.
+    pub fn listed(
+        &mut self,
+        at: Place,
+        place: Place,
+        count: u128,
+        list: &Value,
+    ) -> Result<Vec<i64>, Stop>
+        ensures did { (printed : List ℕ) → Did (λ numbers. numbers.items) result (state_seen self.new printed) (listed at place count (value_seen list.now) (state_seen self.old printed)) }
         ensures stop { IfErr result IsQuiet }
         ensures never_rises { self.new.fuel ≤ self.old.fuel }
     {
-        let cells = self.numbers(list).len();
+        let numbers = self.read_numbers(place, list)?;
+        let cells = numbers.len();
         if cells as u128 != count {
             return Err(Stop::Fault(at, RunFault::OutOfRange));
         }
         spend(&mut self.fuel, cells as u64, at)?;
-        let numbers = Vec::from_slice(self.alloc, self.numbers(list))?;
         Ok(numbers)
     }
 
@@ -108,18 +119,4 @@ impl State {
             value => Ok(value),
         }
     }
-}
-
-/// At how many places the number stands.
-fn count_in(number: i64, cells: &[i64]) -> i64
-    ensures { result ≡ pos (count_of number cells.now) }
-{
-    count_of(number, cells) as i64
-}
-
-/// At how many places the number stands.
-fn count_of(number: i64, cells: &[i64]) -> usize
-    ensures { result ≡ count_of number cells.now }
-{
-    cells.iter().filter(|x| **x == number).count()
 }

@@ -1,53 +1,53 @@
-//! The cells of arrays: where they stand, their numbers, and new arrays.
-ghost use Rattle.std.specs.Prelude.{◌≡◌, ◌<◌, ◌^◌, ℕ, ℤ, List, IfErr, length, pos, slice_index_or};
+//! The cells of arrays: where they stand, their numbers and variables, and new arrays.
+ghost use Rattle.std.specs.Prelude.{◌≡◌, ◌<◌, ◌^◌, ℕ, List, IfErr, pos, slice_get, slice_index_or};
 ghost use Rattle.comet_meaning.specs.Cells as meaning;
-ghost use Rattle.comet_meaning.specs.Cells.{cells_of, row_of, put_number, number_at};
+ghost use Rattle.comet_meaning.specs.Cells.{cells_of, variables_of, cells_extent, variables_extent, extent_of, size_in, cell_in, put_number, number_at};
 ghost use Rattle.comet_meaning.specs.Outcome.{Went};
 ghost use Rattle.comet_meaning.specs.Values as values;
 ghost use Rattle.comet_meaning.specs.Values.{Number};
 ghost use Rattle.run_values.specs.Did.{Did, IsFault};
-ghost use Rattle.run_values.specs.Views.{value_seen, cells_seen};
+ghost use Rattle.run_values.specs.Views.{value_seen, cells_seen, extent_seen, variable_cells_seen};
 ghost use Rattle.run_values.specs.declared.stop.Stop.TheVariants.{NoMemory};
 ghost use Rattle.run_state.specs.Acts.{indexed, indexed_twice, array_size};
 ghost use Rattle.run_state.specs.Views.{state_seen};
 
 use crate::state::State;
-use cbl_base::{Place, RunFault};
-use run_values::{Bounds, Cells, Stop, Value};
+use cbl_base::{Place, RunFault, VarId};
+use run_values::{Cells, Extent, Stop, Value, VariableCells};
 
 impl State {
-    /// The number in the cell of an index. `OutOfRange` at this place exactly where there is no such cell; there is no
-    /// other stop.
-    #[tactic(auto, unfolding(comet_meaning::specs::Cells::cells))]
+    /// What the cell of an index holds, a variable unread. `OutOfRange` at this place exactly where there is no such cell;
+    /// there is no other stop.
+    #[tactic(auto, unfolding(comet_meaning::specs::Cells::extent, comet_meaning::specs::Cells::cell))]
     pub fn index(&self, at: Place, array: &Value, index: i64) -> Result<Value, Stop>
         ensures did { (printed : List ℕ) → Did value_seen result (state_seen self.now printed) (indexed at (value_seen array.now) index (state_seen self.now printed)) }
         ensures stop { IfErr result IsFault }
     {
-        match self.at_index(array, index) {
-            Some(cell) => Ok(Value::Number(self.number_at(array, cell))),
+        match self.extent(array).at_index(index) {
+            Some(cell) => Ok(self.held_in(array, cell)),
             None => Err(Stop::Fault(at, RunFault::OutOfRange)),
         }
     }
 
-    /// The number in the cell of a row's index and a column's. `OutOfRange` at this place exactly where there is no such
-    /// cell; there is no other stop.
-    #[tactic(auto, unfolding(comet_meaning::specs::Cells::cells))]
+    /// What the cell of a row's index and a column's holds, a variable unread. `OutOfRange` at this place exactly where
+    /// there is no such cell; there is no other stop.
+    #[tactic(auto, unfolding(comet_meaning::specs::Cells::extent, comet_meaning::specs::Cells::cell))]
     pub fn cell(&self, at: Place, array: &Value, row: i64, column: i64) -> Result<Value, Stop>
         ensures did { (printed : List ℕ) → Did value_seen result (state_seen self.now printed) (indexed_twice at (value_seen array.now) row column (state_seen self.now printed)) }
         ensures stop { IfErr result IsFault }
     {
-        match self.at_indices(array, row, column) {
-            Some(cell) => Ok(Value::Number(self.number_at(array, cell))),
+        match self.extent(array).at_indices(row, column) {
+            Some(cell) => Ok(self.held_in(array, cell)),
             None => Err(Stop::Fault(at, RunFault::OutOfRange)),
         }
     }
 
     /// How many cells an array has.
-    #[tactic(auto, unfolding(comet_meaning::specs::Cells::cells))]
+    #[tactic(auto, unfolding(comet_meaning::specs::Cells::count_cells))]
     pub fn array_size(&self, array: &Value) -> Value
         ensures { (printed : List ℕ) → array_size (value_seen array.now) (state_seen self.now printed) ≡ Went (value_seen result) (state_seen self.now printed) }
     {
-        Value::Number(self.numbers(array).len() as i64)
+        Value::Number(self.size(array) as i64)
     }
 
     /// Writes a number into a cell. Where there is none, nothing is written.
@@ -73,30 +73,90 @@ impl State {
         Ok(Value::Array(number))
     }
 
-    /// Where the cell of an index stands; `None` exactly where there is no such cell.
-    pub(crate) fn at_index(&self, array: &Value, index: i64) -> Option<u128>
-        ensures { (printed : List ℕ) → result ≡ meaning.at_index (cells_of (state_seen self.now printed) (value_seen array.now)) index }
+    /// A new array with these variables. `NoMemory` where there is none for it; there is no other stop.
+    #[tactic(auto, unfolding(comet_meaning::specs::Cells::new_variables))]
+    pub fn new_variables(&mut self, cells: VariableCells) -> Result<Value, Stop>
+        ensures did { (printed : List ℕ) → Did value_seen result (state_seen self.new printed) (meaning.new_variables (variable_cells_seen cells) (state_seen self.old printed)) }
+        ensures memory { IfErr result (λ stop. stop ≡ NoMemory) }
+        ensures fuel { self.new.fuel ≡ self.old.fuel }
+    {
+        let number = self.variable_arrays.len();
+        self.variable_arrays.push(cells)?;
+        Ok(Value::Variables(number))
+    }
+
+    /// The bounds of an array's indices; what is no array has no cell.
+    pub(crate) fn extent(&self, array: &Value) -> Extent
+        ensures { (printed : List ℕ) → extent_seen result ≡ extent_of (state_seen self.now printed) (value_seen array.now) }
     {
         match array {
-            Value::Array(number) => match self.arrays.get(*number) {
-                Some(cells) => cells.at_index(index),
-                None => None,
-            },
-            Value::Row(numbers) => row_index(numbers.len(), index),
-            _ => None,
+            Value::Variables(number) => self.variables_extent(*number),
+            _ => self.numbers_extent(array),
         }
     }
 
-    /// Where the cell of a row's index and a column's stands; `None` exactly where there is no such cell.
-    pub(crate) fn at_indices(&self, array: &Value, row: i64, column: i64) -> Option<u128>
-        ensures { (printed : List ℕ) → result ≡ meaning.at_indices (cells_of (state_seen self.now printed) (value_seen array.now)) row column }
+    /// The bounds of the indices of an array of numbers; what is none has no cell.
+    pub(crate) fn numbers_extent(&self, array: &Value) -> Extent
+        ensures { (printed : List ℕ) → extent_seen result ≡ cells_extent (cells_of (state_seen self.now printed) (value_seen array.now)) }
     {
         match array {
             Value::Array(number) => match self.arrays.get(*number) {
-                Some(cells) => cells.at_indices(row, column),
-                None => None,
+                Some(cells) => cells.extent(),
+                None => Extent::row(0),
             },
-            _ => None,
+            Value::Row(numbers) => Extent::row(numbers.len()),
+            _ => Extent::row(0),
+        }
+    }
+
+    /// The bounds of the indices of the array of variables with this number; where there is none it has no cell.
+    pub(crate) fn variables_extent(&self, array: usize) -> Extent
+        ensures { (printed : List ℕ) → extent_seen result ≡ variables_extent (variables_of (state_seen self.now printed) (values.Variables array)) }
+    {
+        match self.variable_arrays.get(array) {
+            Some(cells) => cells.extent(),
+            None => Extent::row(0),
+        }
+    }
+
+    /// How many cells an array has.
+    pub(crate) fn size(&self, array: &Value) -> usize
+        ensures size { (printed : List ℕ) → result ≡ size_in (state_seen self.now printed) (value_seen array.now) }
+        ensures small { result < 2 ^ 63 }
+    {
+        match array {
+            Value::Variables(number) => self.variables(*number).len(),
+            _ => self.numbers(array).len(),
+        }
+    }
+
+    /// What a cell holds, a variable unread.
+    fn held_in(&self, array: &Value, cell: u128) -> Value
+        ensures { (printed : List ℕ) → value_seen result ≡ cell_in (state_seen self.now printed) (value_seen array.now) cell }
+    {
+        match array {
+            Value::Variables(number) => self.variable_in(*number, cell),
+            _ => Value::Number(self.number_at(array, cell)),
+        }
+    }
+
+    /// The variable in a cell of the array of variables with this number, and nothing where there is none.
+    pub(crate) fn variable_in(&self, array: usize, cell: u128) -> Value
+        ensures { (printed : List ℕ) → value_seen result ≡ cell_in (state_seen self.now printed) (values.Variables array) cell }
+    {
+        match variable_at(self.variables(array), cell) {
+            Some(variable) => Value::Variable(variable),
+            None => Value::Nothing,
+        }
+    }
+
+    /// The variables of the array of variables with this number, row by row, and none where there is no such array.
+    pub(crate) fn variables(&self, array: usize) -> &[VarId]
+        ensures { (printed : List ℕ) → result.now ≡ (variables_of (state_seen self.now printed) (values.Variables array)).variables }
+    {
+        match self.variable_arrays.get(array) {
+            Some(cells) => &cells.variables,
+            None => &[],
         }
     }
 
@@ -132,14 +192,12 @@ impl State {
     }
 }
 
-/// Where the cell of an index stands in a row of so many numbers.
-fn row_index(len: usize, index: i64) -> Option<u128>
-    requires { len < 2 ^ 63 }
-    ensures { (numbers : List ℤ) → length numbers ≡ len → result ≡ meaning.at_index (row_of numbers) index }
+/// The variable at a place, where there is one.
+fn variable_at(variables: &[VarId], place: u128) -> Option<VarId>
+    ensures { result ≡ slice_get variables.now place }
 {
-    let bounds = Bounds::from_zero(len);
-    if bounds.is_within(index) {
-        Some(bounds.offset(index) as u128)
+    if place < variables.len() as u128 {
+        Some(variables[place as usize])
     } else {
         None
     }

@@ -5,9 +5,8 @@ ghost use Rattle.run_state.specs.Views.{state_seen};
 ghost use Rattle.run_values.specs.declared.stop.Stop.TheVariants.{NoMemory};
 
 use crate::state::State;
-use run_models::copied_solvers;
 use run_values::Stop;
-use run_values::cells::copied_arrays;
+use run_values::cells::{copied_arrays, copied_variables};
 use run_values::values::copied_values;
 
 impl State {
@@ -21,11 +20,13 @@ impl State {
         let globals = copied_values(alloc, &self.globals)?;
         let frame = copied_values(alloc, &self.frame)?;
         let arrays = copied_arrays(alloc, &self.arrays)?;
-        let solvers = copied_solvers(alloc, &self.solvers)?;
+        let variable_arrays = copied_variables(alloc, &self.variable_arrays)?;
+        let solvers = self.solvers.copied(alloc)?;
         Ok(State {
             globals,
             frame,
             arrays,
+            variable_arrays,
             solvers,
             inputs: Vec::new(alloc),
             data: Vec::new(alloc),

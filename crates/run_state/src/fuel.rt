@@ -13,6 +13,7 @@ use run_values::Stop;
 impl State {
     /// Spends units of fuel. `Spent` at this place exactly where fewer are left, and then none is spent; there is no
     /// other stop.
+    #[inline]
     pub fn charge(&mut self, units: u64, at: Place) -> Result<(), Stop>
         ensures did { (printed : List ℕ) → Did (λ _. tt) result (state_seen self.new printed) (charge units at (state_seen self.old printed)) }
         ensures stop { IfErr result (λ stop. stop ≡ Spent at) }

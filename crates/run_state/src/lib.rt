@@ -13,10 +13,13 @@ pub mod fuel;
 pub mod names;
 pub mod out;
 pub mod printing;
+pub mod reading;
+pub mod standing;
 pub mod state;
 pub mod targets;
 mod words;
 
 pub use out::{Bytes, Out, print};
+pub use standing::{InTerm, TermCells};
 pub use state::State;
 pub use targets::Target;

@@ -39,6 +39,7 @@ impl State {
     }
 
     /// The number that a name's cell holds, where it holds one.
+    #[inline]
     pub fn plain_number(&self, slot: Slot) -> Option<i64>
         ensures { (printed : List ℕ) → IsHeldNumber result (held (state_seen self.now printed) slot) }
     {
@@ -51,6 +52,7 @@ impl State {
     /// Writes a value into a name's cell. The cells before it that weren't there yet hold nothing. `NoMemory` where there
     /// is none for them; there is no other stop.
     #[tactic(auto, unfolding(comet_meaning::specs::Cells::put))]
+    #[inline]
     pub fn put(&mut self, slot: Slot, value: Value) -> Result<(), Stop>
         ensures did { (printed : List ℕ) → Did (λ _. tt) result (state_seen self.new printed) (put slot (value_seen value) (state_seen self.old printed)) }
         ensures memory { IfErr result (λ stop. stop ≡ NoMemory) }
@@ -96,6 +98,7 @@ fn plain_cell(cells: &[Value], index: usize) -> Option<Value>
 }
 
 /// The number that a cell holds, where it holds one.
+#[inline]
 fn number_in_cell(cells: &[Value], index: usize) -> Option<i64>
     ensures { IsHeldNumber result (slice_index_or (map value_seen cells.now) index Nothing) }
 {
@@ -107,6 +110,7 @@ fn number_in_cell(cells: &[Value], index: usize) -> Option<i64>
 
 /// Writes a cell. Those before it that weren't there yet hold nothing.
 #[tactic(auto, using(crate::proofs::WrittenCells::seen_there))]
+#[inline]
 fn put_cell(cells: &mut Vec<Value>, index: usize, value: Value) -> Result<(), Stop>
     ensures written { OnOk result (map value_seen cells.new.items ≡ with_cell index (value_seen value) (map value_seen cells.old.items)) }
     ensures memory { IfErr result (λ stop. stop ≡ NoMemory) }

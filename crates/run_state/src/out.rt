@@ -27,6 +27,7 @@ pub trait Out {
 
     /// Takes all bytes. `Full` comes exactly where it tells that it has no room for so many, and then it is as before.
     /// `Failed` comes only where the count of faults rises. After any stop a front of the bytes was taken.
+    #[inline]
     fn put(&mut self, bytes: &[u8]) -> Result<(), OutStop>
         ensures ok { OnOk result (taken self.new ≡ taken self.old ++ bytes.now) }
         ensures lowered { OnOk result (share self.new ≡ share_behind (share self.old) (length bytes.now)) }
@@ -52,6 +53,7 @@ impl Out for Bytes {
 
     ghost faults = { λ out. 0 };
 
+    #[inline]
     fn put(&mut self, bytes: &[u8]) -> Result<(), OutStop> {
         match self.bytes.extend_from_slice(bytes) {
             Ok(()) => Ok(()),

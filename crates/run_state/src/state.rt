@@ -3,8 +3,8 @@ ghost use Rattle.std.specs.Prelude.{◌≡◌, []};
 ghost use Rattle.comet_meaning.specs.State.{first_state};
 ghost use Rattle.run_state.specs.Views.{state_seen};
 
-use run_models::Solver;
-use run_values::{Cells, Value};
+use run_solvers::Solvers;
+use run_values::{Cells, Value, VariableCells};
 use std::alloc::Global;
 
 /// The state of a run.
@@ -13,7 +13,8 @@ pub struct State {
     pub(crate) globals: Vec<Value>,
     pub frame: Vec<Value>,
     pub(crate) arrays: Vec<Cells>,
-    pub solvers: Vec<Solver>,
+    pub(crate) variable_arrays: Vec<VariableCells>,
+    pub solvers: Solvers,
     /// For each `InputFile` how many bytes of the data it has read.
     pub(crate) inputs: Vec<usize>,
     pub(crate) data: Vec<u8>,
@@ -30,7 +31,8 @@ impl State {
             globals: Vec::new(alloc),
             frame: Vec::new(alloc),
             arrays: Vec::new(alloc),
-            solvers: Vec::new(alloc),
+            variable_arrays: Vec::new(alloc),
+            solvers: Solvers::new(alloc),
             inputs: Vec::new(alloc),
             data: text,
             fuel,

@@ -1,11 +1,12 @@
 //! What is written, and what stands there.
 ghost use Rattle.std.specs.Prelude.{◌≡◌, ℕ, List, IfErr};
+ghost use Rattle.comet_meaning.specs.Outcome.{Went};
 ghost use Rattle.comet_meaning.specs.Writes as meaning;
 ghost use Rattle.comet_meaning.specs.Writes.{moved, name_target, old_value};
 ghost use Rattle.run_values.specs.Did.{Did, IsFault};
 ghost use Rattle.run_values.specs.Views.{value_seen};
 ghost use Rattle.run_values.specs.declared.stop.Stop.TheVariants.{NoMemory};
-ghost use Rattle.run_state.specs.Acts.{index_written, cell_written};
+ghost use Rattle.run_state.specs.Acts.{moved_in, index_written, cell_written};
 ghost use Rattle.run_state.specs.Targets.{target_seen};
 ghost use Rattle.run_state.specs.Views.{state_seen};
 
@@ -20,7 +21,7 @@ pub enum Target {
     Nowhere,
     /// The cell of a name.
     Name(Slot),
-    /// A cell of the array with this number.
+    /// A cell of the array of numbers with this number.
     Element(usize, u128),
     Moved(VarId),
 }
@@ -34,29 +35,37 @@ impl State {
         ensures memory { IfErr result (λ stop. stop ≡ NoMemory) }
     {
         match kind {
-            Kind::Variable => {
-                let value = self.look(slot)?;
-                Ok(moved(&value))
-            }
+            Kind::Variable => self.moved_name(slot),
+            Kind::SetVariable => self.moved_name(slot),
             _ => Ok(Target::Name(slot)),
         }
     }
 
+    /// The variable that a name's cell holds, and nothing where it holds none.
+    #[tactic(auto, unfolding(comet_meaning::specs::Cells::look))]
+    fn moved_name(&self, slot: Slot) -> Result<Target, Stop>
+        ensures did { (printed : List ℕ) → Did target_seen result (state_seen self.now printed) (moved_in slot (state_seen self.now printed)) }
+        ensures memory { IfErr result (λ stop. stop ≡ NoMemory) }
+    {
+        let value = self.look(slot)?;
+        Ok(moved(&value))
+    }
+
     /// The cell of an index. `OutOfRange` at this place exactly where there is no such cell; there is no other stop.
-    #[tactic(auto, unfolding(comet_meaning::specs::Cells::cells))]
+    #[tactic(auto, unfolding(comet_meaning::specs::Cells::extent))]
     pub fn index_target(&self, at: Place, array: &Value, index: i64) -> Result<Target, Stop>
         ensures did { (printed : List ℕ) → Did target_seen result (state_seen self.now printed) (index_written at (value_seen array.now) index (state_seen self.now printed)) }
         ensures stop { IfErr result IsFault }
     {
-        match self.at_index(array, index) {
-            Some(cell) => Ok(element_of(array, cell)),
+        match self.extent(array).at_index(index) {
+            Some(cell) => Ok(self.element_of(array, cell)),
             None => Err(Stop::Fault(at, RunFault::OutOfRange)),
         }
     }
 
     /// The cell of a row's index and a column's. `OutOfRange` at this place exactly where there is no such cell; there
     /// is no other stop.
-    #[tactic(auto, unfolding(comet_meaning::specs::Cells::cells))]
+    #[tactic(auto, unfolding(comet_meaning::specs::Cells::extent))]
     pub fn cell_target(
         &self,
         at: Place,
@@ -67,9 +76,21 @@ impl State {
         ensures did { (printed : List ℕ) → Did target_seen result (state_seen self.now printed) (cell_written at (value_seen array.now) row column (state_seen self.now printed)) }
         ensures stop { IfErr result IsFault }
     {
-        match self.at_indices(array, row, column) {
-            Some(cell) => Ok(element_of(array, cell)),
+        match self.extent(array).at_indices(row, column) {
+            Some(cell) => Ok(self.element_of(array, cell)),
             None => Err(Stop::Fault(at, RunFault::OutOfRange)),
+        }
+    }
+
+    /// A cell of an array of numbers, the variable in a cell of one of variables, and nothing of what is no array.
+    #[tactic(auto, unfolding(comet_meaning::specs::Writes::element_of, comet_meaning::specs::Cells::cell))]
+    fn element_of(&self, array: &Value, cell: u128) -> Target
+        ensures { (printed : List ℕ) → meaning.element_of (value_seen array.now) cell (state_seen self.now printed) ≡ Went (target_seen result) (state_seen self.now printed) }
+    {
+        match array {
+            Value::Array(number) => Target::Element(*number, cell),
+            Value::Variables(number) => moved(&self.variable_in(*number, cell)),
+            _ => Target::Nowhere,
         }
     }
 
@@ -94,16 +115,6 @@ fn moved(value: &Value) -> Target
 {
     match value {
         Value::Variable(variable) => Target::Moved(*variable),
-        _ => Target::Nowhere,
-    }
-}
-
-/// A cell of an array, and nothing of what is none.
-fn element_of(array: &Value, cell: u128) -> Target
-    ensures { target_seen result ≡ meaning.element_of (value_seen array.now) cell }
-{
-    match array {
-        Value::Array(number) => Target::Element(*number, cell),
         _ => Target::Nowhere,
     }
 }

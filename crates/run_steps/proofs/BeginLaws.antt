@@ -16,12 +16,13 @@ use Rattle.comet_meaning.proofs.GoingParts.{goes_bind}
 use Rattle.comet_meaning.proofs.Endings.{went_then, halted_then, Passes}
 use Rattle.comet_meaning.proofs.TupleSteps.{begun_err, bind_append}
 use Rattle.run_values.specs.declared.stop.Stop.{Stop}
-use Rattle.run_values.specs.declared.stop.Stop.TheVariants.{Fault, Spent, NoMemory, Output}
+use Rattle.run_values.specs.declared.stop.Stop.TheVariants.{Fault, Spent, Cyclic, NoMemory, Output}
 use Rattle.run_values.specs.Did.{Did, Stopped}
 
 pub stopped_passes : (stop : Stop) (t : State) → Passes (λ A o. Stopped stop t o)
 stopped_passes (Fault place f) t A B o g k e = halted_then g e
 stopped_passes (Spent place) t A B o g k e = halted_then g e
+stopped_passes (Cyclic place names) t A B o g k e = halted_then g e
 stopped_passes NoMemory t A B o g k e = tt
 stopped_passes (Output stop) t A B o g k e = tt
 

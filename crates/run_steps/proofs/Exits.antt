@@ -7,7 +7,7 @@ use Rattle.comet_meaning.specs.Onward.{IsFront, IsOnward, left_by, GoesOn}
 use Rattle.comet_meaning.proofs.GoingOn.{then_on}
 use Rattle.comet_meaning.proofs.Endings.{went_then, halted_then, Passes}
 use Rattle.run_values.specs.declared.stop.Stop.{Stop}
-use Rattle.run_values.specs.declared.stop.Stop.TheVariants.{Fault, Spent, NoMemory, Output}
+use Rattle.run_values.specs.declared.stop.Stop.TheVariants.{Fault, Spent, Cyclic, NoMemory, Output}
 use Rattle.run_values.specs.Did.{Did, Stopped}
 use Rattle.run_steps.specs.Does.{Does, Ends}
 
@@ -20,6 +20,7 @@ front_then front o f k h =
 pub ends_passes : (stop : Stop) (s : State) → Passes (λ A o. Ends stop s o)
 ends_passes (Fault place f) s A B o g k e = halted_then g e
 ends_passes (Spent place) s A B o g k e = halted_then g e
+ends_passes (Cyclic place names) s A B o g k e = halted_then g e
 ends_passes NoMemory s A B o g k e = front_then s.printed o g k e
 ends_passes (Output stop) s A B o g k e = front_then s.printed o g k e
 
@@ -27,6 +28,7 @@ ends_passes (Output stop) s A B o g k e = front_then s.printed o g k e
 pub act_ends : {A : Type 0} (stop : Stop) (t : State) (o : Outcome A) → Stopped stop t o → IsFront t.printed (left_by o).printed → Ends stop t o
 act_ends (Fault place f) t o h k = h
 act_ends (Spent place) t o h k = h
+act_ends (Cyclic place names) t o h k = h
 act_ends NoMemory t o h k = k
 act_ends (Output stop) t o h k = k
 

@@ -4,16 +4,19 @@ use Rattle.std.proofs.lemmas.Int.{ints}
 use Rattle.std.specs.Prelude.{int_lt, nat_abs, slice_get, option_map}
 use Rattle.std.proofs.lemmas.List.{at_drop_more, at_drop_all, take_rest}
 use Rattle.std.proofs.lemmas.Nat.{mul-le}
+use Rattle.std.proofs.lemmas.Bool.{ne_eqb}
+use Rattle.cbl_base.specs.declared.ids.VarId.{VarId}
 use Rattle.checked_tree.specs.declared.expressions.Slot.{Slot}
 use Rattle.comet_meaning.specs.Values.{size_of}
 use Rattle.comet_meaning.specs.Limits.{most_cells}
 use Rattle.comet_meaning.specs.State.{State}
 use Rattle.comet_meaning.specs.Outcome.{Outcome, Went, Act, then_do, give, each_from, each_in, always}
 use Rattle.comet_meaning.specs.Cells.{row_of}
-use Rattle.comet_meaning.specs.Declarations.{Dimension, array_of, cell_count, each_cell}
+use Rattle.comet_meaning.specs.Declarations.{Dimension, array_of, cell_count, each_cell, every_cell}
+use Rattle.comet_meaning.specs.Variables.{variables_with}
 use Rattle.comet_meaning.specs.Onward.{GoesOn}
 use Rattle.comet_meaning.proofs.GoingOn.{goes_each_from, goes_then}
-use Rattle.comet_meaning.proofs.GoingStatements.{goes_each_cell, goes_put_named}
+use Rattle.comet_meaning.proofs.GoingDeclarations.{goes_each_cell, goes_put_named}
 use Rattle.run_values.specs.Views.{bounds_seen}
 use Rattle.run_values.specs.declared.stop.Stop.{Stop}
 use Rattle.run_steps.specs.Does.{Ends}
@@ -110,16 +113,22 @@ pub seen_push : (xs : List Extent) (x : Extent) → map extent_seen (xs ++ x ∷
 seen_push [] x = refl
 seen_push (y ∷ ys) x = ap (λ zs. extent_seen y ∷ zs) (seen_push ys x)
 
-module _ (visit : List ℤ → Act (List ℤ)) (numbers : List ℤ) where
-  pub cells_of_none : (xs : List Extent) → None ≡ slice_get xs 0 → each_cell visit (map extent_seen xs) numbers ≡ visit numbers
+module _ {A : Type 0} (visit : List ℤ → A → Act A) (is : List ℤ) (x : A) where
+  pub cells_of_none : (xs : List Extent) → None ≡ slice_get xs 0 → each_cell visit (map extent_seen xs) is x ≡ visit is x
   cells_of_none [] e = refl
-  cells_of_none (x ∷ xs) e = absurd cc
+  cells_of_none (y ∷ ys) e = absurd cc
 
-  pub cells_of_some : (xs : List Extent) (x : Extent) → Some x ≡ slice_get xs 0 → each_cell visit (map extent_seen xs) numbers ≡ along visit (extent_seen x) (map extent_seen (take (length xs - 1) (drop 1 xs))) numbers
-  cells_of_some [] x e = absurd cc
-  cells_of_some (y ∷ ys) x e = rw take_rest (ap (λ z. along visit (extent_seen z) (map extent_seen ys) numbers) (same y x e)) where
-    same : (y x : Extent) → Some x ≡ Some y → y ≡ x
-    same y x e = cc
+  pub cells_of_some : (xs : List Extent) (d : Extent) → Some d ≡ slice_get xs 0 → each_cell visit (map extent_seen xs) is x ≡ along visit (extent_seen d) (map extent_seen (take (length xs - 1) (drop 1 xs))) is x
+  cells_of_some [] d e = absurd cc
+  cells_of_some (y ∷ ys) d e = rw take_rest (ap (λ z. along visit (extent_seen z) (map extent_seen ys) is x) (same y d e)) where
+    same : (y d : Extent) → Some d ≡ Some y → y ≡ d
+    same y d e = cc
+
+-- all cells, where there is one
+module _ {A : Type 0} (visit : List ℤ → List A → Act (List A)) (ds : List Dimension) (s : State) where
+  pub all_cells : (cell_count ds ≡ 0 → ⊥) → every_cell visit ds s ≡ each_cell visit ds [] [] s
+  unfolding every_cell
+  all_cells h = ap (λ (b : Bool). (if b then give [] else each_cell visit ds [] []) s) (ne_eqb (cell_count ds) 0 h)
 
 -- along a dimension
 
@@ -150,40 +159,40 @@ size_none : (z up : ℤ) → int_lt up z ≡ true → size_of (record { low = z;
 size_none z up h = rw h refl
 
 -- what is left along a dimension, from an index, is the whole
-pub record AlongLeft (visit : List ℤ → Act (List ℤ)) (slot : Option Slot) (later : List Dimension) (z up : ℤ) (xs : List ℤ) (s : State) (w : Outcome (List ℤ)) : Type 0 where
-  pub left : along visit (record { slot = slot; bounds = record { low = z; up = up } }) later xs s ≡ w
+pub record AlongLeft {A : Type 0} (visit : List ℤ → A → Act A) (slot : Option Slot) (later : List Dimension) (is : List ℤ) (z up : ℤ) (x : A) (s : State) (w : Outcome A) : Type 0 where
+  pub left : along visit (record { slot = slot; bounds = record { low = z; up = up } }) later is x s ≡ w
   pub within : z ≤ℤ up
 
-pub along_none : (visit : List ℤ → Act (List ℤ)) (slot : Option Slot) (later : List Dimension) (z up : ℤ) (xs : List ℤ) (s : State) → int_lt up z ≡ true → along visit (record { slot = slot; bounds = record { low = z; up = up } }) later xs s ≡ Went xs s
+pub along_none : {A : Type 0} (visit : List ℤ → A → Act A) (slot : Option Slot) (later : List Dimension) (is : List ℤ) (z up : ℤ) (x : A) (s : State) → int_lt up z ≡ true → along visit (record { slot = slot; bounds = record { low = z; up = up } }) later is x s ≡ Went x s
 unfolding each_in
-along_none visit slot later z up xs s h = ap (λ n. each_from always (λ z ys. at_index visit slot later z ys) z n xs s) (size_none z up h)
+along_none visit slot later is z up x s h = ap (λ n. each_from always (λ z y. at_index visit slot later is z y) z n x s) (size_none z up h)
 
-module _ {visit : List ℤ → Act (List ℤ)} {slot : Option Slot} {later : List Dimension} {z up : ℤ} {xs : List ℤ} {s : State} {w : Outcome (List ℤ)} (m : AlongLeft visit slot later z up xs s w) where
-  along_more : z <ℤ up → then_do (at_index visit slot later z xs s) (along visit (record { slot = slot; bounds = record { low = z +ℤ pos 1; up = up } }) later) ≡ w
+module _ {A : Type 0} {visit : List ℤ → A → Act A} {slot : Option Slot} {later : List Dimension} {is : List ℤ} {z up : ℤ} {x : A} {s : State} {w : Outcome A} (m : AlongLeft visit slot later is z up x s w) where
+  along_more : z <ℤ up → then_do (at_index visit slot later is z x s) (along visit (record { slot = slot; bounds = record { low = z +ℤ pos 1; up = up } }) later is) ≡ w
   unfolding each_in
-  along_more h = sym (ap (λ n. each_from always (λ z ys. at_index visit slot later z ys) z n xs s) (size_more z up h)) ∙ m.left
+  along_more h = sym (ap (λ n. each_from always (λ z y. at_index visit slot later is z y) z n x s) (size_more z up h)) ∙ m.left
 
-  along_all : z ≡ up → then_do (at_index visit slot later z xs s) give ≡ w
+  along_all : z ≡ up → then_do (at_index visit slot later is z x s) give ≡ w
   unfolding each_in
-  along_all h = sym (ap (λ n. each_from always (λ z ys. at_index visit slot later z ys) z n xs s) (ap (λ u. size_of (record { low = z; up = u })) (sym h) ∙ size_last z)) ∙ m.left
+  along_all h = sym (ap (λ n. each_from always (λ z y. at_index visit slot later is z y) z n x s) (ap (λ u. size_of (record { low = z; up = u })) (sym h) ∙ size_last z)) ∙ m.left
 
-  pub along_step : z <ℤ up → {ys : List ℤ} {t : State} → at_index visit slot later z xs s ≡ Went ys t → AlongLeft visit slot later (z +ℤ pos 1) up ys t w
+  pub along_step : z <ℤ up → {y : A} {t : State} → at_index visit slot later is z x s ≡ Went y t → AlongLeft visit slot later is (z +ℤ pos 1) up y t w
   along_step h e = record {
-    left = sym (ap (λ o. then_do o (along visit (record { slot = slot; bounds = record { low = z +ℤ pos 1; up = up } }) later)) e) ∙ along_more h;
+    left = sym (ap (λ o. then_do o (along visit (record { slot = slot; bounds = record { low = z +ℤ pos 1; up = up } }) later is)) e) ∙ along_more h;
     within = omega (arith, ints);
   }
 
-  pub along_end : z ≡ up → {ys : List ℤ} {t : State} → at_index visit slot later z xs s ≡ Went ys t → w ≡ Went ys t
+  pub along_end : z ≡ up → {y : A} {t : State} → at_index visit slot later is z x s ≡ Went y t → w ≡ Went y t
   along_end h e = sym (along_all h) ∙ ap (λ o. then_do o give) e
 
-  pub along_stop : ((ys : List ℤ) → GoesOn (visit ys)) → (stop : Stop) (t : State) → Ends stop t (at_index visit slot later z xs s) → Ends stop t w
+  pub along_stop : ((js : List ℤ) (y : A) → GoesOn (visit js y)) → (stop : Stop) (t : State) → Ends stop t (at_index visit slot later is z x s) → Ends stop t w
   unfolding each_in
-  along_stop k stop t e = subst (Ends stop t) (sym (ap (λ n. each_from always f z n xs s) (size_some z up m.within)) ∙ m.left) (ended_then stop t (f z xs s) (each_from always f (z +ℤ pos 1) (nat_abs (up -ℤ z))) (λ ys. goes_each_from always f (z +ℤ pos 1) (nat_abs (up -ℤ z)) ys goes) e) where
-    f : ℤ → List ℤ → Act (List ℤ)
-    f z ys = at_index visit slot later z ys
+  along_stop k stop t e = subst (Ends stop t) (sym (ap (λ n. each_from always f z n x s) (size_some z up m.within)) ∙ m.left) (ended_then stop t (f z x s) (each_from always f (z +ℤ pos 1) (nat_abs (up -ℤ z))) (λ y. goes_each_from always f (z +ℤ pos 1) (nat_abs (up -ℤ z)) y goes) e) where
+    f : ℤ → A → Act A
+    f z y = at_index visit slot later is z y
 
-    goes : (v : ℤ) (ys : List ℤ) → GoesOn (f v ys)
-    goes v ys = goes_then (goes_put_named slot v) (λ _. goes_each_cell visit later ys k)
+    goes : (v : ℤ) (y : A) → GoesOn (f v y)
+    goes v y = goes_then (goes_put_named slot v) (λ _. goes_each_cell visit later (is ++ v ∷ []) y k)
 
 -- the array
 
@@ -195,6 +204,17 @@ pub array_of_some : (xs : List Extent) (x : Extent) (numbers : List ℤ) → Som
 array_of_some [] x numbers e = absurd cc
 array_of_some (y ∷ []) x numbers e = let same : y ≡ x = cc in rw same refl
 array_of_some (y ∷ z ∷ zs) x numbers e = let same : y ≡ x = cc in rw same refl
+
+-- the same of variables
+
+pub variables_of_none : (xs : List Extent) (variables : List VarId) → None ≡ slice_get xs 0 → variables_with (map extent_seen xs) variables ≡ record { rows = record { low = pos 0; up = pos 0 }; columns = None; variables = variables }
+variables_of_none [] variables e = refl
+variables_of_none (x ∷ xs) variables e = absurd cc
+
+pub variables_of_some : (xs : List Extent) (x : Extent) (variables : List VarId) → Some x ≡ slice_get xs 0 → variables_with (map extent_seen xs) variables ≡ record { rows = bounds_seen x.bounds; columns = option_map (λ (e : Extent). bounds_seen e.bounds) (slice_get xs 1); variables = variables }
+variables_of_some [] x variables e = absurd cc
+variables_of_some (y ∷ []) x variables e = let same : y ≡ x = cc in rw same refl
+variables_of_some (y ∷ z ∷ zs) x variables e = let same : y ≡ x = cc in rw same refl
 
 -- tests of the code
 

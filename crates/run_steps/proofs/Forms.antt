@@ -9,12 +9,13 @@ use Rattle.checked_tree.specs.declared.expressions.Form.TheFolds.{fold_out-Link,
 use Rattle.checked_tree.specs.declared.expressions.Generator.{Generator}
 use Rattle.checked_tree.specs.Shape.{Shape, Seen, seen, whole, shape_of, shape_of_link, shape_of_generator, form_layer, generator_layer, link_layer, typed_layer}
 use Rattle.comet_meaning.specs.Values.{Value}
-use Rattle.comet_meaning.specs.Terms.{Term}
 use Rattle.comet_meaning.specs.State.{State}
 use Rattle.checked_tree.specs.declared.kind.Kind.{Kind}
 use Rattle.checked_tree.specs.declared.kind.Kind.TheVariants as kinds
 use Rattle.checked_tree.specs.declared.expressions.Builtin.{Builtin}
 use Rattle.checked_tree.specs.declared.expressions.Builtin.TheVariants as builtins
+use Rattle.checked_tree.specs.declared.expressions.Method.{Method}
+use Rattle.checked_tree.specs.declared.expressions.Method.TheVariants as methods
 use Rattle.checked_tree.specs.Tasks.{Coded}
 use Rattle.comet_meaning.specs.Outcome.{Outcome, Went, then_do, give, ◌>>=◌}
 use Rattle.comet_meaning.specs.Levels.{Level, Flow}
@@ -22,12 +23,13 @@ use Rattle.comet_meaning.specs.Cells.{back_in, in_scope, in_frame}
 use Rattle.comet_meaning.specs.Calls.{argument_form, given, body_form}
 use Rattle.comet_meaning.specs.Builtins.{builtin_form}
 use Rattle.comet_meaning.specs.Arrays.{count_form}
+use Rattle.comet_meaning.specs.Methods.{object_value}
 use Rattle.checked_tree.specs.declared.expressions.Typed.{Typed}
 use Rattle.run_values.specs.declared.values.Value.{Value as declared}
 use Rattle.run_values.specs.Views.{value_seen}
 use Rattle.run_steps.specs.Views.{part, row}
 use Rattle.comet_meaning.proofs.GoingOn.{goes_give, goes_back_in}
-use Rattle.comet_meaning.proofs.Rows.{ValuesLeft, ArgumentsLeft, TermsLeft}
+use Rattle.comet_meaning.proofs.Rows.{ValuesLeft, ArgumentsLeft}
 use Rattle.comet_meaning.specs.Parts.{read, read_place, value}
 use Rattle.comet_meaning.specs.Operators.{decides, linked, link_form}
 use Rattle.run_values.specs.declared.stop.Stop.{Stop}
@@ -130,6 +132,8 @@ past_end [] i o e h = omega arith
 past_end (x ∷ xs) zero o e h = absurd (h x e)
 past_end (x ∷ xs) (suc i) o e h = omega (arith, past_end xs i o e h)
 
--- what is left of a chain where its term is known
-pub terms_same : (l : Level) (xs : List Link) (i : ℕ) (t u : Term) (s : State) (w : Outcome Term) → t ≡ u → TermsLeft l shape_of_link xs i u s w → TermsLeft l shape_of_link xs i t s w
-terms_same l xs i t u s w e m = subst (λ x. TermsLeft l shape_of_link xs i x s w) (sym e) m
+-- the object of a method whose domain isn't asked
+pub object_read : (l : Level) (m : Method) (o : Shape) (s : State) → (m ≡ methods.Domain → ⊥) → object_value l m o s ≡ value l o s
+unfolding object_value
+object_read l methods.Domain o s h = absurd (h refl)
+object_read l m o s h = refl

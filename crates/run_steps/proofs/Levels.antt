@@ -46,10 +46,10 @@ target_as c (suc d) e s h = rw sub-one refl
 
 -- the term of an expression, by whether it holds incremental variables
 
-pub term_moves : (c : Code) (room : ℕ) (e : Typed) (s : State) → (room ≡ 0 → ⊥) → e.moving ≡ true → (level c room).term (part e) s ≡ moving_term (level c (room - 1)) (shape_of e.form) s
+pub term_moves : (c : Code) (room : ℕ) (e : Typed) (s : State) → (room ≡ 0 → ⊥) → e.moving ≡ true → (level c room).term (part e) s ≡ moving_term (level c (room - 1)) e.place (shape_of e.form) s
 unfolding term_of_expression
-term_moves c room e s h m = term_as c room (part e) s h ∙ ap (λ b. (if b then moving_term (level c (room - 1)) (shape_of e.form) else constant_form c (level c (room - 1)) e.place e.kind (shape_of e.form)) s) m
+term_moves c room e s h m = term_as c room (part e) s h ∙ ap (λ b. (if b then moving_term (level c (room - 1)) e.place (shape_of e.form) else constant_form c (level c (room - 1)) e.place e.kind (shape_of e.form)) s) m
 
 pub term_stays : (c : Code) (room : ℕ) (e : Typed) (s : State) → (room ≡ 0 → ⊥) → e.moving ≡ false → (level c room).term (part e) s ≡ constant_form c (level c (room - 1)) e.place e.kind (shape_of e.form) s
 unfolding term_of_expression
-term_stays c room e s h m = term_as c room (part e) s h ∙ ap (λ b. (if b then moving_term (level c (room - 1)) (shape_of e.form) else constant_form c (level c (room - 1)) e.place e.kind (shape_of e.form)) s) m
+term_stays c room e s h m = term_as c room (part e) s h ∙ ap (λ b. (if b then moving_term (level c (room - 1)) e.place (shape_of e.form) else constant_form c (level c (room - 1)) e.place e.kind (shape_of e.form)) s) m

@@ -15,3 +15,6 @@ pub mod Filling
 pub mod Visiting
 pub mod Behind
 pub mod PlainLaws
+pub mod ListLaws
+pub mod VariableLaws
+pub mod ShortLaws

@@ -23,6 +23,7 @@ use Rattle.comet_meaning.specs.Outcome.{Outcome, Went, then_do, give, give_or, �
 use Rattle.comet_meaning.specs.Arithmetic.{holds}
 use Rattle.comet_meaning.specs.Operators.{decides, linked, link_form, links_form, chain_form, compare_form}
 use Rattle.comet_meaning.proofs.Rows.{LinksLeft, items_rows, links_start, links_step}
+use Rattle.comet_meaning.specs.Arrays.{index_form}
 use Rattle.comet_meaning.specs.Levels.{Code, Level}
 use Rattle.comet_meaning.specs.Expressions.{value_of_expression, value_of_form}
 use Rattle.comet_meaning.specs.Parts.{value, number, truth, read, read_place}
@@ -31,18 +32,19 @@ use Rattle.comet_meaning.specs.Writes.{name_target, target_of_form, target_of_ex
 use Rattle.run_state.specs.declared.targets.Target.{Target}
 use Rattle.run_values.specs.declared.values.Value.{Value as declared}
 use Rattle.run_values.specs.Views.{value_seen}
+use Rattle.run_state.specs.Acts.{indexed}
 use Rattle.run_state.specs.Plain.{IsPlain, IsHeld, IsHeldNumber}
-use Rattle.run_steps.specs.Plainly.{GivesNumber, GivesTarget, GivesValue, GivesWhole, IsArithmetic, Results}
+use Rattle.run_steps.specs.Plainly.{GivesName, GivesNumber, GivesTarget, GivesValue, GivesWhole, IsArithmetic, Results}
 use Rattle.run_steps.specs.Views.{links_seen, part}
 use Rattle.run_steps.proofs.Forms.{link_is, link_goes_on}
-use Rattle.run_steps.proofs.Shapes.{form_chain, form_name}
+use Rattle.run_steps.proofs.Shapes.{form_chain, form_index, form_name}
 
 form_number : (z : ℤ) → shape_of (forms.Number z) ≡ shapes.number z
 unfolding shape_of
 form_number z = ap shape_of (sym (forms.rolls-Number z)) ∙ fold-roll-Form Shape Shape Shape Seen form_layer generator_layer link_layer typed_layer (open_forms.Number z)
 
 -- the value of an expression, by its form
-expr_of_form : (c : Code) (room : ℕ) (e : Typed) (x : Shape) (s : State) → (room ≡ 0 → ⊥) → shape_of e.form ≡ x → (level c room).expr (part e) s ≡ value_of_form c (level c (room - 1)) e.place e.kind x s
+pub expr_of_form : (c : Code) (room : ℕ) (e : Typed) (x : Shape) (s : State) → (room ≡ 0 → ⊥) → shape_of e.form ≡ x → (level c room).expr (part e) s ≡ value_of_form c (level c (room - 1)) e.place e.kind x s
 unfolding level value_of_expression
 expr_of_form c zero e x s h is = absurd (h refl)
 expr_of_form c (suc d) e x s h is = rw sub-one (ap (λ (y : Shape). value_of_form c (level c d) e.place e.kind y s) is)
@@ -57,6 +59,7 @@ read_plain at meant.Nothing s p = elim p [ ]
 read_plain at (meant.Set xs) s p = elim p [ ]
 read_plain at (meant.Row xs) s p = elim p [ ]
 read_plain at (meant.Variable x) s p = elim p [ ]
+read_plain at (meant.Variables n) s p = elim p [ ]
 read_plain at (meant.Solver n) s p = elim p [ ]
 read_plain at (meant.Input n) s p = elim p [ ]
 
@@ -87,7 +90,7 @@ named_plain c room e slot s (Some z) h is holds = name_value c room e slot s (Nu
 
 -- chains
 
-decides_not : (o : ChainOperator) (a : ℤ) → IsArithmetic o → decides o (Number a) ≡ false
+pub decides_not : (o : ChainOperator) (a : ℤ) → IsArithmetic o → decides o (Number a) ≡ false
 decides_not chains.Or a p = elim p [ ]
 decides_not chains.And a p = elim p [ ]
 decides_not chains.Add a p = refl
@@ -96,7 +99,7 @@ decides_not chains.Multiply a p = refl
 decides_not chains.Divide a p = refl
 decides_not chains.Remainder a p = refl
 
-linked_result : (at : Place) (o : ChainOperator) (a b z : ℤ) (s : State) → Results o a b z → linked at o (Number a) (Number b) s ≡ Went (Number z) s
+pub linked_result : (at : Place) (o : ChainOperator) (a b z : ℤ) (s : State) → Results o a b z → linked at o (Number a) (Number b) s ≡ Went (Number z) s
 linked_result at chains.Or a b z s r = elim (r.arithmetic) [ ]
 linked_result at chains.And a b z s r = elim (r.arithmetic) [ ]
 linked_result at chains.Add a b z s r = ap (λ q. then_do (give_or at q s) (λ y. give (Number y))) r.is
@@ -156,3 +159,19 @@ target_of_name c (suc d) e x s h is = rw sub-one (ap (λ (y : Shape). target_of_
 pub named_target : (c : Code) (room : ℕ) (e : Typed) (slot : Slot) (s : State) (t : Option Target) → (room ≡ 0 → ⊥) → e.form ≡ forms.Name slot → GivesTarget t s (name_target e.kind slot s) → GivesTarget t s ((level c room).target (part e) s)
 unfolding target_of_form
 named_target c room e slot s t h is given = subst (GivesTarget t s) (sym (target_of_name c room e (shapes.name slot) s h (ap shape_of is ∙ form_name slot))) given
+
+pub named_slot : (c : Code) (room : ℕ) (e : Typed) (slot : Slot) (s : State) (found : Option Slot) → (room ≡ 0 → ⊥) → e.form ≡ forms.Name slot → GivesName found e.kind s (name_target e.kind slot s) → GivesName found e.kind s ((level c room).target (part e) s)
+unfolding target_of_form
+named_slot c room e slot s found h is given = subst (GivesName found e.kind s) (sym (target_of_name c room e (shapes.name slot) s h (ap shape_of is ∙ form_name slot))) given
+
+-- cells of arrays that names hold
+
+pub cell_plain : (l : Level) (at : Place) (a i : Shape) (v : Value) (z : ℤ) (s : State) (found : Option ℤ) → value l a s ≡ Went v s → value l i s ≡ Went (Number z) s → GivesNumber found s (indexed at v z s) → GivesNumber found s (index_form l at a i s)
+unfolding index_form number
+cell_plain l at a i v z s None h k g = tt
+cell_plain l at a i v z s (Some n) h k g = ap (λ o. then_do o (λ w. number l i >>= λ x. indexed at w x)) h ∙ ap (λ o. then_do (then_do o (λ w. give (number_of w))) (indexed at v)) k ∙ g
+
+pub cell_value : (c : Code) (room : ℕ) (e : Typed) (a i : Box Typed Global) (s : State) (found : Option ℤ) → (room ≡ 0 → ⊥) → e.form ≡ forms.Index a i → GivesNumber found s (index_form (level c (room - 1)) e.place (part a.value) (part i.value) s) → GivesNumber found s (value (level c room) (part e) s)
+unfolding value_of_form
+cell_value c room e a i s None h is g = tt
+cell_value c room e a i s (Some z) h is g = value_plain c room (part e) s (Number z) (expr_of_form c room e (shapes.index (part a.value) (part i.value)) s h (ap shape_of is ∙ form_index a i) ∙ g) tt

@@ -4,6 +4,8 @@ use Rattle.std.specs.declared.alloc.Global.{Global}
 use Rattle.std.specs.declared.boxed.Box.{Box}
 use Rattle.std.specs.declared.vec.Vec.{Vec}
 use Rattle.comet_syntax.specs.declared.tree.expressions.Aggregate.{Aggregate}
+use Rattle.comet_syntax.specs.declared.tree.expressions.Comparison.{Comparison}
+use Rattle.comet_syntax.specs.declared.tree.expressions.UnaryOperator.{UnaryOperator}
 use Rattle.checked_tree.specs.declared.expressions.Slot.{Slot}
 use Rattle.checked_tree.specs.declared.expressions.Builtin.{Builtin}
 use Rattle.checked_tree.specs.declared.expressions.Method.{Method}
@@ -28,6 +30,32 @@ seen_is = λ k t. typed_is t k
 pub form_name : (x : Slot) → shape_of (forms.Name x) ≡ shapes.name x
 unfolding shape_of shape_of_link shape_of_generator
 form_name x = ap shape_of (sym (forms.rolls-Name x)) ∙ fold-roll-Form Shape Shape Shape Seen form_layer generator_layer link_layer typed_layer (open_forms.Name x)
+
+pub form_parentheses : (e : Box Typed Global) → shape_of (forms.Parentheses e) ≡ shapes.parentheses (whole (seen e.value))
+unfolding shape_of shape_of_link shape_of_generator
+form_parentheses e = ap shape_of (sym (forms.rolls-Parentheses e)) ∙ fold-roll-Form Shape Shape Shape Seen form_layer generator_layer link_layer typed_layer (open_forms.Parentheses e) ∙ ap (λ t. shapes.parentheses (whole t)) (typed_is e.value)
+
+pub form_unary : (o : UnaryOperator) (e : Box Typed Global) → shape_of (forms.Unary o e) ≡ shapes.unary o (whole (seen e.value))
+unfolding shape_of shape_of_link shape_of_generator
+form_unary o e = ap shape_of (sym (forms.rolls-Unary o e)) ∙ fold-roll-Form Shape Shape Shape Seen form_layer generator_layer link_layer typed_layer (open_forms.Unary o e) ∙ ap (λ t. shapes.unary o (whole t)) (typed_is e.value)
+
+pub form_compare : (c : Comparison) (a b : Box Typed Global) → shape_of (forms.Compare c a b) ≡ shapes.compare c (whole (seen a.value)) (whole (seen b.value))
+unfolding shape_of shape_of_link shape_of_generator
+form_compare c a b =
+    ap shape_of (sym (forms.rolls-Compare c a b)) ∙ fold-roll-Form Shape Shape Shape Seen form_layer generator_layer link_layer typed_layer (open_forms.Compare c a b)
+    ∙ (λ k. shapes.compare c (whole (typed_is a.value k)) (whole (typed_is b.value k)))
+
+pub form_index : (a i : Box Typed Global) → shape_of (forms.Index a i) ≡ shapes.index (whole (seen a.value)) (whole (seen i.value))
+unfolding shape_of shape_of_link shape_of_generator
+form_index a i =
+    ap shape_of (sym (forms.rolls-Index a i)) ∙ fold-roll-Form Shape Shape Shape Seen form_layer generator_layer link_layer typed_layer (open_forms.Index a i)
+    ∙ (λ k. shapes.index (whole (typed_is a.value k)) (whole (typed_is i.value k)))
+
+pub form_cell : (a i j : Box Typed Global) → shape_of (forms.Cell a i j) ≡ shapes.cell (whole (seen a.value)) (whole (seen i.value)) (whole (seen j.value))
+unfolding shape_of shape_of_link shape_of_generator
+form_cell a i j =
+    ap shape_of (sym (forms.rolls-Cell a i j)) ∙ fold-roll-Form Shape Shape Shape Seen form_layer generator_layer link_layer typed_layer (open_forms.Cell a i j)
+    ∙ (λ k. shapes.cell (whole (typed_is a.value k)) (whole (typed_is i.value k)) (whole (typed_is j.value k)))
 
 pub form_chain : (a : Box Typed Global) (xs : Vec Link Global) → shape_of (forms.Chain a xs) ≡ shapes.chain (whole (seen a.value)) (rows (map shape_of_link xs.items))
 unfolding shape_of shape_of_link shape_of_generator

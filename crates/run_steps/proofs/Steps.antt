@@ -24,15 +24,15 @@ use Rattle.comet_meaning.specs.Loops.{end_or, repeated}
 use Rattle.comet_meaning.specs.Statements.{work_place, meaning_of_statement, meaning_of_form, action_form, deed_form, return_form}
 use Rattle.comet_meaning.specs.Onward.{GoesOn, IsFront, left_by}
 use Rattle.comet_meaning.specs.Printing.{print, shown_form}
-use Rattle.comet_meaning.proofs.GoingOn.{goes_cells, goes_charge, goes_give, goes_new_array, goes_put, goes_then, goes_unless}
-use Rattle.comet_meaning.proofs.GoingParts.{LevelGoesOn}
+use Rattle.comet_meaning.proofs.GoingOn.{goes_charge, goes_give, goes_new_array, goes_put, goes_then, goes_unless}
+use Rattle.comet_meaning.proofs.GoingParts.{LevelGoesOn, goes_read_array}
 use Rattle.comet_meaning.proofs.GoingStatements.{goes_repeated, goes_end_or}
 use Rattle.comet_meaning.proofs.Rows.{DimensionsLeft, PrintsLeft, TasksLeft, dimensions_err, prints_err, tasks_err}
 use Rattle.comet_meaning.proofs.Turns.{TakesFuel, IsLess, repeated_again}
 use Rattle.run_state.specs.Acts.{copied_into, listed}
 use Rattle.run_values.specs.Did.{Did}
 use Rattle.run_values.specs.declared.stop.Stop.{Stop}
-use Rattle.run_values.specs.declared.stop.Stop.TheVariants.{Fault, Spent, NoMemory, Output}
+use Rattle.run_values.specs.declared.stop.Stop.TheVariants.{Fault, Spent, Cyclic, NoMemory, Output}
 use Rattle.run_steps.specs.Copies.{is_array}
 use Rattle.run_steps.specs.Does.{Does, Ends}
 use Rattle.run_steps.specs.Returns.{returned_by}
@@ -91,13 +91,13 @@ module _ {at : Place} {turn : Act (Option Flow)} {s : State} {w : Outcome Flow} 
 
 -- names of one value
 
-pub scalar_as : (l : Level) (at : Place) (slot : Slot) (k : Kind) (e : Seen) (s : State) → scalar_form l at slot k (Some e) s ≡ then_do (value l (whole e) s) (λ v. if is_array k then copied_into at slot v else put slot (as_kind k v))
+pub scalar_as : (l : Level) (at : Place) (slot : Slot) (k : Kind) (e : Seen) (s : State) → scalar_form l at slot k (Some e) s ≡ then_do (value l (whole e) s) (λ v. if is_array k then copied_into at e.place slot v else put slot (as_kind k v))
 unfolding scalar_form copied_form
 scalar_as l at slot kinds.Array e s = refl
 scalar_as l at slot k e s = refl
 
-pub goes_copied_into : (at : Place) (slot : Slot) (v : Value) → GoesOn (copied_into at slot v)
-goes_copied_into at slot v = goes_then (goes_cells v) (λ c. goes_then (goes_charge _ at) (λ _. goes_then (goes_new_array _) (λ a. goes_put slot a)))
+pub goes_copied_into : (at place : Place) (slot : Slot) (v : Value) → GoesOn (copied_into at place slot v)
+goes_copied_into at place slot v = goes_then (goes_read_array place v) (λ c. goes_then (goes_charge _ at) (λ _. goes_then (goes_new_array _) (λ a. goes_put slot a)))
 
 -- rows
 
@@ -117,6 +117,7 @@ unfolding print
 prints text (Ok x) s t e f = e
 prints text (Err (Fault p x)) s t e f = e
 prints text (Err (Spent p)) s t e f = e
+prints text (Err (Cyclic p names)) s t e f = e
 prints text (Err NoMemory) s t e f = f
 prints text (Err (Output x)) s t e f = f
 
@@ -124,11 +125,12 @@ pub shows : {X A : Type 0} (view : X → A) (r : Result X Stop) (t : State) (o :
 shows view (Ok x) t o e f = e
 shows view (Err (Fault p x)) t o e f = e
 shows view (Err (Spent p)) t o e f = e
+shows view (Err (Cyclic p names)) t o e f = e
 shows view (Err NoMemory) t o e f = f
 shows view (Err (Output x)) t o e f = f
 
-pub goes_listed_of : (at : Place) (count : ℕ) (v : Value) → GoesOn (listed at count v)
-goes_listed_of at count v = goes_then (goes_cells v) (λ c. goes_then (goes_unless _ at _) (λ _. goes_then (goes_charge count at) (λ _. goes_give)))
+pub goes_listed_of : (at place : Place) (count : ℕ) (v : Value) → GoesOn (listed at place count v)
+goes_listed_of at place count v = goes_then (goes_read_array place v) (λ c. goes_then (goes_unless _ at _) (λ _. goes_then (goes_charge count at) (λ _. goes_give)))
 
 -- a part that is referred to, where there is one
 pub referred : (o : Option (Bor Typed)) → optional (λ (e : Bor Typed). part e.now) o ≡ optional whole (option_map seen (option_copied o))

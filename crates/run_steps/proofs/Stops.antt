@@ -5,7 +5,7 @@ use Rattle.comet_meaning.specs.State.{State}
 use Rattle.comet_meaning.specs.Outcome.{Outcome, Went, Halted, Act, then_do}
 use Rattle.comet_meaning.specs.Onward.{IsFront, left_by, GoesOn}
 use Rattle.run_values.specs.declared.stop.Stop.{Stop}
-use Rattle.run_values.specs.declared.stop.Stop.TheVariants.{Fault, Spent, NoMemory, Output}
+use Rattle.run_values.specs.declared.stop.Stop.TheVariants.{Fault, Spent, Cyclic, NoMemory, Output}
 use Rattle.run_values.specs.Did.{Did, Stopped}
 use Rattle.run_steps.specs.Does.{Does, Ends}
 
@@ -23,6 +23,7 @@ front_then printed (Halted h t) f k e = e
 pub ended_then : {A B : Type 0} (stop : Stop) (s : State) (o : Outcome A) (f : A → Act B) → ((x : A) → GoesOn (f x)) → Ends stop s o → Ends stop s (then_do o f)
 ended_then (Fault place x) s o f k e = ap (λ o. then_do o f) e
 ended_then (Spent place) s o f k e = ap (λ o. then_do o f) e
+ended_then (Cyclic place names) s o f k e = ap (λ o. then_do o f) e
 ended_then NoMemory s o f k e = front_then s.printed o f k e
 ended_then (Output x) s o f k e = front_then s.printed o f k e
 
@@ -33,6 +34,7 @@ stays s t g same = let on = (g.from s).printed in (on.0, on.1 ∙ ap (λ u. u ++
 pub stopped : {A : Type 0} (stop : Stop) (s t : State) {m : Act A} → GoesOn m → t.printed ≡ s.printed → Stopped stop t (m s) → Ends stop t (m s)
 stopped (Fault place x) s t g same e = e
 stopped (Spent place) s t g same e = e
+stopped (Cyclic place names) s t g same e = e
 stopped NoMemory s t g same e = stays s t g same
 stopped (Output x) s t g same e = stays s t g same
 

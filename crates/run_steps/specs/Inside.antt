@@ -7,12 +7,13 @@ use Rattle.checked_tree.specs.declared.statements.Task.{Task}
 use Rattle.checked_tree.specs.Tasks.{work_of}
 use Rattle.comet_meaning.specs.Levels.{Code}
 use Rattle.comet_meaning.specs.Program.{level}
-use Rattle.comet_meaning.specs.Terms.{Term}
 use Rattle.run_values.specs.declared.stop.Stop.{Stop}
 use Rattle.run_values.specs.declared.values.Value.{Value}
 use Rattle.run_values.specs.Views.{value_seen}
 use Rattle.run_state.specs.declared.state.State.{State}
 use Rattle.run_state.specs.declared.targets.Target.{Target}
+use Rattle.run_state.specs.declared.standing.InTerm.{InTerm}
+use Rattle.run_state.specs.InTerms.{in_term_seen}
 use Rattle.run_state.specs.Targets.{target_seen}
 use Rattle.run_state.specs.Views.{state_seen}
 use Rattle.run_steps.specs.declared.code.Flow.{Flow}
@@ -31,9 +32,9 @@ Evaluates {O = O} taken post c room = (s : MutBor State) (out : MutBor O) (e : B
 abbrev pub Locates : {O : Type 0} → (O → List ℕ) → Answers O Typed Target → Code → ℕ → Type 0
 Locates {O = O} taken post c room = (s : MutBor State) (out : MutBor O) (e : Bor Typed) (r : Result Target Stop) (t : MutBor State) (after : MutBor O) → post s out e r t after → Does target_seen r (state_seen t.now (taken after.now)) ((level c room).target (part e.now) (state_seen s.now (taken out.now)))
 
--- the terms of expressions
-abbrev pub Defines : {O : Type 0} → (O → List ℕ) → Answers O Typed Term → Code → ℕ → Type 0
-Defines {O = O} taken post c room = (s : MutBor State) (out : MutBor O) (e : Bor Typed) (r : Result Term Stop) (t : MutBor State) (after : MutBor O) → post s out e r t after → Does (λ x. x) r (state_seen t.now (taken after.now)) ((level c room).term (part e.now) (state_seen s.now (taken out.now)))
+-- what expressions stand for in a term
+abbrev pub Defines : {O : Type 0} → (O → List ℕ) → Answers O Typed InTerm → Code → ℕ → Type 0
+Defines {O = O} taken post c room = (s : MutBor State) (out : MutBor O) (e : Bor Typed) (r : Result InTerm Stop) (t : MutBor State) (after : MutBor O) → post s out e r t after → Does in_term_seen r (state_seen t.now (taken after.now)) ((level c room).term (part e.now) (state_seen s.now (taken out.now)))
 
 -- what statements do
 abbrev pub Executes : {O : Type 0} → (O → List ℕ) → Answers O Task Flow → Code → ℕ → Type 0

@@ -9,3 +9,4 @@ pub mod Following
 pub mod Operands
 pub mod Plainly
 pub mod Inside
+pub mod Spending

@@ -5,14 +5,15 @@ use Rattle.checked_tree.specs.declared.kind.Kind.{Kind}
 use Rattle.checked_tree.specs.declared.kind.Kind.TheVariants as kinds
 use Rattle.checked_tree.specs.declared.expressions.Builtin.{Builtin}
 use Rattle.checked_tree.specs.Shape.{Shape}
-use Rattle.comet_meaning.specs.Values.{Value, as_kind, number_of}
-use Rattle.comet_meaning.specs.Terms.{Term, constant}
+use Rattle.comet_meaning.specs.Values.{Value, as_kind}
+use Rattle.comet_meaning.specs.Terms.{InTerm, standing}
 use Rattle.comet_meaning.specs.Outcome.{Act, ◌>>=◌, give, charge}
 use Rattle.comet_meaning.specs.Levels.{Code, Level}
-use Rattle.comet_meaning.specs.Parts.{value, values}
+use Rattle.comet_meaning.specs.Parts.{number, value, values}
 use Rattle.comet_meaning.specs.Builtins.{builtin_value}
+use Rattle.comet_meaning.specs.Variables.{Beginning, beginning_with}
+use Rattle.term_model.specs.declared.model.VarKind.{VarKind}
 use Rattle.comet_meaning.specs.Expressions.{value_of_form}
-use Rattle.comet_meaning.specs.TermForms.{joined_form}
 
 -- the value of a part, as a name of this kind holds it
 abbrev pub value_as : Level → Kind → Shape → Act Value
@@ -31,10 +32,10 @@ plain_builtin l at f es = do
   _ ← charge 1 at
   builtin_value at f vs
 
--- the constant of an expression without incremental variables
-abbrev pub constant_form : Code → Level → Place → Kind → Shape → Act Term
-constant_form c l at kind form = value_of_form c l at kind form >>= λ v. give (constant (number_of v))
+-- what an expression without incremental variables stands for in a term
+abbrev pub constant_form : Code → Level → Place → Kind → Shape → Act InTerm
+constant_form c l at kind form = value_of_form c l at kind form >>= standing
 
--- operands joined by operators, as one term
-abbrev pub joined_from : Level → Shape → List Shape → Act Term
-joined_from l first links = l.term first >>= joined_form l links
+-- the number that a variable of this kind begins with
+abbrev pub begun_number : Level → VarKind → Shape → Act Beginning
+begun_number l k e = number l e >>= λ z. give (beginning_with k z)

@@ -1,6 +1,9 @@
 -- The answer of a part that is evaluated without a change of the state: it is the part's value, and the state is as it
 -- was. Where nothing is answered nothing is said. A rule of this project.
 use Rattle.std.specs.Prelude.{◌≡◌, ℤ, Bool, Option, Some, None, Ok}
+use Rattle.checked_tree.specs.declared.expressions.Slot.{Slot}
+use Rattle.checked_tree.specs.declared.kind.Kind.{Kind}
+use Rattle.checked_tree.specs.declared.kind.Kind.TheVariants as kinds
 use Rattle.comet_syntax.specs.declared.tree.expressions.ChainOperator.{ChainOperator}
 use Rattle.comet_syntax.specs.declared.tree.expressions.ChainOperator.TheVariants as chains
 use Rattle.comet_meaning.specs.Arithmetic.{result_of}
@@ -34,6 +37,11 @@ GivesTruth (Some b) s o = o ≡ Went b s
 abbrev pub GivesTarget : Option Target → State → Outcome levels.Target → Type 0
 GivesTarget None s o = Unit {0}
 GivesTarget (Some t) s o = o ≡ Went (target_seen t) s
+
+-- a name of a number, whose own cell is what is written
+abbrev pub GivesName : Option Slot → Kind → State → Outcome levels.Target → Type 0
+GivesName None k s o = Unit {0}
+GivesName (Some slot) k s o = (k ≡ kinds.Int) × (o ≡ Went (levels.Name slot) s)
 
 -- a result of an arithmetic operator that fits
 abbrev pub IsArithmetic : ChainOperator → Type 0

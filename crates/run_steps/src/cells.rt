@@ -1,5 +1,5 @@
 //! The dimensions of an array, and the cells that they have.
-ghost use Rattle.std.specs.Prelude.{◌≡◌, ◌≤◌, ◌*◌, suc, ℕ, List, IfOk, map, nat_le, option_map, slice_get};
+ghost use Rattle.std.specs.Prelude.{◌≡◌, ◌≤◌, ◌*◌, suc, ℕ, List, [], ◌∷◌, ◌++◌, IfErr, IfOk, map, nat_le, option_map, slice_get};
 ghost use Rattle.cbl_base.specs.declared.faults.Limit.TheVariants as limits;
 ghost use Rattle.cbl_base.specs.declared.faults.RunFault.TheVariants.{TooMany};
 ghost use Rattle.comet_meaning.specs.Declarations.{put_named};
@@ -8,15 +8,19 @@ ghost use Rattle.comet_meaning.specs.Limits.{most_cells};
 ghost use Rattle.comet_meaning.specs.Outcome.{unless};
 ghost use Rattle.comet_meaning.specs.State as states;
 ghost use Rattle.comet_meaning.specs.Values.{size_of};
+ghost use Rattle.comet_meaning.specs.Variables.{cell_name, variables_with};
 ghost use Rattle.run_state.specs.Views.{state_seen};
 ghost use Rattle.run_steps.specs.Extents.{capped, extent_seen};
 ghost use Rattle.run_values.specs.Did.{Did};
-ghost use Rattle.run_values.specs.Views.{bounds_seen, cells_seen};
+ghost use Rattle.run_values.specs.Views.{bounds_seen, cells_seen, variable_cells_seen};
+ghost use Rattle.run_values.specs.declared.stop.Stop.TheVariants.{NoMemory};
 
-use cbl_base::{Limit, Place, RunFault};
+use cbl_base::{Limit, Place, RunFault, Text, VarId};
 use checked_tree::Slot;
 use run_state::State;
-use run_values::{Bounds, Cells, Stop, Value};
+use run_values::texts::push_row;
+use run_values::{Bounds, Cells, Stop, Value, VariableCells};
+use std::alloc::Global;
 
 /// How many cells an array may have.
 const MOST_CELLS: u128 = 16_777_216;
@@ -87,6 +91,58 @@ pub fn array_of(extents: &[Extent], numbers: Vec<i64>) -> Cells
             numbers,
         },
     }
+}
+
+/// An array of one dimension or two of these variables.
+pub fn variables_of(extents: &[Extent], variables: Vec<VarId>) -> VariableCells
+    ensures { variable_cells_seen result ≡ variables_with (map extent_seen extents.now) variables.items }
+{
+    match extents.first() {
+        None => VariableCells {
+            rows: Bounds { low: 0, up: 0 },
+            columns: None,
+            variables,
+        },
+        Some(rows) => VariableCells {
+            rows: rows.bounds,
+            columns: columns_of(extents),
+            variables,
+        },
+    }
+}
+
+/// The indices with one more. `NoMemory` where there is none for them; there is no other stop.
+pub fn with_index(alloc: Global, indices: &[i64], index: i64) -> Result<Vec<i64>, Stop>
+    ensures more { IfOk result (λ more. more.items ≡ indices.now ++ index ∷ []) }
+    ensures memory { IfErr result (λ stop. stop ≡ NoMemory) }
+{
+    let mut more = Vec::from_slice(alloc, indices)?;
+    more.push(index)?;
+    Ok(more)
+}
+
+/// The name of a cell: `a[i]` or `a[i,j]`, and the array's own without an index. `NoMemory` where there is none for it;
+/// there is no other stop.
+pub fn cell_name(alloc: Global, name: &Text, indices: &[i64]) -> Result<Text, Stop>
+    ensures name { IfOk result (λ text. text ≡ cell_name name.now indices.now) }
+    ensures memory { IfErr result (λ stop. stop ≡ NoMemory) }
+{
+    if indices.is_empty() {
+        return copied_name(alloc, name);
+    }
+    let mut bytes = Vec::from_slice(alloc, name.as_slice())?;
+    push_row(&mut bytes, indices)?;
+    let text = Text::from_slice(alloc, &bytes)?;
+    Ok(text)
+}
+
+/// A copy of a name. `NoMemory` where there is none for it; there is no other stop.
+pub fn copied_name(alloc: Global, name: &Text) -> Result<Text, Stop>
+    ensures name { IfOk result (λ text. text ≡ name.now) }
+    ensures memory { IfErr result (λ stop. stop ≡ NoMemory) }
+{
+    let text = Text::from_slice(alloc, name.as_slice())?;
+    Ok(text)
 }
 
 /// The bounds of the second dimension, where there is one.

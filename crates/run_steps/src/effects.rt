@@ -1,38 +1,35 @@
 //! What statements do with the last of their operands. Each function takes the operand's answer as it is, and an end of
 //! the run passes on.
 ghost use Rattle.std.specs.Prelude.{◌≡◌, ℕ, ℤ, List, [], ◌∷◌, ◌++◌, ◌+ℤ◌, ◌-ℤ◌, Some, map};
-ghost use Rattle.checked_tree.specs.Actions.{variable_of};
 ghost use Rattle.comet_meaning.specs.Cells.{put};
 ghost use Rattle.comet_meaning.specs.Levels as levels;
-ghost use Rattle.comet_meaning.specs.Models as models;
 ghost use Rattle.comet_meaning.specs.Outcome.{give};
 ghost use Rattle.comet_meaning.specs.State as states;
 ghost use Rattle.comet_meaning.specs.Values as values;
 ghost use Rattle.comet_meaning.specs.Values.{as_kind, number_of};
 ghost use Rattle.comet_meaning.specs.Writes as writes;
-ghost use Rattle.run_models.specs.Views.{beginning_seen};
 ghost use Rattle.run_state.specs.Acts.{listed, shown};
 ghost use Rattle.run_state.specs.Targets.{target_seen};
 ghost use Rattle.run_state.specs.Views.{state_seen};
 ghost use Rattle.run_steps.specs.Does.{Does};
 ghost use Rattle.run_steps.specs.Extents.{extent_seen};
 ghost use Rattle.run_steps.specs.Following.{Follows};
-ghost use Rattle.run_steps.specs.Operands.{added_variable, made_array, next_behind, nothing_behind, started_value, stepped_target};
+ghost use Rattle.run_steps.specs.Operands.{made_array, next_behind, nothing_behind, started_value, stepped_target};
 ghost use Rattle.run_steps.specs.Views.{flow_seen};
 ghost use Rattle.run_values.specs.Did.{Did};
-ghost use Rattle.run_values.specs.Views.{bounds_seen, value_seen};
+ghost use Rattle.run_values.specs.Views.{value_seen};
 
 use crate::cells::{Extent, array_of};
 use crate::code::Flow;
 use crate::leaves::is_array;
-use cbl_base::Place;
-use checked_tree::{Kind, Slot, Variable};
+use cbl_base::{Place, VarId};
+use checked_tree::{Kind, Slot};
 use comet_syntax::tree::Step;
-use run_models::{Beginning, Term};
-use run_objects::{added, new_variable, stepped, subtracted, write};
+use run_objects::{added, define, stepped, subtracted, swap, write};
+use run_solvers::Built;
 use run_state::{Out, State, Target};
 use run_values::values::as_kind;
-use run_values::{Bounds, Stop, Value};
+use run_values::{Stop, Value};
 
 /// The next statement follows.
 pub fn as_next(done: Result<(), Stop>) -> Result<Flow, Stop>
@@ -74,63 +71,19 @@ pub fn put_number(s: &mut State, slot: Slot, number: Result<i64, Stop>) -> Resul
     }
 }
 
-/// A variable begins with a number.
-pub fn as_free(number: Result<i64, Stop>) -> Result<Beginning, Stop>
-    ensures did { (s : states.State) → Follows (λ z. z) beginning_seen number result s s (λ z. give (models.free z)) }
-{
-    match number {
-        Err(stop) => Err(stop),
-        Ok(number) => Ok(Beginning::Free(number)),
-    }
-}
-
-/// A variable begins with a definition.
-pub fn as_defined(term: Result<Term, Stop>) -> Result<Beginning, Stop>
-    ensures did { (s : states.State) → Follows (λ t. t) beginning_seen term result s s (λ t. give (models.defined t)) }
-{
-    match term {
-        Err(stop) => Err(stop),
-        Ok(term) => Ok(Beginning::Defined(term)),
-    }
-}
-
-/// A new variable of a solver, which a name gets.
-fn add_variable(
+/// A name of this kind gets its first value, which stands at the second place; an array is copied.
+fn start_value(
     s: &mut State,
     at: Place,
-    variable: &Variable,
-    domain: Bounds,
-    beginning: Beginning,
+    place: Place,
+    slot: Slot,
+    kind: Kind,
+    value: Value,
 ) -> Result<(), Stop>
-    ensures did { (printed : List ℕ) → Does (λ _. tt) result (state_seen s.new printed) (added_variable at (variable_of variable.now) (bounds_seen domain) (beginning_seen beginning) (state_seen s.old printed)) }
-{
-    let solver = s.look(variable.solver)?;
-    let made = new_variable(s, at, &solver, domain, beginning)?;
-    s.put(variable.slot, made)
-}
-
-/// A variable with its domain and how it begins.
-pub fn begin_variable(
-    s: &mut State,
-    at: Place,
-    variable: &Variable,
-    domain: Bounds,
-    beginning: Result<Beginning, Stop>,
-) -> Result<(), Stop>
-    ensures did { (printed : List ℕ) → Follows beginning_seen (λ _. tt) beginning result (state_seen s.old printed) (state_seen s.new printed) (added_variable at (variable_of variable.now) (bounds_seen domain)) }
-{
-    match beginning {
-        Err(stop) => Err(stop),
-        Ok(beginning) => add_variable(s, at, variable, domain, beginning),
-    }
-}
-
-/// A name of this kind gets its first value; an array is copied.
-fn start_value(s: &mut State, at: Place, slot: Slot, kind: Kind, value: Value) -> Result<(), Stop>
-    ensures did { (printed : List ℕ) → Did (λ _. tt) result (state_seen s.new printed) (started_value at slot kind (value_seen value) (state_seen s.old printed)) }
+    ensures did { (printed : List ℕ) → Did (λ _. tt) result (state_seen s.new printed) (started_value at place slot kind (value_seen value) (state_seen s.old printed)) }
 {
     if is_array(kind) {
-        s.copy_array(at, slot, &value)
+        s.copy_array(at, place, slot, &value)
     } else {
         s.put(slot, as_kind(kind, value))
     }
@@ -140,30 +93,32 @@ fn start_value(s: &mut State, at: Place, slot: Slot, kind: Kind, value: Value) -
 pub fn declare_value(
     s: &mut State,
     at: Place,
+    place: Place,
     slot: Slot,
     kind: Kind,
     value: Result<Value, Stop>,
 ) -> Result<(), Stop>
-    ensures did { (printed : List ℕ) → Follows value_seen (λ _. tt) value result (state_seen s.old printed) (state_seen s.new printed) (started_value at slot kind) }
+    ensures did { (printed : List ℕ) → Follows value_seen (λ _. tt) value result (state_seen s.old printed) (state_seen s.new printed) (started_value at place slot kind) }
 {
     match value {
         Err(stop) => Err(stop),
-        Ok(value) => start_value(s, at, slot, kind, value),
+        Ok(value) => start_value(s, at, place, slot, kind, value),
     }
 }
 
-/// The numbers of a list of exactly as many.
+/// The numbers of a list of exactly as many, which stands at the second place; they are charged.
 pub fn take_list(
     s: &mut State,
     at: Place,
+    place: Place,
     count: u128,
     list: Result<Value, Stop>,
 ) -> Result<Vec<i64>, Stop>
-    ensures did { (printed : List ℕ) → Follows value_seen (λ numbers. numbers.items) list result (state_seen s.old printed) (state_seen s.new printed) (listed at count) }
+    ensures did { (printed : List ℕ) → Follows value_seen (λ numbers. numbers.items) list result (state_seen s.old printed) (state_seen s.new printed) (listed at place count) }
 {
     match list {
         Err(stop) => Err(stop),
-        Ok(list) => s.listed(at, count, &list),
+        Ok(list) => s.listed(at, place, count, &list),
     }
 }
 
@@ -283,5 +238,71 @@ pub fn step_part(
     match target {
         Err(stop) => Err(stop),
         Ok(target) => step_at(s, at, step, &target),
+    }
+}
+
+/// `target <- term`, where the target is a variable.
+fn define_at(s: &mut State, at: Place, target: &Target, term: Built) -> Result<(), Stop>
+    ensures did { (printed : List ℕ) → Did (λ _. tt) result (state_seen s.new printed) (writes.defined_at at (target_seen target.now) term (state_seen s.old printed)) }
+{
+    match target {
+        Target::Moved(variable) => define(s, at, *variable, term),
+        Target::Nowhere => Ok(()),
+        Target::Name(_) => Ok(()),
+        Target::Element(_, _) => Ok(()),
+    }
+}
+
+/// The same with the term's answer.
+pub fn define_part(
+    s: &mut State,
+    at: Place,
+    target: &Target,
+    term: Result<Built, Stop>,
+) -> Result<(), Stop>
+    ensures did { (printed : List ℕ) → Follows (λ t. t) (λ _. tt) term result (state_seen s.old printed) (state_seen s.new printed) (writes.defined_at at (target_seen target.now)) }
+{
+    match term {
+        Err(stop) => Err(stop),
+        Ok(term) => define_at(s, at, target, term),
+    }
+}
+
+/// `left :=: right`, where both are variables.
+fn swap_at(s: &mut State, at: Place, left: &Target, right: &Target) -> Result<(), Stop>
+    ensures did { (printed : List ℕ) → Did (λ _. tt) result (state_seen s.new printed) (writes.swapped_at at (target_seen left.now) (target_seen right.now) (state_seen s.old printed)) }
+{
+    match left {
+        Target::Moved(left) => swap_with(s, at, *left, right),
+        Target::Nowhere => Ok(()),
+        Target::Name(_) => Ok(()),
+        Target::Element(_, _) => Ok(()),
+    }
+}
+
+/// The same where the left one is this variable.
+fn swap_with(s: &mut State, at: Place, left: VarId, right: &Target) -> Result<(), Stop>
+    ensures did { (printed : List ℕ) → Did (λ _. tt) result (state_seen s.new printed) (writes.swapped_at at (levels.Moved left) (target_seen right.now) (state_seen s.old printed)) }
+{
+    match right {
+        Target::Moved(right) => swap(s, at, left, *right),
+        Target::Nowhere => Ok(()),
+        Target::Name(_) => Ok(()),
+        Target::Element(_, _) => Ok(()),
+    }
+}
+
+/// The same with the answer of the right one.
+pub fn swap_part(
+    s: &mut State,
+    at: Place,
+    left: &Target,
+    right: Result<Target, Stop>,
+) -> Result<(), Stop>
+    ensures did { (printed : List ℕ) → Follows target_seen (λ _. tt) right result (state_seen s.old printed) (state_seen s.new printed) (writes.swapped_at at (target_seen left.now)) }
+{
+    match right {
+        Err(stop) => Err(stop),
+        Ok(right) => swap_at(s, at, left, &right),
     }
 }

@@ -3,18 +3,21 @@
 ghost use Rattle.std.specs.Prelude.{◌≡◌, ℕ, List};
 ghost use Rattle.checked_tree.specs.Tasks.{work_of};
 ghost use Rattle.comet_meaning.specs.Levels as levels;
+ghost use Rattle.comet_meaning.specs.Parts as parts;
 ghost use Rattle.comet_meaning.specs.Program.{level};
+ghost use Rattle.run_state.specs.InTerms.{in_term_seen};
 ghost use Rattle.run_state.specs.Targets.{target_seen};
 ghost use Rattle.run_state.specs.Views.{state_seen};
 ghost use Rattle.run_steps.specs.Does.{Does};
 ghost use Rattle.run_steps.specs.Inside.{Defines, Evaluates, Executes, Locates};
+ghost use Rattle.run_steps.specs.Spending.{TakesFuel};
 ghost use Rattle.run_steps.specs.Views.{code_seen, flow_seen, part};
 ghost use Rattle.run_values.specs.Views.{value_seen};
 
 use crate::code::{Code, Flow};
+use crate::short_calls::called_number;
 use checked_tree::{Task, Typed};
-use run_models::Term;
-use run_state::{Out, State, Target};
+use run_state::{InTerm, Out, State, Target};
 use run_values::{Stop, Value};
 
 /// How the parts inside a part are executed: each with the program's functions, and with room for so many parts inside
@@ -33,6 +36,11 @@ pub trait Within<O: Out> {
     fn room(&self) -> u32
         ensures { result ≡ depth self.now };
 
+    /// The number of a part that is a short call, or a chain with short calls, where there is room and fuel for it. Where
+    /// nothing is answered, the state is as it was.
+    fn called_number(&self, s: &mut State, e: &Typed) -> Option<i64>
+        ensures given { (printed : List ℕ) → TakesFuel result (state_seen s.old printed) (state_seen s.new printed) (parts.value (level (code self.now) (depth self.now)) (part e.now) (state_seen s.old printed)) };
+
     /// The value of an expression; of a variable the variable itself.
     fn evaluate(&self, s: &mut State, out: &mut O, e: &Typed) -> Result<Value, Stop>
         requires { is_ready self.now }
@@ -49,10 +57,10 @@ pub trait Defining<O: Out>: Within<O> {
     /// Whether terms may be asked for.
     ghost can_define: { Self → Type 0 };
 
-    /// The term of an expression.
-    fn define(&self, s: &mut State, out: &mut O, e: &Typed) -> Result<Term, Stop>
+    /// What an expression stands for in a term.
+    fn define(&self, s: &mut State, out: &mut O, e: &Typed) -> Result<InTerm, Stop>
         requires { can_define self.now }
-        ensures did { Does (λ t. t) result (state_seen s.new (O.taken out.new)) ((level (Self.code self.now) (Self.depth self.now)).term (part e.now) (state_seen s.old (O.taken out.old))) };
+        ensures did { Does in_term_seen result (state_seen s.new (O.taken out.new)) ((level (Self.code self.now) (Self.depth self.now)).term (part e.now) (state_seen s.old (O.taken out.old))) };
 }
 
 /// The same, where parts are written, too.
@@ -96,6 +104,10 @@ impl<
         self.room
     }
 
+    fn called_number(&self, s: &mut State, e: &Typed) -> Option<i64> {
+        called_number(s, self.code, self.room, e)
+    }
+
     fn evaluate(&self, s: &mut State, out: &mut O, e: &Typed) -> Result<Value, Stop> {
         (self.evaluate)(s, out, e)
     }
@@ -111,12 +123,12 @@ impl<
     O: Out,
     V: Fn(&mut State, &mut O, &Typed) -> Result<Value, Stop>,
     X: Fn(&mut State, &mut O, &Task) -> Result<Flow, Stop>,
-    T: Fn(&mut State, &mut O, &Typed) -> Result<Term, Stop>,
+    T: Fn(&mut State, &mut O, &Typed) -> Result<InTerm, Stop>,
     L,
 > Defining<O> for Inside<'a, 'p, V, X, T, L> {
     ghost can_define = { λ i. T.IsAlwaysCallable i.define × Defines O.taken (T.post i.define) (code_seen i.code.now) i.room };
 
-    fn define(&self, s: &mut State, out: &mut O, e: &Typed) -> Result<Term, Stop> {
+    fn define(&self, s: &mut State, out: &mut O, e: &Typed) -> Result<InTerm, Stop> {
         (self.define)(s, out, e)
     }
 }
@@ -127,7 +139,7 @@ impl<
     O: Out,
     V: Fn(&mut State, &mut O, &Typed) -> Result<Value, Stop>,
     X: Fn(&mut State, &mut O, &Task) -> Result<Flow, Stop>,
-    T: Fn(&mut State, &mut O, &Typed) -> Result<Term, Stop>,
+    T: Fn(&mut State, &mut O, &Typed) -> Result<InTerm, Stop>,
     L: Fn(&mut State, &mut O, &Typed) -> Result<Target, Stop>,
 > Around<O> for Inside<'a, 'p, V, X, T, L> {
     ghost can_locate = { λ i. L.IsAlwaysCallable i.locate × Locates O.taken (L.post i.locate) (code_seen i.code.now) i.room };

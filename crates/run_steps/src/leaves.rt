@@ -1,27 +1,21 @@
 //! What forms ask of their parts and of values, where nothing is evaluated.
-ghost use Rattle.std.specs.Prelude.{◌≡◌, ℕ, pos, IfOk, IfErr, option_map};
+ghost use Rattle.std.specs.Prelude.{◌≡◌, option_map};
 ghost use Rattle.std.specs.Option.{option_copied};
 ghost use Rattle.checked_tree.specs.Actions.{deed_of};
 ghost use Rattle.checked_tree.specs.Shape.{seen};
 ghost use Rattle.comet_meaning.specs.Declarations.{object_form};
 ghost use Rattle.comet_meaning.specs.Parts as parts;
-ghost use Rattle.comet_meaning.specs.TermForms as terms;
-ghost use Rattle.comet_meaning.specs.Terms.{constant};
 ghost use Rattle.run_state.specs.Views.{state_seen};
 ghost use Rattle.run_steps.specs.Copies.{is_array};
 ghost use Rattle.run_steps.specs.Does.{Does};
 ghost use Rattle.run_steps.specs.Returns.{returned_by};
 ghost use Rattle.run_steps.specs.Views.{part};
-ghost use Rattle.run_values.specs.Views.{value_seen};
-ghost use Rattle.run_values.specs.declared.stop.Stop.TheVariants.{NoMemory};
 
 use cbl_base::Place;
 use checked_tree::{Action, Form, Kind, Slot, Typed};
-use run_models::Term;
 use run_objects::make_object;
 use run_state::{Out, State};
-use run_values::{Stop, Value};
-use std::alloc::Global;
+use run_values::Stop;
 
 /// Where a variable is read: at its name or its index, also in parentheses.
 #[tactic(auto, unfolding(checked_tree::specs::Shape::shape_of))]
@@ -72,25 +66,4 @@ pub fn declare_object<O: Out>(
     ensures did { Does (λ _. tt) result (state_seen s.new (O.taken out.new)) (object_form slot kind (state_seen s.old (O.taken out.old))) }
 {
     make_object(s, slot, kind)
-}
-
-/// The term of a value: a variable is itself. `NoMemory` where there is none for it; there is no other stop.
-pub fn term_of_value(alloc: Global, value: &Value) -> Result<Term, Stop>
-    ensures term { IfOk result (λ t. t ≡ terms.term_of_value (value_seen value.now)) }
-    ensures memory { IfErr result (λ stop. stop ≡ NoMemory) }
-{
-    let term = match value {
-        Value::Variable(variable) => Term::variable(alloc, *variable)?,
-        _ => Term::number(alloc, value.number())?,
-    };
-    Ok(term)
-}
-
-/// The term of 0. `NoMemory` where there is none for it; there is no other stop.
-pub fn constant_zero(alloc: Global) -> Result<Term, Stop>
-    ensures term { IfOk result (λ t. t ≡ constant (pos 0)) }
-    ensures memory { IfErr result (λ stop. stop ≡ NoMemory) }
-{
-    let term = Term::number(alloc, 0)?;
-    Ok(term)
 }

@@ -5,11 +5,14 @@
 //! does what the meaning of programs says, and the views of functions and flows.
 #![tactic(auto)]
 
+pub mod blocks;
 pub mod cells;
 pub mod code;
+pub mod declaring;
 pub mod effects;
 pub mod inside;
 pub mod leaves;
 pub mod operands;
 pub mod plain;
+pub mod short_calls;
 pub mod tuples;

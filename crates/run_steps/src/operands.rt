@@ -1,14 +1,15 @@
 //! What is done with the last operand of a form. Each function takes the operand's answer as it is, and an end of the
 //! run passes on: so the evaluation has no exit of its own for it.
-ghost use Rattle.std.specs.Prelude.{◌≡◌, ℕ, ℤ, List, [], ◌∷◌, ◌++◌, IfOk, IfErr, map};
+ghost use Rattle.std.specs.Prelude.{◌≡◌, ℕ, ℤ, List, map};
 ghost use Rattle.checked_tree.specs.Shape.{seen, whole};
 ghost use Rattle.comet_meaning.specs.Operators as operators;
 ghost use Rattle.comet_meaning.specs.Outcome.{give};
 ghost use Rattle.comet_meaning.specs.Parts as parts;
 ghost use Rattle.comet_meaning.specs.State as states;
-ghost use Rattle.comet_meaning.specs.Terms.{constant};
+ghost use Rattle.comet_meaning.specs.Terms.{several_of, single_of, standing};
 ghost use Rattle.comet_meaning.specs.Values.{as_kind, bounds_of, number_of, truth_of};
 ghost use Rattle.run_state.specs.Acts.{cell_written, counted, index_written, indexed, indexed_twice};
+ghost use Rattle.run_state.specs.InTerms.{in_term_seen, term_cells_seen};
 ghost use Rattle.run_state.specs.Targets.{target_seen};
 ghost use Rattle.run_state.specs.Views.{state_seen};
 ghost use Rattle.run_steps.specs.Does.{Does};
@@ -16,15 +17,14 @@ ghost use Rattle.run_steps.specs.Following.{Follows};
 ghost use Rattle.run_steps.specs.Operands.{called_builtin, called_method, named_term};
 ghost use Rattle.run_steps.specs.Views.{part};
 ghost use Rattle.run_values.specs.Views.{bounds_seen, value_seen};
-ghost use Rattle.run_values.specs.declared.stop.Stop.TheVariants.{NoMemory};
 
-use crate::leaves::{read_place, term_of_value};
+use crate::leaves::read_place;
 use cbl_base::Place;
 use checked_tree::{Builtin, Kind, Link, Method, Slot, Typed};
 use comet_syntax::tree::UnaryOperator;
-use run_models::Term;
-use run_objects::{method as call_method, read};
-use run_state::{State, Target};
+use run_objects::method as call_method;
+use run_solvers::Built;
+use run_state::{InTerm, State, Target, TermCells};
 use run_values::builtins::builtin;
 use run_values::operators::{linked, unary};
 use run_values::values::as_kind;
@@ -37,7 +37,7 @@ pub fn read_part(s: &State, e: &Typed, value: Result<Value, Stop>) -> Result<Val
 {
     match value {
         Err(stop) => Err(stop),
-        Ok(value) => read(s, read_place(e), value),
+        Ok(value) => s.read(read_place(e), value),
     }
 }
 
@@ -109,7 +109,7 @@ pub fn join_operand(
     }
 }
 
-/// `a[i]`, of the array and the index.
+/// `a[i]`, of the array and the index; a variable in the cell is unread.
 pub fn index_array(
     s: &State,
     at: Place,
@@ -124,7 +124,7 @@ pub fn index_array(
     }
 }
 
-/// `a[i,j]`, of the array and the indices.
+/// `a[i,j]`, of the array and the indices; a variable in the cell is unread.
 pub fn index_grid(
     s: &State,
     at: Place,
@@ -225,31 +225,49 @@ pub fn call_on(
     }
 }
 
-/// The term of a number. `NoMemory` where there is none for it; there is no other stop.
-fn number_term(alloc: Global, number: i64) -> Result<Term, Stop>
-    ensures term { IfOk result (λ t. t ≡ constant number) }
-    ensures memory { IfErr result (λ stop. stop ≡ NoMemory) }
+/// What a value stands for in a term: a variable for itself, and an array for its cells.
+fn standing(s: &State, value: Value) -> Result<InTerm, Stop>
+    ensures did { (printed : List ℕ) → Does in_term_seen result (state_seen s.now printed) (standing (value_seen value) (state_seen s.now printed)) }
 {
-    let term = Term::number(alloc, number)?;
-    Ok(term)
+    s.standing(value)
 }
 
-/// A value without incremental variables, as a term.
-pub fn as_constant(alloc: Global, value: Result<Value, Stop>) -> Result<Term, Stop>
-    ensures did { (s : states.State) → Follows value_seen (λ t. t) value result s s (λ v. give (constant (number_of v))) }
+/// The same with the value's answer.
+pub fn as_standing(s: &State, value: Result<Value, Stop>) -> Result<InTerm, Stop>
+    ensures did { (printed : List ℕ) → Follows value_seen in_term_seen value result (state_seen s.now printed) (state_seen s.now printed) standing }
 {
     match value {
         Err(stop) => Err(stop),
-        Ok(value) => number_term(alloc, value.number()),
+        Ok(value) => standing(s, value),
     }
 }
 
-/// The term of a name: of a variable the variable itself.
-pub fn name_term(s: &State, slot: Slot) -> Result<Term, Stop>
-    ensures did { (printed : List ℕ) → Does (λ t. t) result (state_seen s.now printed) (named_term slot (state_seen s.now printed)) }
+/// What a name stands for in a term.
+pub fn name_term(s: &State, slot: Slot) -> Result<InTerm, Stop>
+    ensures did { (printed : List ℕ) → Does in_term_seen result (state_seen s.now printed) (named_term slot (state_seen s.now printed)) }
 {
     match s.look(slot) {
         Err(stop) => Err(stop),
-        Ok(value) => term_of_value(s.alloc, &value),
+        Ok(value) => standing(s, value),
+    }
+}
+
+/// What a part stands for, as one term.
+pub fn as_single(term: Result<InTerm, Stop>) -> Result<Built, Stop>
+    ensures did { (s : states.State) → Follows in_term_seen (λ t. t) term result s s (λ t. give (single_of t)) }
+{
+    match term {
+        Err(stop) => Err(stop),
+        Ok(term) => Ok(term.single()),
+    }
+}
+
+/// What a part stands for, as an array of terms.
+pub fn as_several(alloc: Global, term: Result<InTerm, Stop>) -> Result<TermCells, Stop>
+    ensures did { (s : states.State) → Follows in_term_seen term_cells_seen term result s s (λ t. give (several_of t)) }
+{
+    match term {
+        Err(stop) => Err(stop),
+        Ok(term) => Ok(term.several(alloc)),
     }
 }

@@ -1,18 +1,21 @@
 //! Parts that are evaluated without a change of the state: numbers, names whose cells hold a value that is read as it is,
-//! chains of these with arithmetic operators, and relations of these. They cost no fuel. What is answered is the part's
+//! chains of these with arithmetic operators, cells of arrays that names hold, and relations of these. They cost no fuel. What is answered is the part's
 //! value; where anything else stands in a part, or an operation fails, nothing is answered.
 ghost use Rattle.std.specs.Prelude.{◌≡◌, ℕ, List};
+ghost use Rattle.comet_meaning.specs.Arrays.{index_form};
 ghost use Rattle.comet_meaning.specs.Levels as levels;
 ghost use Rattle.comet_meaning.specs.Operators as operators;
 ghost use Rattle.comet_meaning.specs.Parts as parts;
 ghost use Rattle.comet_meaning.specs.Program.{level};
 ghost use Rattle.comet_meaning.specs.State as states;
 ghost use Rattle.comet_meaning.specs.Writes.{name_target};
+ghost use Rattle.run_state.specs.Acts.{indexed};
 ghost use Rattle.run_state.specs.Views.{state_seen};
-ghost use Rattle.run_steps.specs.Plainly.{GivesNumber, GivesTarget, GivesTruth, GivesValue, GivesWhole, ResultsIn};
+ghost use Rattle.run_steps.specs.Plainly.{GivesName, GivesNumber, GivesTarget, GivesTruth, GivesValue, GivesWhole, ResultsIn};
 ghost use Rattle.run_steps.specs.Views.{links_seen, part};
+ghost use Rattle.run_values.specs.Views.{value_seen};
 
-use cbl_base::{add, div, mul, rem, sub};
+use cbl_base::{Place, add, div, mul, rem, sub};
 use checked_tree::{Form, Kind, Link, Slot, Typed};
 use comet_syntax::tree::ChainOperator;
 use run_state::{State, Target};
@@ -33,7 +36,7 @@ pub fn plain_value(s: &State, room: u32, e: &Typed) -> Option<Value>
 }
 
 /// What a name's cell holds, where it is a value that is read as it is.
-fn plain_name(s: &State, room: u32, e: &Typed) -> Option<Value>
+pub fn plain_name(s: &State, room: u32, e: &Typed) -> Option<Value>
     ensures given { (code : levels.Code) (printed : List ℕ) → GivesValue result (state_seen s.now printed) (parts.value (level code room) (part e.now) (state_seen s.now printed)) }
 {
     if room == 0 {
@@ -48,6 +51,13 @@ fn plain_name(s: &State, room: u32, e: &Typed) -> Option<Value>
 /// The number that a part gives, where it is plain and there is room for it.
 pub fn plain_number(s: &State, room: u32, e: &Typed) -> Option<i64>
     ensures given { (code : levels.Code) (printed : List ℕ) → GivesWhole result (state_seen s.now printed) (parts.number (level code room) (part e.now) (state_seen s.now printed)) }
+{
+    number_within(s, room, MOST_CHAINS, e)
+}
+
+/// The number that is a part's value, where it is plain and there is room for it.
+pub fn number_itself(s: &State, room: u32, e: &Typed) -> Option<i64>
+    ensures given { (code : levels.Code) (printed : List ℕ) → GivesNumber result (state_seen s.now printed) (parts.value (level code room) (part e.now) (state_seen s.now printed)) }
 {
     number_within(s, room, MOST_CHAINS, e)
 }
@@ -77,6 +87,30 @@ fn cell_of(kind: Kind, slot: Slot) -> Option<Target>
     }
 }
 
+/// The name of a number that a part is, where there is room for it: its own cell is what is written.
+pub fn plain_slot(room: u32, e: &Typed) -> Option<Slot>
+    ensures given { (code : levels.Code) (s : states.State) → GivesName result e.now.kind s ((level code room).target (part e.now) s) }
+{
+    if room == 0 {
+        return None;
+    }
+    match &e.form {
+        Form::Name(slot) => slot_of(e.kind, *slot),
+        _ => None,
+    }
+}
+
+/// The name itself, where its kind is that of a number.
+#[tactic(auto, unfolding(comet_meaning::specs::Writes::name_target))]
+fn slot_of(kind: Kind, slot: Slot) -> Option<Slot>
+    ensures { (s : states.State) → GivesName result kind s (name_target kind slot s) }
+{
+    match kind {
+        Kind::Int => Some(slot),
+        _ => None,
+    }
+}
+
 /// The truth value of a relation of plain numbers, where there is room for it.
 pub fn plain_truth(s: &State, room: u32, e: &Typed) -> Option<bool>
     ensures given { (code : levels.Code) (printed : List ℕ) → GivesTruth result (state_seen s.now printed) (parts.truth (level code room) (part e.now) (state_seen s.now printed)) }
@@ -100,6 +134,7 @@ pub fn plain_truth(s: &State, room: u32, e: &Typed) -> Option<bool>
 
 /// The number of a part, where it is plain and there is room for it, with at most so many chains inside each other.
 #[cycle(plain)]
+#[inline(always)]
 fn number_within(s: &State, room: u32, chains: u32, e: &Typed) -> Option<i64>
     ensures given { (code : levels.Code) (printed : List ℕ) → GivesNumber result (state_seen s.now printed) (parts.value (level code room) (part e.now) (state_seen s.now printed)) }
 {
@@ -109,7 +144,51 @@ fn number_within(s: &State, room: u32, chains: u32, e: &Typed) -> Option<i64>
     match &e.form {
         Form::Number(number) => Some(*number),
         Form::Name(slot) => s.plain_number(*slot),
+        _ => number_inside(s, room, chains, e),
+    }
+}
+
+/// The same of a part that has parts inside it.
+#[cycle(plain)]
+fn number_inside(s: &State, room: u32, chains: u32, e: &Typed) -> Option<i64>
+    ensures given { (code : levels.Code) (printed : List ℕ) → GivesNumber result (state_seen s.now printed) (parts.value (level code room) (part e.now) (state_seen s.now printed)) }
+{
+    if room == 0 {
+        return None;
+    }
+    match &e.form {
         Form::Chain { first, links } => chain_within(s, room - 1, chains, first, links),
+        Form::Index { array, index } => cell_within(s, room - 1, chains, e.place, array, index),
+        _ => None,
+    }
+}
+
+/// The number in the cell of a plain index, in an array that a name holds.
+#[cycle(plain)]
+fn cell_within(
+    s: &State,
+    room: u32,
+    chains: u32,
+    at: Place,
+    array: &Typed,
+    index: &Typed,
+) -> Option<i64>
+    ensures given { (code : levels.Code) (printed : List ℕ) → GivesNumber result (state_seen s.now printed) (index_form (level code room) at (part array.now) (part index.now) (state_seen s.now printed)) }
+{
+    if chains == 0 {
+        return None;
+    }
+    let array = plain_name(s, room, array)?;
+    let index = number_within(s, room, chains - 1, index)?;
+    number_in(s, at, &array, index)
+}
+
+/// The number in the cell of an index, where there is such a cell and it holds a number.
+fn number_in(s: &State, at: Place, array: &Value, index: i64) -> Option<i64>
+    ensures given { (printed : List ℕ) → GivesNumber result (state_seen s.now printed) (indexed at (value_seen array.now) index (state_seen s.now printed)) }
+{
+    match s.index(at, array, index) {
+        Ok(Value::Number(number)) => Some(number),
         _ => None,
     }
 }
@@ -131,7 +210,8 @@ fn chain_within(s: &State, room: u32, chains: u32, first: &Typed, links: &[Link]
 }
 
 /// The result of an arithmetic operator, where it fits and no divisor is 0.
-fn result_of(operator: ChainOperator, a: i64, b: i64) -> Option<i64>
+#[inline]
+pub(crate) fn result_of(operator: ChainOperator, a: i64, b: i64) -> Option<i64>
     ensures { ResultsIn operator a b result }
 {
     match operator {

@@ -1,8 +1,8 @@
 -- Texts with commas between them.
-use Rattle.std.proofs.Common.{◌≡◌, ℕ, suc, ◌+◌, ◌-◌, ◌<◌, ℤ, Bool, true, false, List, [], ◌∷◌, ◌++◌, take, drop, map, refl, ap, sym, ◌∙◌, append_assoc, arith}
-use Rattle.std.proofs.lemmas.List.{append-nil}
+use Rattle.std.proofs.Common.{◌≡◌, ℕ, suc, ◌+◌, ◌-◌, ◌<◌, Bool, true, false, List, [], ◌∷◌, ◌++◌, take, drop, map, refl, ap, sym, ◌∙◌, append_assoc, arith}
+use Rattle.std.proofs.lemmas.List.{append-nil, take-map, drop-map}
 use Rattle.std.specs.Prelude.{codes, ◌==◌, if◌then◌else◌}
-use Rattle.comet_meaning.specs.Printing.{separated, row_text, rows_of}
+use Rattle.comet_meaning.specs.Printing.{separated, in_brackets, rows_of}
 use Rattle.run_values.specs.Texts.{behind_commas}
 
 -- the first text, and then the others behind commas
@@ -30,11 +30,13 @@ one_more true text t ts =
     append_assoc (text ++ []) t (behind_commas ts) ∙ ap (λ s. s ++ (t ++ behind_commas ts)) (append-nil text) ∙ ap (λ s. text ++ s) (sym (separated_first t ts))
 one_more false text t ts = append_assoc (text ++ codes ",") t (behind_commas ts) ∙ append_assoc text (codes ",") (t ++ behind_commas ts)
 
-pub row_more : (rows row columns : ℕ) (rest : List ℤ) (text : List ℕ) → row < rows →
-    (text ++ (if row == 0 then [] else codes ",")) ++ row_text (take columns rest) ++ pending (row + 1) (map row_text (rows_of (rows - (row + 1)) columns (drop columns rest)))
-    ≡ text ++ pending row (map row_text (rows_of (rows - row) columns rest))
-row_more rows row columns rest text below =
+pub row_more : {A : Type 0} (f : A → List ℕ) (rows row columns : ℕ) (rest : List A) (text : List ℕ) → row < rows →
+    (text ++ (if row == 0 then [] else codes ",")) ++ in_brackets (map f (take columns rest)) ++ pending (row + 1) (map in_brackets (rows_of (rows - (row + 1)) columns (map f (drop columns rest))))
+    ≡ text ++ pending row (map in_brackets (rows_of (rows - row) columns (map f rest)))
+row_more f rows row columns rest text below =
     let more : rows - row ≡ suc (rows - (row + 1)) = omega arith in
-    let later : List (List ℕ) = map row_text (rows_of (rows - (row + 1)) columns (drop columns rest)) in
+    let front : take columns (map f rest) ≡ map f (take columns rest) = take-map f columns rest in
+    let back : drop columns (map f rest) ≡ map f (drop columns rest) = drop-map f columns rest in
+    let later : List (List ℕ) = map in_brackets (rows_of (rows - (row + 1)) columns (map f (drop columns rest))) in
     let behind : pending (row + 1) later ≡ behind_commas later = pending-suc row later in
-    rw (more, behind) (one_more (row == 0) text (row_text (take columns rest)) later)
+    rw (more, front, back, behind) (one_more (row == 0) text (in_brackets (map f (take columns rest))) later)

@@ -2,14 +2,16 @@
 -- run. Where memory ran out, or the output stopped, it tells nothing. A rule of this project.
 use Rattle.std.specs.Prelude.{◌≡◌, Result, Ok, Err}
 use Rattle.comet_meaning.specs.State.{State, left}
-use Rattle.comet_meaning.specs.Outcome.{Outcome, Went, Halted, Faulted, SpentAt}
+use Rattle.comet_meaning.specs.Outcome.{Outcome, Went, Halted, Faulted, SpentAt, Cyclic}
 use Rattle.run_values.specs.declared.stop.Stop.{Stop}
+use Rattle.run_values.specs.declared.stop.Stop.TheVariants as stops
 use Rattle.run_values.specs.declared.stop.Stop.TheVariants.{Fault, Spent, NoMemory, Output}
 
 -- the run stopped so, and left this state
 abbrev pub Stopped : {A : Type 0} → Stop → State → Outcome A → Type 0
 Stopped (Fault place f) s o = o ≡ Halted (Faulted place f) (left s)
 Stopped (Spent place) s o = o ≡ Halted (SpentAt place) (left s)
+Stopped (stops.Cyclic place names) s o = o ≡ Halted (Cyclic place names) (left s)
 Stopped NoMemory s o = Unit {0}
 Stopped (Output stop) s o = Unit {0}
 

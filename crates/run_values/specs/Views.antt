@@ -6,8 +6,10 @@ use Rattle.comet_meaning.specs.State as states
 use Rattle.run_values.specs.declared.aggregates.Element.{Element}
 use Rattle.run_values.specs.declared.values.Bounds.{Bounds}
 use Rattle.run_values.specs.declared.values.Cells.{Cells}
+use Rattle.run_values.specs.declared.values.Extent.{Extent}
 use Rattle.run_values.specs.declared.values.Value.{Value}
-use Rattle.run_values.specs.declared.values.Value.TheVariants.{Nothing, Number, Truth, Range, Set, Array, Row, Variable, Solver, Input}
+use Rattle.run_values.specs.declared.values.VariableCells.{VariableCells}
+use Rattle.run_values.specs.declared.values.Value.TheVariants.{Nothing, Number, Truth, Range, Set, Array, Row, Variable, Variables, Solver, Input}
 
 abbrev pub bounds_seen : Bounds → values.Bounds
 bounds_seen b = record { low = b.low; up = b.up }
@@ -21,11 +23,18 @@ value_seen (Set s) = values.Set s
 value_seen (Array n) = values.Array n
 value_seen (Row xs) = values.Row xs.items
 value_seen (Variable x) = values.Variable x
+value_seen (Variables n) = values.Variables n
 value_seen (Solver m) = values.Solver m
 value_seen (Input k) = values.Input k
 
 abbrev pub cells_seen : Cells → states.Cells
 cells_seen c = record { rows = bounds_seen c.rows; columns = option_map bounds_seen c.columns; numbers = c.numbers.items }
+
+abbrev pub variable_cells_seen : VariableCells → states.VariableCells
+variable_cells_seen c = record { rows = bounds_seen c.rows; columns = option_map bounds_seen c.columns; variables = c.variables.items }
+
+abbrev pub extent_seen : Extent → values.Extent
+extent_seen e = record { rows = bounds_seen e.rows; columns = option_map bounds_seen e.columns }
 
 abbrev pub element_seen : Element → aggregates.Element
 element_seen x = record { key = x.key; value = value_seen x.value }

@@ -1,12 +1,13 @@
 //! Cells of an array.
-ghost use Rattle.std.specs.Prelude.{◌≡◌, pos, IfErr, IfOk, Some, map, slice_index_or};
-ghost use Rattle.comet_meaning.specs.Cells.{no_cells, row_of, at_index, at_column, at_indices, number_at, with_number};
-ghost use Rattle.comet_meaning.specs.Values.{Number};
-ghost use Rattle.run_values.specs.Views.{bounds_seen, cells_seen};
+ghost use Rattle.std.specs.Prelude.{◌≡◌, ◌<◌, ◌^◌, pos, IfErr, IfOk, None, Some, length, map, slice_get, slice_index_or};
+ghost use Rattle.comet_meaning.specs.Cells.{no_cells, row_of, cells_extent, variables_extent, at_index, at_column, at_indices, number_at, with_number};
+ghost use Rattle.comet_meaning.specs.Values.{Number, from_zero};
+ghost use Rattle.run_values.specs.Views.{bounds_seen, cells_seen, extent_seen, variable_cells_seen};
 ghost use Rattle.run_values.specs.declared.stop.Stop.TheVariants.{NoMemory};
 
 use crate::stop::Stop;
-use crate::values::{Bounds, Cells};
+use crate::values::{Bounds, Cells, Extent, VariableCells};
+use cbl_base::VarId;
 use std::alloc::Global;
 
 impl Cells {
@@ -45,26 +46,21 @@ impl Cells {
         })
     }
 
-    /// Where the cell of an index stands; `None` exactly for an index outside the bounds.
-    pub fn at_index(&self, index: i64) -> Option<u128>
-        ensures { result ≡ at_index (cells_seen self.now) index }
+    /// The bounds of its indices.
+    pub fn extent(&self) -> Extent
+        ensures { extent_seen result ≡ cells_extent (cells_seen self.now) }
     {
-        if self.rows.is_within(index) {
-            Some(self.rows.offset(index) as u128)
-        } else {
-            None
+        Extent {
+            rows: self.rows,
+            columns: self.columns,
         }
     }
 
-    /// Where the cell of a row's index and a column's stands; `None` exactly where one of them is outside its bounds,
-    /// and for an array of one dimension.
-    pub fn at_indices(&self, row: i64, column: i64) -> Option<u128>
-        ensures { result ≡ at_indices (cells_seen self.now) row column }
+    /// How many cells there are.
+    pub fn len(&self) -> usize
+        ensures { result ≡ length self.now.numbers.items }
     {
-        match self.columns {
-            None => None,
-            Some(columns) => at_column(self.rows, columns, row, column),
-        }
+        self.numbers.len()
     }
 
     /// The number in a cell, and 0 where there is none.
@@ -85,6 +81,96 @@ impl Cells {
             self.numbers[cell as usize] = number;
         }
     }
+}
+
+impl VariableCells {
+    /// A copy. `NoMemory` where there is none for it; there is no other stop.
+    pub fn copied(&self, alloc: Global) -> Result<VariableCells, Stop>
+        ensures same { IfOk result (λ cells. variable_cells_seen cells ≡ variable_cells_seen self.now) }
+        ensures memory { IfErr result (λ stop. stop ≡ NoMemory) }
+    {
+        let variables = Vec::from_slice(alloc, &self.variables)?;
+        Ok(VariableCells {
+            rows: self.rows,
+            columns: self.columns,
+            variables,
+        })
+    }
+
+    /// The bounds of its indices.
+    pub fn extent(&self) -> Extent
+        ensures { extent_seen result ≡ variables_extent (variable_cells_seen self.now) }
+    {
+        Extent {
+            rows: self.rows,
+            columns: self.columns,
+        }
+    }
+
+    /// How many cells there are.
+    pub fn len(&self) -> usize
+        ensures { result ≡ length self.now.variables.items }
+    {
+        self.variables.len()
+    }
+
+    /// The variable in a cell; `None` exactly where there is no such cell.
+    pub fn variable_at(&self, cell: u128) -> Option<VarId>
+        ensures { result ≡ slice_get self.now.variables.items cell }
+    {
+        match usize::try_from(cell) {
+            Ok(index) => self.variables.get(index).copied(),
+            Err(_) => None,
+        }
+    }
+}
+
+impl Extent {
+    /// The bounds of an array of so many cells in a row, from 0.
+    pub fn row(len: usize) -> Extent
+        requires { len < 2 ^ 63 }
+        ensures rows { bounds_seen result.rows ≡ from_zero len }
+        ensures columns { result.columns ≡ None }
+    {
+        Extent {
+            rows: Bounds::from_zero(len),
+            columns: None,
+        }
+    }
+
+    /// Where the cell of an index stands; `None` exactly for an index outside the bounds.
+    pub fn at_index(self, index: i64) -> Option<u128>
+        ensures { result ≡ at_index (extent_seen self) index }
+    {
+        if self.rows.is_within(index) {
+            Some(self.rows.offset(index) as u128)
+        } else {
+            None
+        }
+    }
+
+    /// Where the cell of a row's index and a column's stands; `None` exactly where one of them is outside its bounds,
+    /// and for an array of one dimension.
+    pub fn at_indices(self, row: i64, column: i64) -> Option<u128>
+        ensures { result ≡ at_indices (extent_seen self) row column }
+    {
+        match self.columns {
+            None => None,
+            Some(columns) => at_column(self.rows, columns, row, column),
+        }
+    }
+}
+
+/// A copy of each array's variables. `NoMemory` where there is none for them; there is no other stop.
+pub fn copied_variables(alloc: Global, arrays: &[VariableCells]) -> Result<Vec<VariableCells>, Stop>
+    ensures same { IfOk result (λ copies. map variable_cells_seen copies.items ≡ map variable_cells_seen arrays.now) }
+    ensures memory { IfErr result (λ stop. stop ≡ NoMemory) }
+{
+    let mut copies = Vec::new(alloc);
+    for cells in arrays {
+        copies.push(cells.copied(alloc)?)?;
+    }
+    Ok(copies)
 }
 
 /// A copy of each array's cells. `NoMemory` where there is none for them; there is no other stop.

@@ -15,4 +15,5 @@ pub mod values;
 
 pub use aggregates::Element;
 pub use stop::{OutStop, Stop};
-pub use values::{Bounds, Cells, Value};
+pub use texts::Shown;
+pub use values::{Bounds, Cells, Extent, Value, VariableCells};

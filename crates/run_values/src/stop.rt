@@ -2,7 +2,7 @@
 ghost use Rattle.std.specs.Prelude.{◌≡◌};
 ghost use Rattle.run_values.specs.declared.stop.Stop.TheVariants.{NoMemory, Output};
 
-use cbl_base::{NoMemory as OutOfMemory, Place, RunFault};
+use cbl_base::{Names, NoMemory as OutOfMemory, Place, RunFault};
 use std::alloc::{AllocError, AllocFailed};
 
 /// Why an output didn't take bytes.
@@ -15,12 +15,13 @@ pub enum OutStop {
     Failed,
 }
 
-/// Why a part of a program stops the run: a fault at a place, the fuel is spent at a place, there was no memory,
-/// or the output stopped.
-#[derive(Clone, Copy, PartialEq, Eq, Debug)]
+/// Why a part of a program stops the run: a fault at a place, the fuel is spent at a place, there is a cycle of
+/// definitions at a place, with the names of its variables, there was no memory, or the output stopped.
+#[derive(Drop, Debug)]
 pub enum Stop {
     Fault(Place, RunFault),
     Spent(Place),
+    Cyclic(Place, Names),
     NoMemory,
     Output(OutStop),
 }

@@ -1,12 +1,12 @@
 //! Values.
 ghost use Rattle.std.specs.Prelude.{◌≡◌, IfErr, IfOk, map};
 ghost use Rattle.comet_meaning.specs.Values as values;
-ghost use Rattle.comet_meaning.specs.Values.{number_of, truth_of, bounds_of, members_of, solver_of, as_kind, first_value};
+ghost use Rattle.comet_meaning.specs.Values.{number_of, truth_of, bounds_of, members_of, solver_of, as_kind, first_value, value_of_input};
 ghost use Rattle.run_values.specs.Views.{bounds_seen, value_seen};
 ghost use Rattle.run_values.specs.declared.stop.Stop.TheVariants.{NoMemory};
 
 use crate::stop::Stop;
-use cbl_base::{IntSet, VarId};
+use cbl_base::{Input, IntSet, VarId};
 use checked_tree::Kind;
 use std::alloc::Global;
 
@@ -15,6 +15,13 @@ use std::alloc::Global;
 pub struct Bounds {
     pub low: i64,
     pub up: i64,
+}
+
+/// The bounds of an array's first index, and of its second one where it has two.
+#[derive(Clone, Copy)]
+pub struct Extent {
+    pub rows: Bounds,
+    pub columns: Option<Bounds>,
 }
 
 /// What an expression gives, and what the cell of a name holds. Arrays, variables and objects are known by their
@@ -30,7 +37,10 @@ pub enum Value {
     Array(usize),
     /// Numbers in a row that are no array yet.
     Row(Vec<i64>),
+    /// A variable that isn't read yet.
     Variable(VarId),
+    /// An array of variables.
+    Variables(usize),
     Solver(usize),
     Input(usize),
 }
@@ -43,7 +53,26 @@ pub struct Cells {
     pub numbers: Vec<i64>,
 }
 
+/// An array of variables with one dimension or two, row by row.
+#[derive(Drop)]
+pub struct VariableCells {
+    pub rows: Bounds,
+    pub columns: Option<Bounds>,
+    pub variables: Vec<VarId>,
+}
+
 impl Value {
+    /// The value that a variable of a model has. `NoMemory` where there is none for a copy; there is no other stop.
+    pub fn from_input(alloc: Global, input: &Input) -> Result<Value, Stop>
+        ensures same { IfOk result (λ value. value_seen value ≡ value_of_input input.now) }
+        ensures memory { IfErr result (λ stop. stop ≡ NoMemory) }
+    {
+        match input {
+            Input::Int(number) => Ok(Value::Number(*number)),
+            Input::Set(set) => copied_set(alloc, set),
+        }
+    }
+
     /// A copy. `NoMemory` where there is none for it; there is no other stop.
     pub fn copied(&self, alloc: Global) -> Result<Value, Stop>
         ensures same { IfOk result (λ value. value_seen value ≡ value_seen self.now) }
@@ -58,6 +87,7 @@ impl Value {
             Value::Array(array) => Ok(Value::Array(*array)),
             Value::Row(numbers) => copied_row(alloc, numbers),
             Value::Variable(variable) => Ok(Value::Variable(*variable)),
+            Value::Variables(array) => Ok(Value::Variables(*array)),
             Value::Solver(solver) => Ok(Value::Solver(*solver)),
             Value::Input(input) => Ok(Value::Input(*input)),
         }

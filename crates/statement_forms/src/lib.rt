@@ -1,15 +1,14 @@
 //! What each form of a statement does.
 //!
 //! One function for each form. They execute the parts inside a part by what they are handed, and know nothing of how
-//! that is done; so none of them is in a cycle with another, but for those that go along the dimensions of an array. The
-//! layers above use that each does what the meaning of the form says.
+//! that is done; so none of them is in a cycle with another. The layers above use that each does what the meaning of the
+//! form says.
 #![tactic(auto)]
 
-mod array_declarations;
-mod declarations;
 mod for_all;
 mod loops;
 mod printing;
 pub mod statements;
 pub mod targets;
+mod together;
 mod writes;

@@ -11,14 +11,15 @@ ghost use Rattle.run_steps.specs.Does.{Does};
 ghost use Rattle.run_steps.specs.Views.{flow_seen};
 ghost use Rattle.run_state.specs.Views.{state_seen};
 
-use crate::array_declarations::declare_array;
-use crate::declarations::{declare, declare_variable};
 use crate::for_all::execute_for_all;
 use crate::loops::{execute_for, execute_while};
 use crate::printing::print_all;
-use crate::writes::{step_target, write_value};
+use crate::together::execute_together;
+use crate::writes::{step_target, swap_values, write_value};
 use cbl_base::Place;
 use checked_tree::{Act, Action, Task, Typed};
+use declaration_forms::array_declarations::declare_array;
+use declaration_forms::declarations::{declare, declare_variable};
 use expression_forms::expressions::{truth_of, value_of};
 use run_state::{Out, State};
 use run_steps::code::Flow;
@@ -68,7 +69,7 @@ pub fn execute_act<O: Out, W: Around<O>>(
         Act::SelectBy { .. } => Ok(Flow::Next),
         Act::Neighbor { .. } => Ok(Flow::Next),
         Act::Whenever { .. } => Ok(Flow::Next),
-        Act::With { .. } => Ok(Flow::Next),
+        Act::With { solver, body, .. } => execute_together(s, out, inside, at, *solver, body),
         Act::Parall { .. } => Ok(Flow::Next),
     }
 }
@@ -199,7 +200,7 @@ pub(crate) fn perform<O: Out, W: Around<O>>(
             operator,
             value,
         } => write_value(s, out, inside, at, *operator, target, value),
-        Action::Swap { .. } => Ok(()),
+        Action::Swap { left, right } => swap_values(s, out, inside, at, left, right),
         Action::Step { target, step } => step_target(s, out, inside, at, *step, target),
         Action::Do(e) => as_done(value_of(s, out, inside, e)),
         Action::Choose(_) => Ok(()),

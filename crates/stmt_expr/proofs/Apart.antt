@@ -42,6 +42,7 @@ given s fuel (Err (stops.Fault place f)) t o spent did = ap (leaving (outside_of
 given s fuel (Err (stops.Spent place)) t o spent did = ap (leaving (outside_of s)) did
 given s fuel (Err stops.NoMemory) t o spent did = tt
 given s fuel (Err (stops.Output stop)) t o spent did = tt
+given s fuel (Err (stops.Cyclic place names)) t o spent did = tt
 
 pub evaluated_apart : (m : Act values.Value) → OnlySpends m → (s : State) (fuel : ℕ) (r : Result Value Stop) (t u : State) →
     u ≡ apart fuel s → Does value_seen r t (m u) → Evaluates m s fuel (answer_seen r) t.fuel

@@ -27,10 +27,12 @@ Gives (Err NoMemory) s o = Unit {0}
 abbrev pub Evaluates : Act values.Value → State → ℕ → Result Value EvalStop → ℕ → Type 0
 Evaluates meant s fuel answer rest = Gives answer (with_fuel rest s) (meant (with_fuel fuel s))
 
--- an answer as it is handed on; an output over memory stops only where memory runs out
+-- an answer as it is handed on; an output over memory stops only where memory runs out, and a pure expression closes no
+-- solver, so none stops at a cycle
 abbrev pub answer_seen : Result Value Stop → Result Value EvalStop
 answer_seen (Ok v) = Ok v
 answer_seen (Err (stops.Fault place f)) = Err (Fault place f)
 answer_seen (Err (stops.Spent place)) = Err (Spent place)
 answer_seen (Err stops.NoMemory) = Err NoMemory
 answer_seen (Err (stops.Output stop)) = Err NoMemory
+answer_seen (Err (stops.Cyclic place names)) = Err NoMemory

@@ -57,6 +57,7 @@ fn handed_on(answer: Result<Value, Stop>) -> Result<Value, EvalStop>
         Ok(value) => Ok(value),
         Err(Stop::Fault(place, fault)) => Err(EvalStop::Fault(place, fault)),
         Err(Stop::Spent(place)) => Err(EvalStop::Spent(place)),
-        Err(Stop::NoMemory | Stop::Output(_)) => Err(EvalStop::NoMemory),
+        // a pure expression closes no solver, so none stops at a cycle
+        Err(Stop::NoMemory | Stop::Output(_) | Stop::Cyclic(..)) => Err(EvalStop::NoMemory),
     }
 }

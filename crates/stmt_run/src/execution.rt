@@ -1,30 +1,37 @@
 //! The run of a checked program.
-ghost use Rattle.std.specs.Prelude.{◌≡◌};
+ghost use Rattle.std.specs.Prelude.{◌≡◌, true};
+ghost use Rattle.cbl_io.specs.Faults.{HasRisen};
 ghost use Rattle.checked_tree.specs.Tasks.{program_of};
 ghost use Rattle.comet_meaning.specs.Program as programs;
 ghost use Rattle.run_steps.specs.Does.{Does};
 ghost use Rattle.run_steps.specs.Views.{flow_seen};
 ghost use Rattle.run_state.specs.Views.{state_seen};
-ghost use Rattle.stmt_run.specs.Ending.{EndsAs, end_seen};
+ghost use Rattle.stmt_run.specs.Ending.{EndsAs, end_seen, output_end};
+ghost use Rattle.stmt_run.specs.declared.execution.RunEnd.TheVariants.{Write};
 
-use cbl_base::{Place, RunFault};
+use crate::counted::CountedOut;
+use cbl_base::{Names, Place, RunFault};
 use checked_tree::Checked;
 use interpreter::{Code, Flow, run as run_tasks};
 use program_forms::pure_functions;
-use run_state::{Bytes, State};
-use run_values::Stop;
+use run_state::{Out, State};
+use run_values::{OutStop, Stop};
 use std::alloc::Global;
 
 /// How a run ends.
-#[derive(Clone, Copy, PartialEq, Eq, Debug)]
+#[derive(Drop, Debug)]
 pub enum RunEnd {
     /// The program ran to its end.
     Done,
+    /// A cycle of definitions at this `close`, with the names of its variables in order.
+    Cyclic(Place, Names),
     /// A fault, with its place.
     Run(Place, RunFault),
     /// The fuel is spent, at this place.
     Spent(Place),
     NoMemory,
+    /// The output failed.
+    Write,
 }
 
 /// What a run leaves: its end, the fuel that it didn't use, and the state.
@@ -36,35 +43,63 @@ pub struct Ended {
 }
 
 /// Runs a program from this state on, and adds what it prints to `out`. The end, the fuel that is left and all that
-/// `out` then holds are those of the program's meaning; with `NoMemory` what `out` holds is a front of that.
-pub fn run(alloc: Global, program: &Checked, state: State, out: &mut Bytes) -> Ended
-    ensures meant { EndsAs result.end result.fuel out.new.bytes.items (programs.run (program_of program.now) (state_seen state out.old.bytes.items)) }
+/// `out` then has taken are those of the program's meaning; with `NoMemory` and `Write` what it has taken is a front of
+/// that. `Write` comes only where the output failed in this call.
+pub fn run<O: CountedOut>(alloc: Global, program: &Checked, state: State, out: &mut O) -> Ended
+    ensures meant { EndsAs result.end result.fuel (O.taken out.new) (programs.run (program_of program.now) (state_seen state (O.taken out.old))) }
+    ensures failed { result.end ≡ Write → HasRisen (O.faults out.old) (O.faults out.new) }
     ensures fuel { result.fuel ≡ result.state.fuel }
 {
     let mut state = state;
+    let failures = out.failures();
     let flow = execute(alloc, program, &mut state, out);
+    let end = end_of(flow, has_risen(failures, out.failures()));
     Ended {
-        end: end_of(&flow),
+        end,
         fuel: state.fuel,
         state,
     }
 }
 
-/// How a run ends whose statements ended so.
-fn end_of(flow: &Result<Flow, Stop>) -> RunEnd
-    ensures { result ≡ end_seen flow.now }
+/// Whether a count of failures has risen. One that can't rise any more counts as risen.
+fn has_risen(old: u64, new: u64) -> bool
+    ensures { result ≡ true → HasRisen old new }
+{
+    old < new || new == u64::MAX
+}
+
+/// How a run ends whose statements ended so, where its output failed or didn't.
+fn end_of(flow: Result<Flow, Stop>, failed: bool) -> RunEnd
+    ensures { result ≡ end_seen flow failed }
 {
     match flow {
         Ok(_) => RunEnd::Done,
-        Err(Stop::Fault(place, fault)) => RunEnd::Run(*place, *fault),
-        Err(Stop::Spent(place)) => RunEnd::Spent(*place),
-        Err(Stop::NoMemory | Stop::Output(_)) => RunEnd::NoMemory,
+        Err(Stop::Cyclic(place, names)) => RunEnd::Cyclic(place, names),
+        Err(Stop::Fault(place, fault)) => RunEnd::Run(place, fault),
+        Err(Stop::Spent(place)) => RunEnd::Spent(place),
+        Err(Stop::NoMemory) => RunEnd::NoMemory,
+        Err(Stop::Output(stop)) => end_of_output(stop, failed),
+    }
+}
+
+/// How a run ends whose output stopped so. One that tells of no failure has none.
+fn end_of_output(stop: OutStop, failed: bool) -> RunEnd
+    ensures { result ≡ output_end stop failed }
+{
+    match (stop, failed) {
+        (OutStop::Failed, true) => RunEnd::Write,
+        _ => RunEnd::NoMemory,
     }
 }
 
 /// Executes the top statements of a program in order.
-fn execute(alloc: Global, program: &Checked, s: &mut State, out: &mut Bytes) -> Result<Flow, Stop>
-    ensures { Does flow_seen result (state_seen s.new out.new.bytes.items) (programs.meaning_of_program (program_of program.now) (state_seen s.old out.old.bytes.items)) }
+fn execute<O: Out>(
+    alloc: Global,
+    program: &Checked,
+    s: &mut State,
+    out: &mut O,
+) -> Result<Flow, Stop>
+    ensures { Does flow_seen result (state_seen s.new (O.taken out.new)) (programs.meaning_of_program (program_of program.now) (state_seen s.old (O.taken out.old))) }
 {
     let pure = pure_functions(alloc, program.functions.as_slice())?;
     let code = Code::new(alloc, program.functions.as_slice(), pure.as_slice())?;

@@ -6,7 +6,5 @@
 
 mod code;
 mod subterms;
-#[cfg(test)]
-mod tests;
 
 pub use subterms::Subterms;

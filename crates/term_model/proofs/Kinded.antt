@@ -13,7 +13,7 @@ use Rattle.term_model.specs.declared.term.Term.{Term}
 not_none : {X : Type 0} (o : Option X) → o ≡ None → IsSome o → ⊥
 not_none o e h = true≢false (sym h ∙ ap is_some e)
 
-none_stays : (ks : List (Option InputKind)) → fold gather_kind None ks ≡ None
+pub none_stays : (ks : List (Option InputKind)) → fold gather_kind None ks ≡ None
 none_stays [] = refl
 none_stays (Some k ∷ ks) = none_stays ks
 none_stays (None ∷ ks) = none_stays ks

@@ -21,10 +21,11 @@ use Rattle.term_model.specs.declared.posting.Side.{Side}
 abbrev pub is_number_var : VarKind → Bool
 is_number_var kind = is_number_kind (kind_of_var kind)
 
--- where a kind was found it is that of the term, which is no deeper than the limit
+-- where a kind was found it is that of the term, which is no deeper than the limit; where none was found a term no deeper
+-- than the limit has none
 abbrev pub IsKindWithin : (ℕ → Option InputKind) → ℕ → Term → Option VarKind → Type 0
 IsKindWithin kinds limit term (Some kind) = (kind_of_term kinds term ≡ Some (kind_of_var kind)) × (depth_of term ≤ limit)
-IsKindWithin kinds limit term None = Unit {0}
+IsKindWithin kinds limit term None = depth_of term ≤ limit → kind_of_term kinds term ≡ None
 
 -- all members of a system or an objective are numbers
 abbrev pub IsTotal : Model → Total → Type 0

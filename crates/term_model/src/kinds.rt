@@ -1,19 +1,22 @@
 //! Which kind a term is of.
-ghost use Rattle.std.specs.Prelude.{◌≡◌, ◌&&◌, ◌==◌, IfOk, Some, length, map, nat_lt};
+ghost use Rattle.std.specs.Prelude.{◌≡◌, ◌≤◌, ◌&&◌, ◌==◌, IfOk, Some, length, map, nat_lt};
 ghost use Rattle.std.specs.List.{list_all};
 ghost use Rattle.std.specs.Option.{option_map};
 ghost use Rattle.cbl_base.specs.Inputs.{all_numbers};
+ghost use Rattle.cbl_base.specs.declared.limits.TheConstants.{MAX_TERM_DEPTH};
 ghost use Rattle.cbl_operations.specs.Operations.Card.{is_one_set};
 ghost use Rattle.cbl_operations.specs.Operations.Member.{are_number_and_set};
 ghost use Rattle.cbl_operations.specs.RuleOf.{rule_of, value_kind};
 ghost use Rattle.cbl_operations.specs.SetForms.{are_two_sets};
 ghost use Rattle.term_model.specs.Checks.{IsKindWithin, is_number_var};
-ghost use Rattle.term_model.specs.Kinds.{kind_of_var, kinds_in, has_fields, node_kind};
+ghost use Rattle.term_model.specs.Depth.{depth_of};
+ghost use Rattle.term_model.specs.Kinds.{kind_of_term, kind_of_var, kinds_in, has_fields, node_kind};
 ghost use Rattle.term_model.specs.Users.{no_users};
 
 use crate::model::{VarDecl, VarKind};
 use crate::term::Term;
 use cbl_base::NoMemory;
+use cbl_base::limits::MAX_TERM_DEPTH;
 use cbl_operations::Op;
 use std::alloc::Global;
 
@@ -189,7 +192,7 @@ pub fn kind_at(vars: &[VarDecl], index: u32) -> Option<VarKind>
 }
 
 /// The kind of a term, if it is well kinded and no deeper than the limit.
-#[tactic(auto, using(crate::proofs::KindSteps::none_so_far, crate::proofs::KindSteps::one_so_far, crate::proofs::KindSteps::node_so_far))]
+#[tactic(auto, using(crate::proofs::KindSteps::none_so_far, crate::proofs::KindSteps::one_so_far, crate::proofs::KindSteps::node_so_far, crate::proofs::KindSteps::var_within, crate::proofs::KindSteps::node_too_deep, crate::proofs::KindSteps::arg_without))]
 pub fn kind_within(
     alloc: Global,
     vars: &[VarDecl],
@@ -216,4 +219,13 @@ pub fn kind_within(
             Ok(node_kind(op, &kinds))
         }
     }
+}
+
+/// The kind of a term that is no deeper than the limit, exactly where it is well kinded.
+#[tactic(auto, using(crate::proofs::KindSteps::kind_found))]
+pub fn term_kind(alloc: Global, vars: &[VarDecl], term: &Term) -> Result<Option<VarKind>, NoMemory>
+    requires { depth_of term.now ≤ MAX_TERM_DEPTH }
+    ensures { IfOk result (λ kind. option_map kind_of_var kind ≡ kind_of_term (kinds_in vars.now) term.now) }
+{
+    kind_within(alloc, vars, MAX_TERM_DEPTH as usize, term)
 }

@@ -3,8 +3,8 @@
 //!
 //! It knows nothing of what terms come to, of solvers or programs. The layers above use the definitions (the
 //! kind, depth and variables of a term, equal terms, the numbered list of the distinct subterms, a well formed
-//! and an acyclic model), that `is_usable` tells of a model that was built that it may be asked, and
-//! `same_term` of two terms whether they are equal.
+//! and an acyclic model), that `is_usable` tells of a model that was built that it may be asked, `term_kind` of a
+//! term its kind, and `same_term` of two terms whether they are equal.
 #![tactic(auto)]
 
 mod definitions;
@@ -17,15 +17,13 @@ mod naming;
 mod order;
 mod posting;
 mod term;
-#[cfg(test)]
-mod tests;
 mod usable;
 
 pub use cbl_operations::Op;
 pub use definitions::{definitions_of, dependencies_of, push_variables};
 pub use equal_operations::{Fields, fields_of, name_of, same_operation};
 pub use equal_terms::same_term;
-pub use kinds::{kind_at, kind_within};
+pub use kinds::{kind_at, kind_within, term_kind};
 pub use laws::{acyclic_law, distinct_subterms_law, equal_terms_law};
 pub use model::{Definition, Member, Model, Posted, Total, VarDecl, VarKind};
 pub use naming::push_users;

@@ -6,8 +6,8 @@ ghost use Rattle.type_calls.specs.Builtins as calls;
 
 use crate::arguments::{any_moving, any_unfixed, arguments_fault, made};
 use cbl_base::Place;
-use checked_tree::make_expressions::make_builtin_call;
 use checked_tree::{Builtin, Cause, Kind, Stop, Typed};
+use tree_makers::make_expressions::make_builtin_call;
 use type_rules::kinds::is_same;
 use type_rules::rows::{builtin_row, builtin_wants};
 use type_rules::rules::{is_term, wants_constraint, with_moving};

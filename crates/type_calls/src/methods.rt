@@ -1,6 +1,6 @@
 //! Calls of methods.
 ghost use Rattle.std.specs.Prelude.{◌≡◌, ◌++◌, map};
-ghost use Rattle.checked_tree.specs.Makes.{Makes};
+ghost use Rattle.tree_makers.specs.Makes.{Makes};
 ghost use Rattle.checked_tree.specs.Shape.{shape_of, seen, whole};
 ghost use Rattle.type_rules.specs.declared.rows.Writes.TheVariants as writes;
 ghost use Rattle.type_scopes.specs.Did.{Did};
@@ -12,8 +12,8 @@ use crate::arguments::{any_moving, arguments_fault};
 use crate::doing::{act_on, no_root};
 use crate::roots::{is_name, push_solvers, roots_of};
 use cbl_base::Place;
-use checked_tree::make_expressions::make_method;
 use checked_tree::{Builtin, Cause, Form, Kind, Method, Slot, Stop, Typed};
+use tree_makers::make_expressions::make_method;
 use type_rules::kinds::is_same;
 use type_rules::rows::{method_row, method_wants};
 use type_rules::rules::is_term;

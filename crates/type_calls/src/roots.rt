@@ -1,6 +1,6 @@
 //! The names through which an array, a variable or an object is reached.
 ghost use Rattle.std.specs.Prelude.{◌≡◌, ◌++◌, [], length, map, OnOk, IfErr, if◌then◌else◌};
-ghost use Rattle.checked_tree.specs.Makes.{Makes};
+ghost use Rattle.tree_makers.specs.Makes.{Makes};
 ghost use Rattle.checked_tree.specs.Shape.{shape_of, seen, whole};
 ghost use Rattle.checked_tree.specs.declared.stop.Stop.TheVariants as stops;
 ghost use Rattle.type_scopes.specs.Names as names;

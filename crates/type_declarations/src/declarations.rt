@@ -1,6 +1,6 @@
 //! What declarations are.
 ghost use Rattle.std.specs.Prelude.{◌≡◌, Option, Some, None, option_map};
-ghost use Rattle.checked_tree.specs.Makes.{Makes};
+ghost use Rattle.tree_makers.specs.Makes.{Makes};
 ghost use Rattle.checked_tree.specs.Shape.{seen};
 ghost use Rattle.checked_tree.specs.Actions.{deed_of, variable_of};
 ghost use Rattle.type_scopes.specs.Did.{Did};
@@ -16,10 +16,11 @@ use crate::parts::{
     start_fits,
 };
 use cbl_base::{Place, Text};
-use checked_tree::make_actions::{make_array, make_declared, make_variable};
 use checked_tree::{Action, Cause, Kind, Slot, Stop, Typed, Variable};
 use comet_syntax::tree::{Declaration, Dimensions, Expression, Name, VariableStart};
 use std::alloc::Global;
+use tree_makers::kept::{behind, beside};
+use tree_makers::make_actions::{make_array, make_declared, make_variable};
 use type_calls::act_on;
 use type_rules::Asked;
 use type_rules::kinds::{asked_of, fits, is_range, is_same};
@@ -71,7 +72,7 @@ fn declare_scalar(
     ensures { Did deed_of result checker.new (declarations.scalar_declared name.now kind (option_map seen start) scope checker.old) }
 {
     let slot = scope.slot_of(checker.count());
-    checker.declare(name.text.as_slice(), kind)?;
+    let start = behind(checker.declare(name.text.as_slice(), kind), start)?;
     Ok(make_declared(slot, kind, start))
 }
 
@@ -89,7 +90,8 @@ fn check_scalar(
 {
     let start = check_start(checker, scope, start)?;
     let is_new = is_new(checker, name, scope);
-    rule(place, declaring_fault(is_new, scalar_fits(kind, &start)))?;
+    let ruled = rule(place, declaring_fault(is_new, scalar_fits(kind, &start)));
+    let start = behind(ruled, start)?;
     declare_scalar(checker, name, kind, start, scope)
 }
 
@@ -103,7 +105,7 @@ fn declare_array(
     ensures { Did deed_of result checker.new (declarations.array_declared name.now kind (cells_of cells) scope checker.old) }
 {
     let slot = scope.slot_of(checker.count());
-    checker.declare(name.text.as_slice(), kind)?;
+    let cells = behind(checker.declare(name.text.as_slice(), kind), cells)?;
     Ok(make_array(slot, kind, cells.sizes, cells.start))
 }
 
@@ -122,10 +124,8 @@ fn check_array(
     let ranges = check_ranges(checker, scope, dimensions)?;
     let cells = check_cells(checker, scope, dimensions, ranges, source)?;
     let is_new = is_new(checker, name, scope);
-    rule(
-        place,
-        declaring_fault(is_new, start_fits(Kind::Int, &cells.start)),
-    )?;
+    let fault = declaring_fault(is_new, start_fits(Kind::Int, &cells.start));
+    let cells = behind(rule(place, fault), cells)?;
     declare_array(
         checker,
         name,
@@ -175,7 +175,9 @@ fn make_declared_variable(
 ) -> Result<Action, Stop>
     ensures { Makes deed_of result (declarations.variable_deed name.now slot solver kind (option_map seen domain) (cells_of cells)) }
 {
-    let text = Text::from_slice(alloc, name.text.as_slice())?;
+    let text = Text::from_slice(alloc, name.text.as_slice());
+    let (kept, text) = beside((domain, cells), text)?;
+    let (domain, cells) = kept;
     let variable = Variable {
         slot,
         name: text,
@@ -199,9 +201,11 @@ fn declare_variable(
     ensures { Did deed_of result checker.new (declarations.variable_declared place name.now declared.kind (option_map seen declared.domain) (cells_of declared.cells) scope found checker.old) }
 {
     let solver = scope.slot_of(found.index);
-    act_on(checker, place, scope, making_doing(), &[solver])?;
+    let done = act_on(checker, place, scope, making_doing(), &[solver]);
+    let declared = behind(done, declared)?;
     let slot = scope.slot_of(checker.count());
-    checker.declare(name.text.as_slice(), declared.kind)?;
+    let done = checker.declare(name.text.as_slice(), declared.kind);
+    let declared = behind(done, declared)?;
     let alloc = checker.alloc();
     make_declared_variable(
         alloc,
@@ -226,11 +230,14 @@ fn declare_with(
     ensures { Did deed_of result checker.new (declarations.variable_with place name.now declared.kind fit (option_map seen declared.domain) (cells_of declared.cells) scope solver checker.old) }
 {
     match solver {
-        None => Err(Stop::Fault(place, Cause::UnknownName)),
+        None => {
+            drop(declared);
+            Err(Stop::Fault(place, Cause::UnknownName))
+        }
         Some(found) => {
             let is_new = is_new(checker, name, scope);
             let fit = is_same(found.kind, Kind::Solver) && (domain_fits(&declared.domain) && fit);
-            rule(place, declaring_fault(is_new, fit))?;
+            let declared = behind(rule(place, declaring_fault(is_new, fit)), declared)?;
             declare_variable(checker, place, name, declared, scope, found)
         }
     }
@@ -252,8 +259,9 @@ fn check_variables(
     ensures { Did deed_of result checker.new (declarations.variables_form place name.now kind dimensions.now solver.now (option_map (λ e. judge e.now) domain.entry) (source_of source.entry) scope checker.old) }
 {
     let ranges = check_ranges(checker, scope, dimensions)?;
-    let domain = check_start(checker, scope, domain)?;
-    let cells = check_cells(checker, scope, dimensions, ranges, source)?;
+    let (ranges, domain) = beside(ranges, check_start(checker, scope, domain))?;
+    let cells = check_cells(checker, scope, dimensions, ranges, source);
+    let (domain, cells) = beside(domain, cells)?;
     let fit = start_fits(kind, &cells.start);
     let found = checker.look(solver.text.as_slice());
     let declared = Declared {
@@ -279,7 +287,7 @@ fn check_variable(
     ensures { Did deed_of result checker.new (declarations.variable_form place name.now kind solver.now (option_map (λ e. judge e.now) domain.entry) (source_of source.entry) scope checker.old) }
 {
     let domain = check_start(checker, scope, domain)?;
-    let start = check_source(checker, scope, source)?;
+    let (domain, start) = beside(domain, check_source(checker, scope, source))?;
     let fit = start_fits(kind, &start);
     let found = checker.look(solver.text.as_slice());
     let sizes = Vec::new(checker.alloc());

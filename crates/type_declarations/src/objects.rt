@@ -1,6 +1,6 @@
 //! The making of objects.
 ghost use Rattle.std.specs.Prelude.{◌≡◌, map, IfOk};
-ghost use Rattle.checked_tree.specs.Makes.{Makes};
+ghost use Rattle.tree_makers.specs.Makes.{Makes};
 ghost use Rattle.checked_tree.specs.Shape.{seen};
 ghost use Rattle.checked_tree.specs.Actions.{deed_of};
 ghost use Rattle.type_scopes.specs.Did.{Did};
@@ -10,10 +10,11 @@ ghost use Rattle.type_declarations.specs.View.{handing_of};
 
 use crate::parts::rule;
 use cbl_base::Place;
-use checked_tree::make_actions::make_object;
 use checked_tree::{Action, Cause, Kind, Slot, Stop, Typed};
 use comet_syntax::tree::{Argument, Class, Maker, Name};
 use std::alloc::Global;
+use tree_makers::kept::{behind, beside};
+use tree_makers::make_actions::make_object;
 use type_calls::{act_on, arguments_fault, roots_of};
 use type_expressions::check_arguments;
 use type_rules::Context;
@@ -78,7 +79,8 @@ pub fn check_handed(
     let count = checker.term_count();
     let context = making_context(kind, scope.context);
     let arguments = check_arguments(checker, context, scope, arguments)?;
-    let terms = Vec::from_slice(checker.alloc(), checker.terms_behind(count))?;
+    let terms = Vec::from_slice(checker.alloc(), checker.terms_behind(count));
+    let (arguments, terms) = beside(arguments, terms)?;
     Ok(Handing { arguments, terms })
 }
 
@@ -166,9 +168,11 @@ fn declare_object(
 ) -> Result<Action, Stop>
     ensures { Did deed_of result checker.new (objects.object_declared name.now kind (handing_of handed) scope checker.old) }
 {
-    let solvers = kept_solvers(checker.alloc(), kind, &handed)?;
+    let solvers = kept_solvers(checker.alloc(), kind, &handed);
+    let (handed, solvers) = beside(handed, solvers)?;
     let slot = scope.slot_of(checker.count());
-    checker.declare_with(name.text.as_slice(), kind, 0, Slots::new(solvers))?;
+    let declared = checker.declare_with(name.text.as_slice(), kind, 0, Slots::new(solvers));
+    let handed = behind(declared, handed)?;
     Ok(make_object(slot, kind, handed.arguments))
 }
 
@@ -197,13 +201,13 @@ fn make_new(
     ensures { Did deed_of result checker.new (objects.object_made made.place made.is_ls name.now made.kind made.made (handing_of handed) scope checker.old) }
 {
     let is_new = is_new(checker, name, scope);
-    rule(
-        made.place,
-        object_fault(is_new, made.kind, made.made, &handed.arguments),
-    )?;
-    let roots = making_roots(checker.alloc(), made.kind, &handed)?;
-    act_on(checker, made.place, scope, object_doing(made.kind), &roots)?;
-    rule(made.place, ls_fault(made.is_ls))?;
+    let fault = object_fault(is_new, made.kind, made.made, &handed.arguments);
+    let handed = behind(rule(made.place, fault), handed)?;
+    let roots = making_roots(checker.alloc(), made.kind, &handed);
+    let (handed, roots) = beside(handed, roots)?;
+    let done = act_on(checker, made.place, scope, object_doing(made.kind), &roots);
+    let handed = behind(done, handed)?;
+    let handed = behind(rule(made.place, ls_fault(made.is_ls)), handed)?;
     declare_object(checker, name, made.kind, handed, scope)
 }
 

@@ -12,6 +12,7 @@ ghost use Rattle.type_declarations.specs.View.{source_of, ranges_of, sizes_of, c
 use cbl_base::Place;
 use checked_tree::{Cause, Dimension as Sized, Kind, Start, Stop, Typed, Way};
 use comet_syntax::tree::{Dimension, Dimensions, Expression, Name};
+use tree_makers::kept::{behind, beside, pushed};
 use type_expressions::check_expression;
 use type_rules::kinds::{fits, is_numbers, is_range};
 use type_rules::{Asked, Context};
@@ -90,10 +91,11 @@ fn check_dimension(
     ensures { Did seen result checker.new (parts.dimension_form clash dimension.now scope checker.old) }
 {
     let range = check_expression(checker, scope, &dimension.range)?;
-    rule(
+    let ruled = rule(
         dimension_place(&dimension.name, &range),
         dimension_fault(clash, range.kind),
-    )?;
+    );
+    let range = behind(ruled, range)?;
     Ok(range)
 }
 
@@ -143,7 +145,8 @@ pub fn check_ranges(
     ensures { Did ranges_of result checker.new (parts.ranges_form dimensions.now scope checker.old) }
 {
     let first = check_dimension(checker, scope, false, &dimensions.first)?;
-    let second = check_second(checker, scope, &dimensions.first.name, &dimensions.second)?;
+    let second = check_second(checker, scope, &dimensions.first.name, &dimensions.second);
+    let (first, second) = beside(first, second)?;
     Ok(Ranges { first, second })
 }
 
@@ -161,7 +164,8 @@ fn size(
         None => Ok(Sized { slot: None, range }),
         Some(name) => {
             let slot = scope.slot_of(checker.count());
-            checker.declare(name.text.as_slice(), Kind::Int)?;
+            let declared = checker.declare(name.text.as_slice(), Kind::Int);
+            let range = behind(declared, range)?;
             Ok(Sized {
                 slot: Some(slot),
                 range,
@@ -193,14 +197,16 @@ fn sizes(
 ) -> Result<Vec<Sized>, Stop>
     ensures { Did sizes_of result checker.new (parts.sizes_form dimensions.now (ranges_of ranges) scope checker.old) }
 {
-    let mut sizes = Vec::new(checker.alloc());
-    let first = size(checker, scope, &dimensions.first.name, ranges.first)?;
-    sizes.push(first)?;
-    match ranges.second {
+    let sizes = Vec::new(checker.alloc());
+    let first = size(checker, scope, &dimensions.first.name, ranges.first);
+    let (second, first) = beside(ranges.second, first)?;
+    let (second, sizes) = beside(second, pushed(sizes, first))?;
+    match second {
         None => Ok(sizes),
         Some(range) => {
-            let second = size_second(checker, scope, &dimensions.second, range)?;
-            sizes.push(second)?;
+            let second = size_second(checker, scope, &dimensions.second, range);
+            let (sizes, second) = beside(sizes, second)?;
+            let sizes = pushed(sizes, second)?;
             Ok(sizes)
         }
     }
@@ -264,6 +270,7 @@ fn list_source(
         Source::Nothing => Ok(start),
         Source::Each(value) => {
             if is_list(&start) {
+                drop(start);
                 let value = check_expression(checker, scope, value)?;
                 Ok(Some(Start {
                     way: Way::List,
@@ -295,7 +302,7 @@ fn cells_within(
     ensures { Did cells_of result checker.new (parts.cells_within dimensions.now (ranges_of ranges) (source_of source.entry) scope checker.old) }
 {
     let sizes = sizes(checker, scope, dimensions, ranges)?;
-    let start = check_source(checker, scope, source)?;
+    let (sizes, start) = beside(sizes, check_source(checker, scope, source))?;
     Ok(Cells { sizes, start })
 }
 
@@ -314,11 +321,9 @@ pub fn check_cells(
     let count = checker.count();
     let cells = cells_within(checker, scope.opened(count), dimensions, ranges, source)?;
     checker.close(count);
-    let start = list_source(checker, scope, source, cells.start)?;
-    Ok(Cells {
-        sizes: cells.sizes,
-        start,
-    })
+    let start = list_source(checker, scope, source, cells.start);
+    let (sizes, start) = beside(cells.sizes, start)?;
+    Ok(Cells { sizes, start })
 }
 
 fn start_asked(kind: Kind, way: Way) -> Asked

@@ -1,6 +1,6 @@
 //! What expressions are.
 ghost use Rattle.std.specs.Prelude.{◌≡◌, false, [], ◌∷◌, map, option_map, Option};
-ghost use Rattle.checked_tree.specs.Makes.{Makes};
+ghost use Rattle.tree_makers.specs.Makes.{Makes};
 ghost use Rattle.checked_tree.specs.Shape as shapes;
 ghost use Rattle.checked_tree.specs.Shape.{shape_of, shape_of_link, shape_of_generator, seen};
 ghost use Rattle.checked_tree.specs.declared.kind.Kind.TheVariants as kind;
@@ -13,11 +13,6 @@ ghost use Rattle.type_expressions.specs.Expressions.{judge, judge_link, judge_ar
 ghost use Rattle.type_expressions.specs.View.{front_of, values_of, generators_of};
 
 use cbl_base::{Place, Text};
-use checked_tree::make_expressions::{
-    make_aggregate, make_builtin, make_cell, make_chain, make_compare, make_conditional,
-    make_generator, make_index, make_link, make_list, make_name, make_number, make_parentheses,
-    make_range, make_set, make_text, make_truth, make_unary,
-};
 use checked_tree::{
     Builtin, Cause, Generator as CheckedGenerator, Kind, Link as CheckedLink, Slot, Stop, Typed,
 };
@@ -26,6 +21,12 @@ use comet_syntax::tree::{
     Link, Name, Suffix, UnaryOperator,
 };
 use std::alloc::Global;
+use tree_makers::kept::{behind, beside, pushed};
+use tree_makers::make_expressions::{
+    make_aggregate, make_builtin, make_cell, make_chain, make_compare, make_conditional,
+    make_generator, make_index, make_link, make_list, make_name, make_number, make_parentheses,
+    make_range, make_set, make_text, make_truth, make_unary,
+};
 use type_calls::{all_numbers, any_moving, called, first_context, made, method_called, note_of};
 use type_rules::kinds::{is_incremental, is_same};
 use type_rules::rows::method_named;
@@ -52,9 +53,11 @@ fn noted(checker: &mut Checker, slot: Slot, typed: Typed) -> Result<Typed, Stop>
     ensures { Did seen result checker.new (expressions.noted slot (seen typed) checker.old) }
 {
     if typed.moving {
-        checker.name_in_term(slot)?;
+        let typed = behind(checker.name_in_term(slot), typed)?;
+        Ok(typed)
+    } else {
+        Ok(typed)
     }
-    Ok(typed)
 }
 
 fn named(
@@ -215,7 +218,7 @@ fn check_comparison(
 {
     let at = scope.within(inner(scope.context));
     let left = check_expression(checker, at, left)?;
-    let right = check_expression(checker, at, right)?;
+    let (left, right) = beside(left, check_expression(checker, at, right))?;
     let start = left.start;
     let ruling = compare_rule(scope.context, note_of(&left), note_of(&right));
     let form = make_compare(checker.alloc(), comparison, left, right)?;
@@ -235,7 +238,7 @@ fn check_range(
 {
     let at = scope.within(inner(scope.context));
     let low = check_expression(checker, at, low)?;
-    let high = check_expression(checker, at, high)?;
+    let (low, high) = beside(low, check_expression(checker, at, high))?;
     let start = low.start;
     let ruling = range_rule(note_of(&low), note_of(&high));
     let form = make_range(checker.alloc(), low, high)?;
@@ -255,8 +258,9 @@ fn check_conditional(
 {
     let at = scope.within(inner(scope.context));
     let test = check_expression(checker, at, test)?;
-    let then = check_expression(checker, at, then)?;
-    let otherwise = check_expression(checker, at, otherwise)?;
+    let kept = beside(test, check_expression(checker, at, then))?;
+    let (kept, otherwise) = beside(kept, check_expression(checker, at, otherwise))?;
+    let (test, then) = kept;
     let start = test.start;
     let ruling = conditional_rule(note_of(&test), note_of(&then), note_of(&otherwise));
     let form = make_conditional(checker.alloc(), test, then, otherwise)?;
@@ -302,7 +306,7 @@ fn check_extreme(
 {
     let at = scope.within(inner(scope.context));
     let left = check_expression(checker, at, left)?;
-    let right = check_expression(checker, at, right)?;
+    let (left, right) = beside(left, check_expression(checker, at, right))?;
     let ruling = extreme_rule(note_of(&left), note_of(&right));
     let form = make_builtin(checker.alloc(), extreme_builtin(extreme), left, right)?;
     made(place, place, form, ruling)
@@ -336,7 +340,7 @@ fn first_operator_context(links: &[Link], context: Context) -> Context
 }
 
 fn linked(
-    mut front: ChainFront,
+    front: ChainFront,
     operator: ChainOperator,
     place: Place,
     operand: Typed,
@@ -346,11 +350,13 @@ fn linked(
 {
     match ruling {
         Ok(note) => {
-            front.links.push(make_link(operator, place, operand))?;
-            front.note = note;
-            Ok(front)
+            let links = pushed(front.links, make_link(operator, place, operand))?;
+            Ok(ChainFront { note, links })
         }
-        Err(cause) => Err(Stop::Fault(place, cause)),
+        Err(cause) => {
+            drop((front, operand));
+            Err(Stop::Fault(place, cause))
+        }
     }
 }
 
@@ -365,7 +371,8 @@ fn check_link(
     ensures { Did front_of result checker.new (expressions.link_form scope (front_of front) (judge_link link.now) checker.old) }
 {
     let context = operator_context(link.operator, scope.context);
-    let operand = check_expression(checker, scope.within(context), &link.operand)?;
+    let operand = check_expression(checker, scope.within(context), &link.operand);
+    let (front, operand) = beside(front, operand)?;
     let ruling = chain_rule(link.operator, scope.context, front.note, note_of(&operand));
     linked(front, link.operator, link.place, operand, ruling)
 }
@@ -401,7 +408,8 @@ fn check_chain(
 {
     let context = first_operator_context(links, scope.context);
     let first = check_expression(checker, scope.within(context), first)?;
-    let front = check_links(checker, scope, note_of(&first), links)?;
+    let front = check_links(checker, scope, note_of(&first), links);
+    let (first, front) = beside(first, front)?;
     let start = first.start;
     let form = make_chain(checker.alloc(), first, front.links)?;
     Ok(Typed {
@@ -450,14 +458,15 @@ fn check_next_argument(
     checker: &mut Checker,
     first: Context,
     scope: Scope,
-    mut values: Vec<Typed>,
+    values: Vec<Typed>,
     argument: &Argument,
 ) -> Result<Vec<Typed>, Stop>
     ensures { Did values_of result checker.new (expressions.argument_form first scope (map seen values.items) (judge_argument argument.now) checker.old) }
 {
     let context = argument_context(first, scope.context, &values);
-    let value = check_argument(checker, scope.within(context), argument)?;
-    values.push(value)?;
+    let value = check_argument(checker, scope.within(context), argument);
+    let (values, value) = beside(values, value)?;
+    let values = pushed(values, value)?;
     Ok(values)
 }
 
@@ -547,7 +556,7 @@ fn check_index(
 ) -> Result<Typed, Stop>
     ensures { Did seen result checker.new (expressions.index_form place (judge index.now) (seen front) scope checker.old) }
 {
-    let index = check_expression(checker, scope, index)?;
+    let (front, index) = beside(front, check_expression(checker, scope, index))?;
     let start = front.start;
     let ruling = index_rule(note_of(&front), note_of(&index));
     let form = make_index(checker.alloc(), front, index)?;
@@ -566,8 +575,9 @@ fn check_cell(
 ) -> Result<Typed, Stop>
     ensures { Did seen result checker.new (expressions.cell_form place (judge row.now) (judge column.now) (seen front) scope checker.old) }
 {
-    let row = check_expression(checker, scope, row)?;
-    let column = check_expression(checker, scope, column)?;
+    let kept = beside(front, check_expression(checker, scope, row))?;
+    let (kept, column) = beside(kept, check_expression(checker, scope, column))?;
+    let (front, row) = kept;
     let start = front.start;
     let ruling = grid_rule(note_of(&front), note_of(&row), note_of(&column));
     let form = make_cell(checker.alloc(), front, row, column)?;
@@ -587,7 +597,8 @@ fn check_method(
 {
     let method = method_named(front.kind, name.text.as_slice());
     let context = first_context(method, scope.context);
-    let values = check_arguments(checker, context, scope, arguments)?;
+    let values = check_arguments(checker, context, scope, arguments);
+    let (front, values) = beside(front, values)?;
     method_called(checker, name.place, front, scope, values, method)
 }
 
@@ -648,18 +659,22 @@ fn generator_made(
     checker: &mut Checker,
     scope: Scope,
     name: &Name,
-    mut generators: Vec<CheckedGenerator>,
+    generators: Vec<CheckedGenerator>,
     domain: Typed,
     ruling: Result<Note, Cause>,
 ) -> Result<Vec<CheckedGenerator>, Stop>
     ensures { Did generators_of result checker.new (expressions.generator_made scope name.now (map shape_of_generator generators.items) (seen domain) ruling checker.old) }
 {
     match ruling {
-        Err(cause) => Err(Stop::Fault(name.place, cause)),
+        Err(cause) => {
+            drop((generators, domain));
+            Err(Stop::Fault(name.place, cause))
+        }
         Ok(_) => {
             let slot = scope.slot_of(checker.count());
-            checker.declare(name.text.as_slice(), Kind::Int)?;
-            generators.push(make_generator(name.place, slot, domain))?;
+            let declared = checker.declare(name.text.as_slice(), Kind::Int);
+            let (generators, domain) = behind(declared, (generators, domain))?;
+            let generators = pushed(generators, make_generator(name.place, slot, domain))?;
             Ok(generators)
         }
     }
@@ -676,7 +691,8 @@ fn check_generator(
     ensures { Did generators_of result checker.new (expressions.generator_form scope (map shape_of_generator generators.items) (judge_generator generator.now) checker.old) }
 {
     let at = scope.within(made_pure(scope.context));
-    let domain = check_expression(checker, at, &generator.domain)?;
+    let domain = check_expression(checker, at, &generator.domain);
+    let (generators, domain) = beside(generators, domain)?;
     let is_new = checker.is_new(generator.name.text.as_slice(), scope.block);
     let ruling = generator_rule(is_new, note_of(&domain));
     generator_made(checker, scope, &generator.name, generators, domain, ruling)
@@ -778,9 +794,11 @@ fn aggregated(
     let at = scope.within(inner(scope.context));
     let checked = generated(checker, at, generators)?;
     let pure = scope.within(made_pure(scope.context));
-    let condition = check_condition(checker, pure, generators)?;
+    let kept = beside(checked, check_condition(checker, pure, generators))?;
     let context = body_context(aggregate, scope.context);
-    let body = check_expression(checker, scope.within(context), body)?;
+    let body = check_expression(checker, scope.within(context), body);
+    let (kept, body) = beside(kept, body)?;
+    let (checked, condition) = kept;
     let single = is_one(&checked);
     let note = condition_note(&condition);
     let ruling = aggregate_rule(aggregate, scope.context, single, note, note_of(&body));

@@ -16,10 +16,7 @@ ghost use Rattle.type_simples.specs.Simples as simples;
 ghost use Rattle.type_heads.specs.Heads as heads;
 ghost use Rattle.type_heads.specs.View.{head_of, choice_of};
 
-use crate::kept::{behind, beside};
 use cbl_base::Place;
-use checked_tree::make_actions::make_nothing;
-use checked_tree::make_tasks::make_action;
 use checked_tree::{
     Action, Cause, Counter, EventSlots, Generator as CheckedGenerator, Kind, Slot, Stop, Task,
     Typed,
@@ -27,6 +24,9 @@ use checked_tree::{
 use comet_syntax::tree::{
     Declaration, Events, Expression, ForHead, ForStart, Generators, Name, Simple, Watched,
 };
+use tree_makers::kept::{behind, beside};
+use tree_makers::make_actions::make_nothing;
+use tree_makers::make_tasks::make_action;
 use type_calls::{act_on, no_root, roots_of};
 use type_declarations::{check_declaration, check_start, declaration_place, rule, wrong_unless};
 use type_expressions::{check_condition, check_expression, condition_note, generated};

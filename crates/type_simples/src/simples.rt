@@ -1,7 +1,7 @@
 //! What simple statements are.
 ghost use Rattle.std.specs.Prelude.{◌≡◌, ◌++◌, [], ◌∷◌, map, option_map, OnOk, IfErr, if◌then◌else◌};
 ghost use Rattle.std.specs.List.{list_all, list_any};
-ghost use Rattle.checked_tree.specs.Makes.{Makes};
+ghost use Rattle.tree_makers.specs.Makes.{Makes};
 ghost use Rattle.checked_tree.specs.Shape.{shape_of, seen, whole};
 ghost use Rattle.checked_tree.specs.Actions as deeds;
 ghost use Rattle.checked_tree.specs.Actions.{deed_of, printed_of};
@@ -15,12 +15,13 @@ ghost use Rattle.type_declarations.specs.View.{handing_of};
 ghost use Rattle.type_simples.specs.View.{acted_of, printed_list};
 
 use cbl_base::{Place, Text};
-use checked_tree::make_actions::{
-    make_alone, make_choice, make_object, make_print, make_return, make_step, make_swap, make_write,
-};
 use checked_tree::{Action, Cause, Form, Kind, Printed, Slot, Stop, Typed};
 use comet_syntax::tree::{Expression, Item, Name, NewObject, Simple, Step, WriteOperator};
 use std::alloc::Global;
+use tree_makers::kept::{behind, beside, pushed};
+use tree_makers::make_actions::{
+    make_alone, make_choice, make_object, make_print, make_return, make_step, make_swap, make_write,
+};
 use type_calls::{act_on, is_name, no_root, push_roots, roots_of};
 use type_declarations::{
     Handing, check_handed, check_start, kept_solvers, ls_fault, making_fault, making_roots,
@@ -194,15 +195,17 @@ fn check_write(
 {
     let target = check_expression(checker, scope, target)?;
     let context = value_context(operator, scope.context);
-    let value = check_expression(checker, scope.within(context), value)?;
-    let place = place_at(standing.at, target.start);
-    rule(place, wrong_unless(standing.holds))?;
-    let roots = roots_of(checker.alloc(), &target)?;
-    rule(
-        place,
-        write_fault(operator, is_bare(&target, &roots), target.kind, value.kind),
-    )?;
-    act_on(checker, place, scope, writing_doing(&target), &roots)?;
+    let value = check_expression(checker, scope.within(context), value);
+    let kept = beside(target, value)?;
+    let place = place_at(standing.at, kept.0.start);
+    let kept = behind(rule(place, wrong_unless(standing.holds)), kept)?;
+    let roots = roots_of(checker.alloc(), &kept.0);
+    let (kept, roots) = beside(kept, roots)?;
+    let bare = is_bare(&kept.0, &roots);
+    let fault = write_fault(operator, bare, kept.0.kind, kept.1.kind);
+    let kept = behind(rule(place, fault), kept)?;
+    let done = act_on(checker, place, scope, writing_doing(&kept.0), &roots);
+    let (target, value) = behind(done, kept)?;
     let action = make_write(target, operator, value);
     Ok(Acted { place, action })
 }
@@ -236,12 +239,14 @@ fn check_swap(
     ensures { Did acted_of result checker.new (simples.swap_form (judge left.now) (judge right.now) standing scope checker.old) }
 {
     let left = check_expression(checker, scope, left)?;
-    let right = check_expression(checker, scope, right)?;
-    let place = place_at(standing.at, left.start);
-    rule(place, wrong_unless(standing.holds))?;
-    rule(place, swap_fault(left.kind, right.kind))?;
-    let roots = roots_of_both(checker.alloc(), &left, &right)?;
-    act_on(checker, place, scope, through_doing(), &roots)?;
+    let kept = beside(left, check_expression(checker, scope, right))?;
+    let place = place_at(standing.at, kept.0.start);
+    let kept = behind(rule(place, wrong_unless(standing.holds)), kept)?;
+    let kept = behind(rule(place, swap_fault(kept.0.kind, kept.1.kind)), kept)?;
+    let roots = roots_of_both(checker.alloc(), &kept.0, &kept.1);
+    let (kept, roots) = beside(kept, roots)?;
+    let done = act_on(checker, place, scope, through_doing(), &roots);
+    let (left, right) = behind(done, kept)?;
     let action = make_swap(left, right);
     Ok(Acted { place, action })
 }
@@ -258,13 +263,13 @@ fn check_step(
 {
     let target = check_expression(checker, scope, target)?;
     let place = place_at(standing.at, target.start);
-    rule(place, wrong_unless(standing.holds))?;
-    let roots = roots_of(checker.alloc(), &target)?;
-    rule(
-        place,
-        added_fault(is_bare(&target, &roots), target.kind, true),
-    )?;
-    act_on(checker, place, scope, writing_doing(&target), &roots)?;
+    let target = behind(rule(place, wrong_unless(standing.holds)), target)?;
+    let roots = roots_of(checker.alloc(), &target);
+    let (target, roots) = beside(target, roots)?;
+    let fault = added_fault(is_bare(&target, &roots), target.kind, true);
+    let target = behind(rule(place, fault), target)?;
+    let done = act_on(checker, place, scope, writing_doing(&target), &roots);
+    let target = behind(done, target)?;
     let action = make_step(target, step);
     Ok(Acted { place, action })
 }
@@ -280,8 +285,9 @@ fn check_alone(
 {
     let value = check_expression(checker, scope, expression)?;
     let place = place_at(standing.at, value.start);
-    rule(place, wrong_unless(standing.holds))?;
-    rule(place, wrong_unless(!is_same(value.kind, Kind::Move)))?;
+    let value = behind(rule(place, wrong_unless(standing.holds)), value)?;
+    let fault = wrong_unless(!is_same(value.kind, Kind::Move));
+    let value = behind(rule(place, fault), value)?;
     let action = make_alone(value);
     Ok(Acted { place, action })
 }
@@ -402,12 +408,16 @@ fn renew(
 ) -> Result<Action, Stop>
     ensures { Did deed_of result checker.new (simples.renewed place name.now is_ls (seen target.now) kind (handing_of handed) scope checker.old) }
 {
-    rule(place, new_fault(target.kind, kind, &handed.arguments))?;
-    let own = roots_of(checker.alloc(), target)?;
-    act_on(checker, place, scope, own_doing(), &own)?;
-    let roots = renewing_roots(checker, name, kind, &handed)?;
-    act_on(checker, place, scope, object_doing(kind), &roots)?;
-    rule(place, ls_fault(is_ls))?;
+    let fault = new_fault(target.kind, kind, &handed.arguments);
+    let handed = behind(rule(place, fault), handed)?;
+    let (handed, own) = beside(handed, roots_of(checker.alloc(), target))?;
+    let done = act_on(checker, place, scope, own_doing(), &own);
+    let handed = behind(done, handed)?;
+    let roots = renewing_roots(checker, name, kind, &handed);
+    let (handed, roots) = beside(handed, roots)?;
+    let done = act_on(checker, place, scope, object_doing(kind), &roots);
+    let handed = behind(done, handed)?;
+    let handed = behind(rule(place, ls_fault(is_ls)), handed)?;
     Ok(make_object(slot_in(&target.form), kind, handed.arguments))
 }
 
@@ -422,9 +432,11 @@ fn check_new(
 {
     let target = check_name(checker, scope, &object.name)?;
     let kind = class_kind(&object.class.kind);
-    let handed = check_handed(checker, scope, kind, &object.arguments)?;
+    let handed = check_handed(checker, scope, kind, &object.arguments);
+    let kept = beside(target, handed)?;
     let place = place_at(standing.at, object.name.place);
-    rule(place, wrong_unless(standing.holds))?;
+    let kept = behind(rule(place, wrong_unless(standing.holds)), kept)?;
+    let (target, handed) = kept;
     let is_ls = class_is_ls(&object.class.kind);
     let action = renew(
         checker,
@@ -435,7 +447,9 @@ fn check_new(
         kind,
         handed,
         scope,
-    )?;
+    );
+    drop(target);
+    let action = action?;
     Ok(Acted { place, action })
 }
 
@@ -464,13 +478,13 @@ fn check_item(checker: &mut Checker, scope: Scope, item: &Item) -> Result<Printe
 fn check_next_item(
     checker: &mut Checker,
     scope: Scope,
-    mut printed: Vec<Printed>,
+    printed: Vec<Printed>,
     item: &Item,
 ) -> Result<Vec<Printed>, Stop>
     ensures { Did printed_list result checker.new (simples.shown_form scope (map printed_of printed.items) (simples.item_form item.now) checker.old) }
 {
-    let item = check_item(checker, scope, item)?;
-    printed.push(item)?;
+    let (printed, item) = beside(printed, check_item(checker, scope, item))?;
+    let printed = pushed(printed, item)?;
     Ok(printed)
 }
 
@@ -518,9 +532,11 @@ fn check_print(
 {
     let printed = check_items(checker, scope, items)?;
     let place = place_at(standing.at, own);
-    rule(place, wrong_unless(standing.holds))?;
-    rule(place, wrong_unless(all_shown(&printed)))?;
-    act_on(checker, place, scope, own_doing(), no_root())?;
+    let printed = behind(rule(place, wrong_unless(standing.holds)), printed)?;
+    let fault = wrong_unless(all_shown(&printed));
+    let printed = behind(rule(place, fault), printed)?;
+    let done = act_on(checker, place, scope, own_doing(), no_root());
+    let printed = behind(done, printed)?;
     let action = make_print(printed);
     Ok(Acted { place, action })
 }
@@ -537,10 +553,13 @@ fn check_choice(
 {
     let chosen = check_expression(checker, scope, chosen)?;
     let place = place_at(standing.at, own);
-    rule(place, wrong_unless(standing.holds))?;
-    rule(place, wrong_unless(is_same(chosen.kind, Kind::Move)))?;
-    let roots = roots_of(checker.alloc(), &chosen)?;
-    act_on(checker, place, scope, through_doing(), &roots)?;
+    let chosen = behind(rule(place, wrong_unless(standing.holds)), chosen)?;
+    let fault = wrong_unless(is_same(chosen.kind, Kind::Move));
+    let chosen = behind(rule(place, fault), chosen)?;
+    let roots = roots_of(checker.alloc(), &chosen);
+    let (chosen, roots) = beside(chosen, roots)?;
+    let done = act_on(checker, place, scope, through_doing(), &roots);
+    let chosen = behind(done, chosen)?;
     let action = make_choice(chosen);
     Ok(Acted { place, action })
 }
@@ -616,6 +635,7 @@ pub fn check_return(
     ensures { Did deed_of result checker.new (simples.return_form place (option_map (λ e. judge e.now) value.entry) scope checker.old) }
 {
     let value = check_start(checker, scope, value)?;
-    rule(place, return_fault(scope.function, scope.no_return, &value))?;
+    let fault = return_fault(scope.function, scope.no_return, &value);
+    let value = behind(rule(place, fault), value)?;
     Ok(make_return(value))
 }

@@ -7,23 +7,24 @@ ghost use Rattle.type_expressions.specs.Expressions.{judge, judge_generators};
 ghost use Rattle.type_heads.specs.Heads as heads;
 ghost use Rattle.type_statements.specs.Statements as statements;
 ghost use Rattle.type_statements.specs.Statements.{statement_of, block_of};
-ghost use Rattle.type_statements.specs.View.{tasks_of};
+ghost use Rattle.type_statements.specs.View.{boxed_of, tasks_of};
 
 use cbl_base::Place;
-use checked_tree::make_tasks::{
-    make_block, make_for, make_for_all, make_if, make_if_else, make_neighbor, make_parall,
-    make_select, make_select_by, make_whenever, make_while, make_with,
-};
 use checked_tree::{Kind, Stop, Task, Typed};
 use comet_syntax::tree::{
     Block, Events, Expression, Extreme, ForHead, Generators, Name, Statement, Watched, WithMode,
 };
+use tree_makers::kept::{behind, beside};
+use tree_makers::make_tasks::{
+    box_task, make_block, make_for, make_for_all, make_if, make_if_else, make_neighbor,
+    make_parall, make_select, make_select_by, make_whenever, make_while, make_with,
+};
 use type_declarations::rule;
 use type_expressions::check_expression;
 use type_heads::{
-    apart, behind, beside, check_acted, check_choice, check_declared, check_empty, check_head,
-    check_returned, check_shared, check_watched, condition_fault, declare_events, in_parall,
-    key_fault, truth_fault, write_name,
+    apart, check_acted, check_choice, check_declared, check_empty, check_head, check_returned,
+    check_shared, check_watched, condition_fault, declare_events, in_parall, key_fault,
+    truth_fault, write_name,
 };
 use type_rules::Context;
 use type_rules::kinds::is_number;
@@ -110,12 +111,13 @@ pub fn check_statement(
 /// A statement inside another one, in a scope of its own.
 #[cycle(statement)]
 #[tactic(auto, unfolding(crate::specs::Statements::within_own))]
-fn check_own(checker: &mut Checker, scope: Scope, statement: &Statement) -> Result<Task, Stop>
-    ensures { Did work_of result checker.new (statements.within_own (statement_of statement.now) scope checker.old) }
+fn check_own(checker: &mut Checker, scope: Scope, statement: &Statement) -> Result<Box<Task>, Stop>
+    ensures { Did boxed_of result checker.new (statements.within_own (statement_of statement.now) scope checker.old) }
 {
     let count = checker.count();
     let task = check_statement(checker, scope.opened(count), statement)?;
     checker.close(count);
+    let task = box_task(checker.alloc(), task)?;
     Ok(task)
 }
 
@@ -133,7 +135,7 @@ fn check_if(
     let test = check_expression(checker, scope, test)?;
     let test = behind(rule(place, truth_fault(test.kind)), test)?;
     let (test, then) = beside(test, check_own(checker, scope, then))?;
-    make_if(checker.alloc(), place, test, then)
+    Ok(make_if(place, test, then))
 }
 
 #[cycle(statement)]
@@ -153,7 +155,7 @@ fn check_if_else(
     let kept = beside(test, check_own(checker, scope, then))?;
     let (kept, otherwise) = beside(kept, check_own(checker, scope, otherwise))?;
     let (test, then) = kept;
-    make_if_else(checker.alloc(), place, test, then, otherwise)
+    Ok(make_if_else(place, test, then, otherwise))
 }
 
 #[cycle(statement)]
@@ -170,7 +172,7 @@ fn check_while(
     let test = check_expression(checker, scope, test)?;
     let test = behind(rule(place, truth_fault(test.kind)), test)?;
     let (test, body) = beside(test, check_own(checker, scope, body))?;
-    make_while(checker.alloc(), place, test, body)
+    Ok(make_while(place, test, body))
 }
 
 #[cycle(statement)]
@@ -186,14 +188,7 @@ fn for_within(
 {
     let head = check_head(checker, scope, place, head)?;
     let (head, body) = beside(head, check_own(checker, scope, body))?;
-    make_for(
-        checker.alloc(),
-        place,
-        head.counter,
-        head.test,
-        head.step,
-        body,
-    )
+    Ok(make_for(place, head.counter, head.test, head.step, body))
 }
 
 #[cycle(statement)]
@@ -228,13 +223,7 @@ fn for_all_within(
     let ruled = rule(place, condition_fault(&choice.condition));
     let choice = behind(ruled, choice)?;
     let (choice, body) = beside(choice, check_own(checker, scope, body))?;
-    make_for_all(
-        checker.alloc(),
-        place,
-        choice.generators,
-        choice.condition,
-        body,
-    )
+    Ok(make_for_all(place, choice.generators, choice.condition, body))
 }
 
 #[cycle(statement)]
@@ -269,13 +258,7 @@ fn select_within(
     let ruled = rule(place, condition_fault(&choice.condition));
     let choice = behind(ruled, choice)?;
     let (choice, body) = beside(choice, check_own(checker, scope, body))?;
-    make_select(
-        checker.alloc(),
-        place,
-        choice.generators,
-        choice.condition,
-        body,
-    )
+    Ok(make_select(place, choice.generators, choice.condition, body))
 }
 
 #[cycle(statement)]
@@ -315,15 +298,14 @@ fn select_by_within(
     let kept = behind(ruled, kept)?;
     let (kept, body) = beside(kept, check_own(checker, scope, body))?;
     let (choice, key) = kept;
-    make_select_by(
-        checker.alloc(),
+    Ok(make_select_by(
         place,
         extreme,
         choice.generators,
         choice.condition,
         key,
         body,
-    )
+    ))
 }
 
 #[cycle(statement)]
@@ -363,7 +345,7 @@ fn check_neighbor(
     let slot = write_name(checker, place, Kind::Selector, fit, selector, scope);
     let (key, slot) = beside(key, slot)?;
     let (key, body) = beside(key, check_own(checker, apart(scope), body))?;
-    make_neighbor(checker.alloc(), place, key, slot, body)
+    Ok(make_neighbor(place, key, slot, body))
 }
 
 #[cycle(statement)]
@@ -380,7 +362,8 @@ fn check_with(
 {
     let slot = write_name(checker, place, Kind::Solver, true, solver, scope)?;
     let body = check_block(checker, apart(scope), body)?;
-    make_with(checker.alloc(), place, mode, slot, body)
+    let body = box_task(checker.alloc(), body)?;
+    Ok(make_with(place, mode, slot, body))
 }
 
 #[cycle(statement)]
@@ -397,7 +380,7 @@ fn watching_within(
 {
     let (variable, slots) = beside(variable, declare_events(checker, scope, names))?;
     let (variable, body) = beside(variable, check_own(checker, scope, body))?;
-    make_whenever(checker.alloc(), place, variable, slots, body)
+    Ok(make_whenever(place, variable, slots, body))
 }
 
 #[cycle(statement)]
@@ -437,7 +420,7 @@ fn parall_within(
     let domain = behind(declared, domain)?;
     let body = check_own(checker, in_parall(count, scope), body);
     let (domain, body) = beside(domain, body)?;
-    make_parall(checker.alloc(), place, slot, domain, body)
+    Ok(make_parall(place, slot, domain, body))
 }
 
 #[cycle(statement)]

@@ -1,10 +1,9 @@
 -- Changes of numbers, as moves.
-use Rattle.std.proofs.Common.{ℕ, ℤ, ◌≡◌, ◌∙◌, List, [], ◌∷◌, length, get_or, slice_set, ap, refl, arith}
-use Rattle.std.proofs.lemmas.List.{length-set}
+use Rattle.std.proofs.Common.{ℕ, ℤ, ◌≡◌, ◌∙◌, List, [], ◌∷◌, length, get_or, ap, arith}
 use Rattle.std.proofs.lemmas.Option.{slice_get_within}
 use Rattle.node_base.specs.NumberChanges.{NoNumberAt, AreNumberChanges}
 use Rattle.node_base.specs.declared.number_change.NumberChange.{NumberChange}
-use Rattle.user_constraint.specs.Moves.{NoMoveAt, AreMoves, after_moves, move_of, moves_of}
+use Rattle.user_constraint.specs.Moves.{NoMoveAt, AreMoves, move_of, moves_of}
 
 no_move_at : (place : ℕ) (cs : List NumberChange) → NoNumberAt place cs → NoMoveAt place (moves_of cs)
 no_move_at place [] h = tt
@@ -24,8 +23,3 @@ two_moves [] d e m n size is is2 = absurd (omega (arith, size))
 two_moves (x ∷ []) d e m n size is is2 = absurd (omega (arith, size))
 two_moves (x ∷ y ∷ []) d e m n size is is2 = ap (λ z. z ∷ n ∷ []) is ∙ ap (λ z. move_of x ∷ z ∷ []) is2
 two_moves (x ∷ y ∷ z ∷ cs) d e m n size is is2 = absurd (omega (arith, size))
-
--- moves leave the list as long as it is
-pub length_after : (xs : List ℤ) (ms : List (ℕ × ℤ)) → length (after_moves xs ms) ≡ length xs
-length_after xs [] = refl
-length_after xs (m ∷ ms) = length_after (slice_set xs m.0 m.1) ms ∙ length-set xs m.0 m.1

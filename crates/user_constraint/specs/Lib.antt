@@ -1,3 +1,2 @@
-pub mod Crowd
 pub mod Moves
 pub mod UserRule

@@ -6,8 +6,6 @@
 #![tactic(auto)]
 
 mod node;
-#[cfg(test)]
-mod tests;
 mod user;
 
 pub use node::UserNode;

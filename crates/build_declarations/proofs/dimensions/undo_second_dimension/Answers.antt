@@ -1,5 +1,10 @@
-use Rattle.std.proofs.Common.{refl}
+use Rattle.std.specs.Prelude.{refl}
+use Rattle.std.proofs.lemmas.Result.{IfOk-weaker}
+use Rattle.build_declarations.proofs.Tops.{has_one}
 use Rattle.build_declarations.proofs.dimensions.undo_second_dimension.Goals as goal
 
+pub take-second-requires : goal.take-second-requires
+take-second-requires c = has_one _ c.requires.2
+
 pub returns : goal.returns
-returns c = (c.take-second.result, _, c.take-second.ensures, (_, refl, (c.in_ok-put.ensures, refl)))
+returns c = IfOk-weaker c.put.result _ _ (λ _ e. (c.take-second.result, _, c.take-second.ensures, (_, refl, (e, refl)))) c.put.ensures

@@ -1,7 +1,8 @@
 use Rattle.std.specs.Prelude.{◌∷◌, map, reverse, refl}
 use Rattle.std.proofs.Common.{ap, ◌∙◌}
+use Rattle.std.proofs.lemmas.Result.{IfOk-weaker}
 use Rattle.comet_syntax.specs.Written.Expressions.{written_suffix}
 use Rattle.build_expressions.proofs.arguments.undo_method.Goals as goal
 
 pub returns : goal.returns
-returns c = (_, _, c.take-name.ensures, (_, _, c.take-listed.ensures, (_, _, c.take-all.ensures, (_, ap (map written_suffix) c.in_ok-put.ensures ∙ ap (λ z. z ∷ map written_suffix (reverse c.take-all.result.items)) c.make_method-next.ensures, (c.in_ok-put-2.ensures, refl)))))
+returns c = IfOk-weaker c.put.result _ _ (λ _ e. (_, _, c.take-name.ensures, (_, _, c.take-listed.ensures, (_, _, c.take-more.ensures, (_, ap (map written_suffix) c.in_ok-all.ensures ∙ ap (λ z. z ∷ map written_suffix (reverse c.take-more.result.items)) c.make_method-next.ensures, (e, refl)))))) c.put.ensures

@@ -1,4 +1,5 @@
 use Rattle.std.specs.Prelude.{refl}
+use Rattle.std.proofs.lemmas.Result.{IfOk-weaker}
 use Rattle.parse_stacks.proofs.Four.{has_four}
 use Rattle.build_expressions.proofs.pairs.undo_pair_two.Goals as goal
 
@@ -6,4 +7,4 @@ pub take_behind-behind-requires-clause-four : goal.take_behind-behind-requires-c
 take_behind-behind-requires-clause-four c = has_four c.args.stacks.now.links.items c.requires.3.3.2 c.requires.3.3.3.2 c.requires.3.3.3.3.3.3.2 c.requires.3.3.3.3.3.3.3.2
 
 pub returns : goal.returns
-returns c = (_, _, c.take-called.ensures, (_, _, c.take-inner.ensures, (c.take_behind-behind.result.product, _, c.take_behind-behind.ensures.links, (c.take_behind-behind.result.total, _, refl, (c.take_behind-behind.result.up_to, _, c.take_behind-behind.ensures.up_to, (c.take_behind-behind.result.compared, _, c.take_behind-behind.ensures.compared, (c.take_behind-behind.result.conjunction, _, refl, (c.take_behind-behind.result.disjunction, _, refl, (c.take_behind-behind.result.branches, _, c.take_behind-behind.ensures.branches, (_, _, c.take-right.ensures, (_, _, c.take-suffixes.ensures, (_, refl, (c.in_ok-put.ensures, refl)))))))))))))
+returns c = IfOk-weaker c.put.result _ _ (λ _ e. (_, _, c.take-called.ensures, (_, _, c.take-inner.ensures, (c.take_behind-behind.result.product, _, c.take_behind-behind.ensures.links, (c.take_behind-behind.result.total, _, refl, (c.take_behind-behind.result.up_to, _, c.take_behind-behind.ensures.up_to, (c.take_behind-behind.result.compared, _, c.take_behind-behind.ensures.compared, (c.take_behind-behind.result.conjunction, _, refl, (c.take_behind-behind.result.disjunction, _, refl, (c.take_behind-behind.result.branches, _, c.take_behind-behind.ensures.branches, (_, _, c.take-right.ensures, (_, _, c.take-suffixes.ensures, (_, refl, (e, refl)))))))))))))) c.put.ensures

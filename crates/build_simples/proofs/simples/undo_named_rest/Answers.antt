@@ -1,6 +1,7 @@
 use Rattle.std.specs.Prelude.{refl}
+use Rattle.std.proofs.lemmas.Result.{IfOk-weaker}
 use Rattle.parse_stacks.specs.declared.tails.NamedRest.TheVariants as named_rests
 use Rattle.build_simples.proofs.simples.undo_named_rest.Goals as goal
 
 pub returns : goal.returns
-returns c = (c.take-called.result, _, c.take-called.ensures, (c.take-suffixes.result, _, c.take-suffixes.ensures, (c.take-write.result, _, c.take-write.ensures, (named_rests.Rest c.take-called.result c.take-suffixes.result c.take-write.result, refl, (c.in_ok-put.ensures, refl)))))
+returns c = IfOk-weaker c.put.result _ _ (λ _ e. (c.take-called.result, _, c.take-called.ensures, (c.take-suffixes.result, _, c.take-suffixes.ensures, (c.take-write.result, _, c.take-write.ensures, (named_rests.Rest c.take-called.result c.take-suffixes.result c.take-write.result, refl, (e, refl)))))) c.put.ensures

@@ -1,5 +1,6 @@
 use Rattle.std.specs.Prelude.{refl}
 use Rattle.std.proofs.Common.{ap, ◌∙◌, ◌∷◌}
+use Rattle.std.proofs.lemmas.Result.{IfOk-weaker}
 use Rattle.comet_syntax.specs.declared.token.Word.TheVariants as words
 use Rattle.comet_syntax.specs.Grammar.Statements.{simple_cout}
 use Rattle.comet_syntax.specs.Grammar.Symbols.{simple}
@@ -8,4 +9,4 @@ use Rattle.comet_syntax.specs.Written.Statements.{items_text}
 use Rattle.build_simples.proofs.simples.undo_print.Goals as goal
 
 pub returns : goal.returns
-returns c = (c.take-place.result, _, c.take-place.ensures, (c.take-first.result, _, c.take-first.ensures, (c.take-items.result, _, c.take-items.ensures, (c.make_print-made.result, c.make_print-made.ensures ∙ ap (λ z. (λ behind. form simple simple_cout ∷ mark words.Cout c.take-place.result (items_text z behind))) (c.reverse.ensures.items ∙ c.in_ok-put.ensures), (c.in_ok-put-2.ensures, refl)))))
+returns c = IfOk-weaker c.put.result _ _ (λ _ e. (c.take-place.result, _, c.take-place.ensures, (c.take-first.result, _, c.take-first.ensures, (c.take-more.result, _, c.take-more.ensures, (c.make_print-made.result, c.make_print-made.ensures ∙ ap (λ z. (λ behind. form simple simple_cout ∷ mark words.Cout c.take-place.result (items_text z behind))) (c.reverse.ensures.items ∙ c.in_ok-items.ensures), (e, refl)))))) c.put.ensures

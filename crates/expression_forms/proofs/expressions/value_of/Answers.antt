@@ -1,9 +1,4 @@
-use Rattle.comet_meaning.specs.Parts.{value}
 use Rattle.expression_forms.proofs.expressions.value_of.Goals as goal
-
-pub returns-in-None : goal.returns-in-None
-unfolding value
-returns-in-None g c = record { did = c.read_part.ensures.did _ _ c.evaluate-value.ensures.did }
 
 pub returns-in-Some : goal.returns-in-Some
 returns-in-Some g c = record { did = rw c.room.ensures at (c.in-Some.ensures.given (g.W.Within.code c.args.inside.now) (g.O.Out.taken c.args.out.now)) }

@@ -1,5 +1,5 @@
 use Rattle.std.proofs.Common.{refl}
-use Rattle.comet_meaning.proofs.GoingStatements.{goes_object}
+use Rattle.comet_meaning.proofs.GoingDeclarations.{goes_object}
 use Rattle.run_steps.proofs.Stops.{does}
 use Rattle.run_steps.proofs.leaves.declare_object.Goals as goal
 

@@ -50,7 +50,7 @@ returns-in-Whenever g c = record { did = rw (c.in-Whenever.is, act_whenever _ _ 
 
 pub returns-in-With : goal.returns-in-With
 unfolding meaning_of_form
-returns-in-With g c = record { did = rw (c.in-With.is, act_with _ _ _) refl }
+returns-in-With g c = record { did = rw (c.in-With.is, act_with _ _ _, ← c.deref-in-With.ensures) c.execute_together.ensures.did }
 
 pub returns-in-Parall : goal.returns-in-Parall
 unfolding meaning_of_form

@@ -22,6 +22,10 @@ pub returns-in-Write : goal.returns-in-Write
 unfolding deed_form deed_of
 returns-in-Write g c = record { did = rw c.in-Write.is c.write_value.ensures.did }
 
+pub returns-in-Swap : goal.returns-in-Swap
+unfolding deed_form deed_of
+returns-in-Swap g c = record { did = rw c.in-Swap.is c.swap_values.ensures.did }
+
 pub returns-in-Step : goal.returns-in-Step
 unfolding deed_form deed_of
 returns-in-Step g c = record { did = rw c.in-Step.is c.step_target.ensures.did }

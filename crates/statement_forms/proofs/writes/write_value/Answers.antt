@@ -13,6 +13,10 @@ pub returns-in-Add : goal.returns-in-Add
 unfolding write_form
 returns-in-Add g c = record { did = rw c.in-Add.is c.add_value.ensures.did }
 
+pub returns-in-Define : goal.returns-in-Define
+unfolding write_form
+returns-in-Define g c = record { did = rw c.in-Define.is c.define_value.ensures.did }
+
 pub returns-in-Subtract : goal.returns-in-Subtract
 unfolding write_form
 returns-in-Subtract g c = record { did = rw c.in-Subtract.is c.subtract_value.ensures.did }

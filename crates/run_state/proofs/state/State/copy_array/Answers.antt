@@ -1,17 +1,31 @@
--- The cells are charged, copied, and put.
-use Rattle.std.proofs.Common.{◌≡◌, refl, sym, ◌∙◌, ap}
-use Rattle.comet_meaning.specs.Cells.{row_of}
+-- The numbers are read, charged, and put.
+use Rattle.std.proofs.Common.{◌≡◌, length, refl, arith}
+use Rattle.std.proofs.lemmas.Result.{err_from_is_err_and}
+use Rattle.comet_meaning.specs.Taking.{read_array}
 use Rattle.run_values.specs.Views.{value_seen}
 use Rattle.run_state.specs.Views.{state_seen}
-use Rattle.run_state.proofs.ActLaws.{copied_law}
+use Rattle.run_state.proofs.ActLaws.{copied_law, copied_unpaid}
+use Rattle.run_state.proofs.ReadLaws.{numbers_stopped}
 use Rattle.run_state.proofs.state.State.copy_array.Goals as goal
+
+pub returns-in_err-numbers-clause-did : goal.returns-in_err-numbers-clause-did
+returns-in_err-numbers-clause-did c = λ printed.
+    let s = state_seen c.args.self.now printed in
+    let p = err_from_is_err_and c.from_residual.result c.from_residual.ensures.1 in
+    rw (p.1, p.2) (numbers_stopped _ s (read_array c.args.place (value_seen c.args.array.now) s) _ (c.in_err-numbers.ensures.did printed))
+
+pub returns-in_err-spend-clause-did : goal.returns-in_err-spend-clause-did
+returns-in_err-spend-clause-did c = λ printed.
+    let s = state_seen c.args.self.now printed in
+    let p = err_from_is_err_and c.from_residual-in_err-spend.result c.from_residual-in_err-spend.ensures.1 in
+    let long : c.len-cells.result ≡ length c.in_ok-numbers.numbers.items = omega (arith, c.len-cells.ensures, c.in_ok-numbers.numbers.ok.0) in
+    rw (p.1, p.2) (copied_unpaid _ c.args.at c.args.place c.args.slot (value_seen c.args.array.now) s _ _ _ (c.in_ok-numbers.ensures.did printed) long (c.in_err-spend.ensures.did s refl))
 
 pub returns-clause-did : goal.returns-clause-did
 returns-clause-did c = λ printed.
     let s = state_seen c.args.self.now printed in
     let v = value_seen c.args.array.now in
-    let xs = c.numbers-cells.result.now in
-    let numbers : c.in_ok-numbers.numbers.items ≡ xs = c.in_ok-numbers.ensures.items ∙ c.numbers.ensures printed ∙ sym (c.numbers-cells.ensures printed) in
-    let row = c.row.ensures ∙ ap row_of numbers in
-    let made = rw row at (c.in_ok-array.ensures.did printed) in
-    rw (copied_law c.args.at c.args.slot v s _ xs _ _ (c.numbers-cells.ensures printed) (c.in_ok-spend.ensures.did s refl) made) (c.put.ensures.did printed)
+    let made = rw c.row.ensures at (c.in_ok-array.ensures.did printed) in
+    let long : c.len-cells.result ≡ length c.in_ok-numbers.numbers.items = omega (arith, c.len-cells.ensures, c.in_ok-numbers.numbers.ok.0) in
+    let paid = rw long at (c.in_ok-spend.ensures.did s refl) in
+    rw (copied_law c.args.at c.args.place c.args.slot v s _ _ _ _ (c.in_ok-numbers.ensures.did printed) paid made) (c.put.ensures.did printed)

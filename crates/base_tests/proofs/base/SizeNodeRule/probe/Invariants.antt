@@ -1,0 +1,7 @@
+use Rattle.std.proofs.Common.{◌≡◌, take, [], ◌∷◌}
+use Rattle.cbl_base.specs.declared.input.Input.TheVariants.{Set}
+use Rattle.cbl_base.specs.Changes.{after_changes}
+use Rattle.base_tests.proofs.base.SizeNodeRule.probe.Given as goal
+
+abbrev pub invariant-loop-change : goal.invariant-loop-change
+invariant-loop-change l = (Set l.set ∷ []) ≡ after_changes (Set l.self.set ∷ []) (take l.change-index l.changes)

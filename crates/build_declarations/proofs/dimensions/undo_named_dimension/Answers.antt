@@ -1,0 +1,13 @@
+use Rattle.std.specs.Prelude.{refl}
+use Rattle.std.proofs.lemmas.Result.{IfOk-weaker}
+use Rattle.build_declarations.proofs.Tops.{has_one}
+use Rattle.build_declarations.proofs.dimensions.undo_named_dimension.Goals as goal
+
+pub take-name-requires : goal.take-name-requires
+take-name-requires c = has_one _ c.requires.2
+
+pub take-rest-requires : goal.take-rest-requires
+take-rest-requires c = has_one _ c.requires.3.2
+
+pub returns : goal.returns
+returns c = IfOk-weaker c.put.result _ _ (λ _ e. (c.take-name.result, _, c.take-name.ensures, (c.take-rest.result, _, c.take-rest.ensures, (c.in_ok-dimension.dimension, c.in_ok-dimension.ensures, (e, refl))))) c.put.ensures

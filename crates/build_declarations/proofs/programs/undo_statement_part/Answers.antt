@@ -1,0 +1,10 @@
+use Rattle.std.specs.Prelude.{refl}
+use Rattle.std.proofs.lemmas.Result.{IfOk-weaker}
+use Rattle.build_declarations.proofs.Tops.{has_one}
+use Rattle.build_declarations.proofs.programs.undo_statement_part.Goals as goal
+
+pub take-statement-requires : goal.take-statement-requires
+take-statement-requires c = has_one _ c.requires.2
+
+pub returns : goal.returns
+returns c = IfOk-weaker c.put.result _ _ (λ _ e. (c.take-statement.result, _, c.take-statement.ensures, (_, refl, (e, refl)))) c.put.ensures

@@ -1,0 +1,6 @@
+use Rattle.std.specs.Prelude.{refl}
+use Rattle.std.proofs.lemmas.Result.{IfOk-weaker}
+use Rattle.build_expressions.proofs.generating.undo_generator.Goals as goal
+
+pub returns : goal.returns
+returns c = IfOk-weaker c.put.result _ _ (λ _ e. (c.take-name.result, _, c.take-name.ensures, (c.take-domain.result, _, c.take-domain.ensures, (c.make_generator-made.result, c.make_generator-made.ensures, (e, refl))))) c.put.ensures

@@ -1,0 +1,6 @@
+use Rattle.std.specs.Prelude.{refl}
+use Rattle.std.proofs.lemmas.Result.{IfOk-weaker}
+use Rattle.build_expressions.proofs.operands.undo_truth.Goals as goal
+
+pub returns : goal.returns
+returns c = IfOk-weaker c.put.result _ _ (λ _ e. (c.take-place.result, _, c.take-place.ensures, (c.make_truth-made.result, c.make_truth-made.ensures, (e, refl)))) c.put.ensures

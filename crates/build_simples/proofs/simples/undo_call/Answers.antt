@@ -1,0 +1,6 @@
+use Rattle.std.specs.Prelude.{refl}
+use Rattle.std.proofs.lemmas.Result.{IfOk-weaker}
+use Rattle.build_simples.proofs.simples.undo_call.Goals as goal
+
+pub returns : goal.returns
+returns c = IfOk-weaker c.put.result _ _ (λ _ e. (c.take-place.result, _, c.take-place.ensures, (c.take-chosen.result, _, c.take-chosen.ensures, (c.in_ok-made.made, c.in_ok-made.ensures, (e, refl))))) c.put.ensures

@@ -1,0 +1,6 @@
+use Rattle.std.specs.Prelude.{refl}
+use Rattle.std.proofs.lemmas.Result.{IfOk-weaker}
+use Rattle.build_statements.proofs.empty.undo_no_statements.Goals as goal
+
+pub returns : goal.returns
+returns c = IfOk-weaker c.put.result _ _ (λ _ e. (c.new-none.result, c.new-none.ensures.items, (e, refl))) c.put.ensures

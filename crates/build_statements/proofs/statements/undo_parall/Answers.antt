@@ -1,0 +1,19 @@
+use Rattle.std.specs.Prelude.{refl}
+use Rattle.std.proofs.lemmas.Result.{IfOk-weaker}
+use Rattle.build_statements.proofs.Tops.{has_one}
+use Rattle.build_statements.proofs.statements.undo_parall.Goals as goal
+
+pub take-place-requires : goal.take-place-requires
+take-place-requires c = has_one _ c.requires.2
+
+pub take-name-requires : goal.take-name-requires
+take-name-requires c = has_one _ c.requires.3.2
+
+pub take-domain-requires : goal.take-domain-requires
+take-domain-requires c = has_one _ c.requires.3.3.2
+
+pub take-body-requires : goal.take-body-requires
+take-body-requires c = has_one _ c.requires.3.3.3.2
+
+pub returns : goal.returns
+returns c = IfOk-weaker c.put.result _ _ (λ _ e. (c.take-place.result, _, c.take-place.ensures, (c.take-name.result, _, c.take-name.ensures, (c.take-domain.result, _, c.take-domain.ensures, (c.take-body.result, _, c.take-body.ensures, (c.in_ok-made.made, c.in_ok-made.ensures, (e, refl))))))) c.put.ensures

@@ -1,0 +1,13 @@
+use Rattle.std.specs.Prelude.{refl}
+use Rattle.std.proofs.lemmas.Result.{IfOk-weaker}
+use Rattle.build_statements.proofs.Tops.{has_one}
+use Rattle.build_statements.proofs.statements.undo_return.Goals as goal
+
+pub take-place-requires : goal.take-place-requires
+take-place-requires c = has_one _ c.requires.2
+
+pub take-value-requires : goal.take-value-requires
+take-value-requires c = has_one _ c.requires.3.2
+
+pub returns : goal.returns
+returns c = IfOk-weaker c.put.result _ _ (λ _ e. (c.take-place.result, _, c.take-place.ensures, (c.take-value.result, _, c.take-value.ensures, (c.in_ok-made.made, c.in_ok-made.ensures, (e, refl))))) c.put.ensures

@@ -1,7 +1,0 @@
-use Rattle.std.proofs.Common.{◌≡◌, take, [], ◌∷◌}
-use Rattle.cbl_base.specs.declared.input.Input.TheVariants.{Set}
-use Rattle.cbl_base.specs.Changes.{after_changes}
-use Rattle.cbl_base.proofs.tests.SizeNodeRule.probe.Given as goal
-
-abbrev pub invariant-loop-change : goal.invariant-loop-change
-invariant-loop-change l = (Set l.set ∷ []) ≡ after_changes (Set l.self.set ∷ []) (take l.change-index l.changes)

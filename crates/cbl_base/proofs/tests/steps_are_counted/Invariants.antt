@@ -1,4 +1,0 @@
-use Rattle.cbl_base.proofs.tests.steps_are_counted.Given as goal
-
-abbrev pub ghosts-walked : goal.ghosts-walked
-ghosts-walked a = record { name = a.blank.name; parts = a.blank.parts }

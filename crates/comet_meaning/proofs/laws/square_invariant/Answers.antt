@@ -1,7 +1,0 @@
-use Rattle.std.proofs.Common.{refl}
-use Rattle.comet_meaning.proofs.Computing.{everything}
-use Rattle.comet_meaning.proofs.laws.square_invariant.Goals as goal
-
-pub returns : goal.returns
-unfolding everything
-returns c = refl

@@ -1,4 +1,0 @@
-use Rattle.ls_solver.proofs.tests.commit.Given as goal
-
-abbrev pub ghosts-commit_by : goal.ghosts-commit_by
-ghosts-commit_by a = record { name = a.blank.name; parts = a.blank.parts }

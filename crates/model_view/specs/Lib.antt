@@ -1,0 +1,5 @@
+pub mod Vectors
+pub mod Building
+pub mod Variables
+pub mod Plain
+pub mod Naming

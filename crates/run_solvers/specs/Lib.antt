@@ -1,0 +1,10 @@
+pub mod Building
+pub mod Changing
+pub mod Kept
+pub mod Makes
+pub mod Opening
+pub mod Refusals
+pub mod Refused
+pub mod Stopping
+pub mod Views
+pub mod Waiting

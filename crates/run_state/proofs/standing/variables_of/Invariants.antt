@@ -1,0 +1,6 @@
+use Rattle.std.proofs.Common.{◌≡◌, map, take}
+use Rattle.model_view.specs.Building.{variable}
+use Rattle.run_state.proofs.standing.variables_of.Given as goal
+
+abbrev pub invariant-loop-variable : goal.invariant-loop-variable
+invariant-loop-variable l = l.terms.items ≡ map variable (take l.variable-index l.variables)

@@ -1,0 +1,19 @@
+use Rattle.checked_tree.specs.Actions.{variable_of}
+use Rattle.comet_meaning.proofs.GoingOn.{goes_put}
+use Rattle.comet_meaning.proofs.GoingVariables.{goes_variable_in}
+use Rattle.run_solvers.specs.Views.{beginning_seen}
+use Rattle.run_state.specs.Views.{state_seen}
+use Rattle.run_values.specs.Views.{bounds_seen}
+use Rattle.run_steps.proofs.AggregateLaws.{memory_ends}
+use Rattle.run_steps.proofs.Exits.{act_does, act_exit, after, exit}
+use Rattle.run_steps.proofs.Goes.{goes_added_variable}
+use Rattle.run_steps.proofs.declaring.add_variable.Goals as goal
+
+pub returns-in_err-name : goal.returns-in_err-name
+returns-in_err-name c = record { did = λ printed. exit _ _ _ _ _ c.from_residual.ensures.1 (memory_ends _ _ _ c.in_err-name.ensures.memory ((goes_added_variable c.args.at (variable_of c.args.variable.now) (bounds_seen c.args.domain) (beginning_seen c.args.beginning)).from (state_seen c.args.s.now printed)).printed) }
+
+pub returns-in_err-made : goal.returns-in_err-made
+returns-in_err-made c = record { did = λ printed. act_exit _ _ _ _ _ _ c.from_residual-in_err-made.ensures.1 (rw (c.in_ok-name.ensures.name, c.declared-decl.ensures) at (c.in_err-made.ensures.did printed)) ((goes_variable_in _ _ _ _ _).from _).printed (λ x. goes_put _ _) }
+
+pub returns : goal.returns
+returns c = record { did = λ printed. after _ _ _ _ (rw (c.in_ok-name.ensures.name, c.declared-decl.ensures) at (c.in_ok-made.ensures.did printed)) (act_does _ _ _ _ (c.put.ensures.did printed) ((goes_put _ _).from _).printed) }

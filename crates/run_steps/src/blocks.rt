@@ -1,0 +1,34 @@
+//! The end of a `with`.
+ghost use Rattle.std.specs.Prelude.{◌≡◌, ℕ, List};
+ghost use Rattle.comet_meaning.specs.Values.{solver_of};
+ghost use Rattle.run_state.specs.Views.{state_seen};
+ghost use Rattle.run_steps.specs.Does.{Does};
+ghost use Rattle.run_steps.specs.Following.{Follows};
+ghost use Rattle.run_steps.specs.Operands.{closed_block};
+ghost use Rattle.run_steps.specs.Views.{flow_seen};
+ghost use Rattle.run_values.specs.Views.{value_seen};
+
+use crate::code::Flow;
+use run_objects::commit_waiting;
+use run_state::State;
+use run_values::{Stop, Value};
+
+/// The end of the outermost `with` on a solver: what waits is committed.
+fn close_block(s: &mut State, solver: &Value, flow: Flow) -> Result<Flow, Stop>
+    ensures did { (printed : List ℕ) → Does flow_seen result (state_seen s.new printed) (closed_block (solver_of (value_seen solver.now)) (flow_seen flow) (state_seen s.old printed)) }
+{
+    match commit_waiting(s, solver) {
+        Err(stop) => Err(stop),
+        Ok(()) => Ok(flow),
+    }
+}
+
+/// The same with the answer of its body.
+pub fn commit_part(s: &mut State, solver: &Value, flow: Result<Flow, Stop>) -> Result<Flow, Stop>
+    ensures did { (printed : List ℕ) → Follows flow_seen flow_seen flow result (state_seen s.old printed) (state_seen s.new printed) (closed_block (solver_of (value_seen solver.now))) }
+{
+    match flow {
+        Err(stop) => Err(stop),
+        Ok(flow) => close_block(s, solver, flow),
+    }
+}

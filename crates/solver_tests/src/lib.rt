@@ -1,0 +1,7 @@
+//! Solvers, call by call.
+//!
+//! It has tests alone, so that the crates that they speak of are proved once and not twice.
+#![tactic(auto)]
+
+#[cfg(test)]
+mod solver;

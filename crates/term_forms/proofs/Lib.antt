@@ -1,0 +1,5 @@
+pub mod NodeLaws
+pub mod ChainLaws
+pub mod IndexLaws
+pub mod BodyLaws
+pub mod CallLaws

@@ -1,0 +1,19 @@
+use Rattle.comet_meaning.specs.TermForms.{grid_term}
+use Rattle.comet_meaning.proofs.GoingOn.{goes_then, goes_charge}
+use Rattle.comet_meaning.proofs.GoingParts.{goes_one_term}
+use Rattle.comet_meaning.proofs.GoingStatements.{goes_level}
+use Rattle.comet_meaning.proofs.GoingTerms.{goes_node}
+use Rattle.run_steps.proofs.Exits.{after, call_exit}
+use Rattle.term_forms.proofs.arrays.grid_term.Goals as goal
+
+pub returns-in_err-cells : goal.returns-in_err-cells
+unfolding grid_term
+returns-in_err-cells g c = record { did = call_exit _ _ _ _ _ _ c.from_residual.ensures.1 c.in_err-cells.ensures.did (λ a. goes_then (goes_one_term _ (goes_level _ _) _) (λ t. goes_then (goes_one_term _ (goes_level _ _) _) (λ u. goes_then (goes_charge _ _) (λ _. goes_node _ _ _)))) }
+
+pub returns-in_err-row : goal.returns-in_err-row
+unfolding grid_term
+returns-in_err-row g c = record { did = after _ _ _ _ c.in_ok-cells.ensures.did (call_exit _ _ _ _ _ _ c.from_residual-in_err-row.ensures.1 c.in_err-row.ensures.did (λ t. goes_then (goes_one_term _ (goes_level _ _) _) (λ u. goes_then (goes_charge _ _) (λ _. goes_node _ _ _)))) }
+
+pub returns : goal.returns
+unfolding grid_term
+returns g c = record { did = after _ _ _ _ c.in_ok-cells.ensures.did (after _ _ _ _ c.in_ok-row.ensures.did (c.grid_with.ensures.did _ _ c.single_term-column.ensures.did)) }

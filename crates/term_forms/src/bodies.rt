@@ -1,0 +1,159 @@
+//! The bodies of an aggregate's tuples in a term, and what they give.
+ghost use Rattle.std.specs.Prelude.{◌≡◌, List, IfErr, IfOk, map};
+ghost use Rattle.comet_meaning.specs.State.{State};
+ghost use Rattle.comet_meaning.specs.TermForms as forms;
+ghost use Rattle.comet_meaning.specs.TermForms.{keys_of, with_keyed};
+ghost use Rattle.comet_syntax.specs.declared.tree.expressions.Aggregate.TheVariants.{All, ArgMax, ArgMin, SetOf};
+ghost use Rattle.run_state.specs.InTerms.{in_term_seen};
+ghost use Rattle.run_steps.specs.Does.{Does};
+ghost use Rattle.run_values.specs.Did.{Did, IsFaultOrMemory};
+ghost use Rattle.run_values.specs.declared.stop.Stop.TheVariants.{NoMemory};
+ghost use Rattle.term_forms.specs.Bodies.{body_node, body_seen, body_terms, extreme_node};
+
+use crate::nodes::{as_in_term, node_of};
+use cbl_base::limits::MAX_CELLS;
+use cbl_base::{Limit, Numbers, Place, RunFault};
+use cbl_operations::Op;
+use comet_syntax::tree::Aggregate;
+use run_solvers::Built;
+use run_state::{InTerm, TermCells};
+use run_values::Stop;
+use std::alloc::Global;
+
+/// A body's term, with the value of the generator.
+#[derive(Drop)]
+pub struct Body {
+    pub key: i64,
+    pub term: Built,
+}
+
+/// Adds one more body. `TooMany` cells at the place exactly where an `all` has as many as an array has cells.
+pub fn push_body(
+    bodies: &mut Vec<Body>,
+    at: Place,
+    aggregate: Aggregate,
+    key: i64,
+    term: Built,
+) -> Result<(), Stop>
+    ensures did { (s : State) → Did (λ _. map body_seen bodies.new.items) result s (with_keyed at aggregate key (map body_seen bodies.old.items) term s) }
+    ensures stop { IfErr result IsFaultOrMemory }
+{
+    match aggregate {
+        Aggregate::All => push_cell(bodies, at, key, term),
+        _ => {
+            bodies.push(Body { key, term })?;
+            Ok(())
+        }
+    }
+}
+
+/// Adds one more body of an `all`. `TooMany` cells at the place exactly where there are as many as an array has cells.
+fn push_cell(bodies: &mut Vec<Body>, at: Place, key: i64, term: Built) -> Result<(), Stop>
+    ensures did { (s : State) → Did (λ _. map body_seen bodies.new.items) result s (with_keyed at All key (map body_seen bodies.old.items) term s) }
+    ensures stop { IfErr result IsFaultOrMemory }
+{
+    if MAX_CELLS <= bodies.len() {
+        return Err(Stop::Fault(at, RunFault::TooMany(Limit::Cells)));
+    }
+    bodies.push(Body { key, term })?;
+    Ok(())
+}
+
+/// What the bodies give: an `all` is an array of them, and any other aggregate one operation. `EmptyRange` at the place
+/// exactly where there is none of which one could be least or greatest.
+pub fn aggregated(
+    alloc: Global,
+    at: Place,
+    aggregate: Aggregate,
+    bodies: Vec<Body>,
+) -> Result<InTerm, Stop>
+    ensures did { (s : State) → Does in_term_seen result s (forms.aggregated at aggregate (map body_seen bodies.items) s) }
+{
+    match aggregate {
+        Aggregate::Sum => operation_of(alloc, at, Op::Sum, bodies),
+        Aggregate::Min => extreme_of(alloc, at, Op::Least, bodies),
+        Aggregate::Max => extreme_of(alloc, at, Op::Greatest, bodies),
+        Aggregate::All => all_of(alloc, at, bodies),
+        Aggregate::And => operation_of(alloc, at, Op::And, bodies),
+        Aggregate::Or => operation_of(alloc, at, Op::Or, bodies),
+        Aggregate::SetOf => set_of(alloc, at, bodies),
+        Aggregate::ArgMin => least_keys_of(alloc, at, bodies),
+        Aggregate::ArgMax => greatest_keys_of(alloc, at, bodies),
+    }
+}
+
+/// The terms of bodies. `NoMemory` where there is none for them; there is no other stop.
+fn terms_in(alloc: Global, bodies: Vec<Body>) -> Result<Vec<Built>, Stop>
+    ensures terms { IfOk result (λ terms. terms.items ≡ body_terms bodies.items) }
+    ensures memory { IfErr result (λ stop. stop ≡ NoMemory) }
+{
+    let mut terms = Vec::new(alloc);
+    for body in bodies {
+        terms.push(body.term)?;
+    }
+    Ok(terms)
+}
+
+/// The keys of bodies. `NoMemory` where there is none for them; there is no other stop.
+fn keys_in(alloc: Global, bodies: &[Body]) -> Result<Numbers, Stop>
+    ensures keys { IfOk result (λ keys. keys ≡ keys_of (map body_seen bodies.now)) }
+    ensures memory { IfErr result (λ stop. stop ≡ NoMemory) }
+{
+    let mut keys = Vec::new(alloc);
+    for body in bodies {
+        keys.push(body.key)?;
+    }
+    let numbers = Numbers::from_slice(alloc, &keys)?;
+    Ok(numbers)
+}
+
+/// One operation of all bodies.
+fn operation_of(alloc: Global, at: Place, op: Op, bodies: Vec<Body>) -> Result<InTerm, Stop>
+    ensures did { (s : State) → Does in_term_seen result s (body_node at op (map body_seen bodies.items) s) }
+{
+    let terms = terms_in(alloc, bodies)?;
+    as_in_term(node_of(at, op, terms))
+}
+
+/// The same of the least or the greatest, which none is without a body.
+fn extreme_of(alloc: Global, at: Place, op: Op, bodies: Vec<Body>) -> Result<InTerm, Stop>
+    ensures did { (s : State) → Does in_term_seen result s (extreme_node at op (map body_seen bodies.items) s) }
+{
+    let count = bodies.len();
+    if count == 0 {
+        return Err(Stop::Fault(at, RunFault::EmptyRange));
+    }
+    operation_of(alloc, at, op, bodies)
+}
+
+/// The bodies of an `all`, as an array from 0.
+fn all_of(alloc: Global, at: Place, bodies: Vec<Body>) -> Result<InTerm, Stop>
+    ensures did { (s : State) → Does in_term_seen result s (forms.aggregated at All (map body_seen bodies.items) s) }
+{
+    let terms = terms_in(alloc, bodies)?;
+    Ok(InTerm::Several(TermCells::row(terms)))
+}
+
+/// The set of the keys whose body is 1.
+fn set_of(alloc: Global, at: Place, bodies: Vec<Body>) -> Result<InTerm, Stop>
+    ensures did { (s : State) → Does in_term_seen result s (forms.aggregated at SetOf (map body_seen bodies.items) s) }
+{
+    let keys = keys_in(alloc, &bodies)?;
+    operation_of(alloc, at, Op::SetOf { keys }, bodies)
+}
+
+/// The set of the keys whose body is least.
+fn least_keys_of(alloc: Global, at: Place, bodies: Vec<Body>) -> Result<InTerm, Stop>
+    ensures did { (s : State) → Does in_term_seen result s (forms.aggregated at ArgMin (map body_seen bodies.items) s) }
+{
+    let keys = keys_in(alloc, &bodies)?;
+    operation_of(alloc, at, Op::ArgMin { keys }, bodies)
+}
+
+/// The set of the keys whose body is greatest.
+fn greatest_keys_of(alloc: Global, at: Place, bodies: Vec<Body>) -> Result<InTerm, Stop>
+    ensures did { (s : State) → Does in_term_seen result s (forms.aggregated at ArgMax (map body_seen bodies.items) s) }
+{
+    let keys = keys_in(alloc, &bodies)?;
+    operation_of(alloc, at, Op::ArgMax { keys }, bodies)
+}

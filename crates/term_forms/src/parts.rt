@@ -1,0 +1,62 @@
+//! What the parts of an expression stand for in a term.
+ghost use Rattle.std.specs.Prelude.{◌≡◌, ℕ, List, [], ◌∷◌, ◌++◌};
+ghost use Rattle.comet_meaning.specs.Parts as parts;
+ghost use Rattle.comet_meaning.specs.Program.{level};
+ghost use Rattle.run_state.specs.InTerms.{term_cells_seen};
+ghost use Rattle.run_state.specs.Views.{state_seen};
+ghost use Rattle.run_steps.specs.Does.{Does};
+ghost use Rattle.run_steps.specs.Views.{part, row};
+
+use checked_tree::Typed;
+use run_solvers::Built;
+use run_state::{Out, State, TermCells};
+use run_steps::inside::Defining;
+use run_steps::operands::{as_several, as_single};
+use run_values::Stop;
+
+/// What a part stands for, as one term.
+#[tactic(auto, unfolding(comet_meaning::specs::Parts::term))]
+pub fn single_term<O: Out, W: Defining<O>>(
+    s: &mut State,
+    out: &mut O,
+    inside: &W,
+    e: &Typed,
+) -> Result<Built, Stop>
+    requires defines { W.can_define inside.now }
+    ensures did { Does (λ t. t) result (state_seen s.new (O.taken out.new)) (parts.term (level (W.code inside.now) (W.depth inside.now)) (part e.now) (state_seen s.old (O.taken out.old))) }
+{
+    as_single(inside.define(s, out, e))
+}
+
+/// What a part stands for, as an array of terms.
+#[tactic(auto, unfolding(comet_meaning::specs::Parts::terms))]
+pub fn term_cells<O: Out, W: Defining<O>>(
+    s: &mut State,
+    out: &mut O,
+    inside: &W,
+    e: &Typed,
+) -> Result<TermCells, Stop>
+    requires defines { W.can_define inside.now }
+    ensures did { Does term_cells_seen result (state_seen s.new (O.taken out.new)) (parts.terms (level (W.code inside.now) (W.depth inside.now)) (part e.now) (state_seen s.old (O.taken out.old))) }
+{
+    let term = inside.define(s, out, e);
+    as_several(s.alloc, term)
+}
+
+/// The terms of parts, from the left.
+pub fn terms_of<O: Out, W: Defining<O>>(
+    s: &mut State,
+    out: &mut O,
+    inside: &W,
+    es: &[Typed],
+) -> Result<Vec<Built>, Stop>
+    requires defines { W.can_define inside.now }
+    ensures did { Does (λ terms. terms.items) result (state_seen s.new (O.taken out.new)) (parts.each_term (level (W.code inside.now) (W.depth inside.now)) (row es.now) [] (state_seen s.old (O.taken out.old))) }
+{
+    let mut terms = Vec::new(s.alloc);
+    for e in es {
+        let term = single_term(s, out, inside, e)?;
+        terms.push(term)?;
+    }
+    Ok(terms)
+}

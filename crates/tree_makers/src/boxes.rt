@@ -1,0 +1,61 @@
+//! Boxes, made beside what goes on.
+//!
+//! Each function is generic, so that for want of memory it lets a part go by one call, whatever the part holds.
+ghost use Rattle.std.specs.Prelude.{◌≡◌, [], ◌∷◌};
+ghost use Rattle.tree_makers.specs.Makes.{Makes};
+
+use checked_tree::stop::Stop;
+use std::alloc::Global;
+
+/// A part in a box, beside another one as it was.
+pub(crate) fn box_beside<K: Drop, T: Drop>(
+    alloc: Global,
+    kept: K,
+    part: T,
+) -> Result<(K, Box<T>), Stop>
+    ensures kept { Makes (λ p. p.0) result kept }
+    ensures boxed { Makes (λ p. p.1.value) result part }
+{
+    let part = Box::new(alloc, part)?;
+    Ok((kept, part))
+}
+
+/// Two parts, each in a box.
+pub(crate) fn box_both<A: Drop, B: Drop>(
+    alloc: Global,
+    left: A,
+    right: B,
+) -> Result<(Box<A>, Box<B>), Stop>
+    ensures left { Makes (λ p. p.0.value) result left }
+    ensures right { Makes (λ p. p.1.value) result right }
+{
+    let (right, left) = box_beside(alloc, right, left)?;
+    let right = Box::new(alloc, right)?;
+    Ok((left, right))
+}
+
+/// Three parts, each in a box.
+pub(crate) fn box_three<T: Drop>(
+    alloc: Global,
+    first: T,
+    second: T,
+    third: T,
+) -> Result<(Box<T>, Box<T>, Box<T>), Stop>
+    ensures first { Makes (λ p. p.0.value) result first }
+    ensures second { Makes (λ p. p.1.value) result second }
+    ensures third { Makes (λ p. p.2.value) result third }
+{
+    let ((second, third), first) = box_beside(alloc, (second, third), first)?;
+    let (second, third) = box_both(alloc, second, third)?;
+    Ok((first, second, third))
+}
+
+/// A list of two parts.
+pub(crate) fn list_both<T: Drop>(alloc: Global, left: T, right: T) -> Result<Vec<T>, Stop>
+    ensures { Makes (λ v. v.items) result (left ∷ right ∷ []) }
+{
+    let mut list = Vec::new(alloc);
+    list.push(left)?;
+    list.push(right)?;
+    Ok(list)
+}
