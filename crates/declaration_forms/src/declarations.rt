@@ -14,7 +14,7 @@ ghost use Rattle.run_values.specs.Views.{bounds_seen};
 use crate::variable_arrays::declare_variables;
 use cbl_base::Place;
 use checked_tree::{Kind, Slot, Start, Typed, Variable, Way};
-use expression_forms::expressions::{bounds_of, number_of, value_of};
+use term_forms::expression_forms::expressions::{bounds_of, number_of, value_of};
 use run_solvers::Beginning;
 use run_state::{Out, State};
 use run_steps::declaring::{as_defined, as_free, begin_variable, begins_with, variable_kind};

@@ -5,6 +5,9 @@
 //! layers above use that each does what the meaning of the form says.
 #![tactic(auto)]
 
+pub use term_forms as term_forms;
+pub use term_forms::expression_forms as expression_forms;
+
 pub mod array_declarations;
 pub mod declarations;
 mod variable_arrays;

@@ -8,6 +8,9 @@
 mod for_all;
 mod loops;
 mod printing;
+pub use declaration_forms::expression_forms as expression_forms;
+pub use declaration_forms::term_forms as term_forms;
+
 pub mod statements;
 pub mod targets;
 mod together;

@@ -5,6 +5,8 @@
 //! of the form says.
 #![tactic(auto)]
 
+pub use expression_forms as expression_forms;
+
 pub mod aggregates;
 pub mod arrays;
 pub mod bodies;
