@@ -40,3 +40,4 @@ pub mod Onward
 pub mod OneEnd
 pub mod Spending
 pub mod Examples
+pub mod SystemExamples
