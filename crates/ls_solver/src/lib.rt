@@ -8,18 +8,20 @@
 //! Each commit of a closed solver evaluates the whole model. What is read is kept, and wants no memory.
 #![tactic(auto)]
 
+mod adding;
 mod asking;
-mod changes;
 mod closing;
 mod committing;
-mod cycle;
 mod declaring;
 mod defining;
-mod evaluating;
 mod fault;
-mod ids;
 mod reading;
+mod replying;
 mod solver;
+mod totals;
+mod trial;
 
 pub use fault::SolverFault;
 pub use solver::Solver;
+pub use solver_models::{ObjectiveId, SystemId, TotalId};
+pub use trial::Trial;
