@@ -14,7 +14,7 @@ use Rattle.term_model.specs.declared.term.Term.{Term}
 use Rattle.term_model.specs.declared.term.Term.TheOpen.{Term-F}
 use Rattle.term_model.specs.declared.term.Term.TheFolds.{fold-Term}
 use Rattle.model_values.specs.Delta.{value_of, delta_of}
-use Rattle.model_values.specs.VariableViolations.{variable_violations_of}
+use Rattle.violation_shares.specs.VariableViolations.{variable_violations_of}
 use Rattle.model_values.specs.declared.asked.AskStop.{AskStop}
 use Rattle.model_values.specs.declared.asked.AskStop.TheVariants.{Run, Fault, NoMemory}
 use Rattle.model_values.specs.declared.deltas.Move.{Move}

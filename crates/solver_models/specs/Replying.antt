@@ -8,7 +8,7 @@ use Rattle.cbl_base.specs.declared.faults.RunFault.{RunFault}
 use Rattle.cbl_base.specs.declared.faults.RunFault.TheVariants.{NotClosed, WrongSolver}
 use Rattle.cbl_base.specs.declared.ids.VarId.{VarId}
 use Rattle.model_values.specs.Delta.{delta_of, value_of}
-use Rattle.model_values.specs.VariableViolations.{variable_violations_of}
+use Rattle.violation_shares.specs.VariableViolations.{variable_violations_of}
 use Rattle.model_values.specs.declared.asked.AskStop.{AskStop}
 use Rattle.model_values.specs.declared.asked.AskStop.TheVariants.{Run}
 use Rattle.model_values.specs.declared.deltas.Move.{Move}

@@ -2,7 +2,7 @@
 ghost use Rattle.std.specs.Prelude.{◌≡◌, ◌<◌, length};
 ghost use Rattle.model_values.specs.Asked.{IsAnswer};
 ghost use Rattle.model_values.specs.Delta.{AreOwn, delta_of};
-ghost use Rattle.model_values.specs.VariableViolations.{variable_violations_of};
+ghost use Rattle.violation_shares.specs.VariableViolations.{variable_violations_of};
 ghost use Rattle.solver_models.specs.Kept.{IsClosable};
 ghost use Rattle.solver_models.specs.Totals.{whole_of};
 ghost use Rattle.term_model.specs.Posting.{totals_by};
@@ -10,9 +10,10 @@ ghost use Rattle.term_model.specs.Users.{no_users};
 ghost use Rattle.term_model.specs.Wellformed.{IsWellFormed};
 
 use crate::totals::{TotalId, whole_of};
-use model_values::{AskStop, Move, NoUsers, delta, variable_violations};
+use model_values::{AskStop, Move, NoUsers, delta};
 use std::alloc::Global;
 use term_model::Model;
+use violation_shares::variable_violations;
 
 /// How the value of a system or an objective would change with a move.
 pub fn total_delta(
