@@ -5,9 +5,9 @@
 //! layers above use that each does what the meaning of the form says.
 #![tactic(auto)]
 
-pub use term_forms as term_forms;
-pub use term_forms::expression_forms as expression_forms;
+pub use expression_forms as expression_forms;
 
 pub mod array_declarations;
 pub mod declarations;
+pub mod objects;
 mod variable_arrays;

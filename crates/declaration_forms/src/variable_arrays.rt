@@ -15,7 +15,7 @@ use crate::array_declarations::extents_of;
 use crate::declarations::{beginning_of, domain_of};
 use cbl_base::{Place, VarId};
 use checked_tree::{Slot, Typed, Variable, Way};
-use term_forms::expression_forms::expressions::value_of;
+use expression_forms::expressions::value_of;
 use run_state::{Out, State};
 use run_steps::cells::{Extent, cell_count, put_named, with_index};
 use run_steps::declaring::{

@@ -12,7 +12,9 @@ ghost use Rattle.run_steps.specs.Views.{code_seen, flow_seen, part};
 ghost use Rattle.run_values.specs.Views.{value_seen};
 
 use cbl_base::RunFault;
-use checked_tree::{Task, Typed};
+use checked_tree::{Kind, Task, Typed};
+use constraint_forms::constraints::constraint_form;
+use constraint_forms::term_forms::terms::{constant_term, moving_term};
 use statement_forms::expression_forms::expressions::evaluate_form;
 use run_state::{InTerm, Out, State, Target};
 use run_steps::code::{Code, Flow};
@@ -20,7 +22,6 @@ use run_steps::inside::Inside;
 use run_values::{Stop, Value};
 use statement_forms::statements::{execute_act, execute_all};
 use statement_forms::targets::target_of_form;
-use statement_forms::term_forms::terms::{constant_term, moving_term};
 
 /// How many statements and expressions may be executed inside each other.
 const MOST_DEPTH: u32 = 1000;
@@ -47,12 +48,15 @@ pub fn evaluate<O: Out>(
     let statement = |s: &mut State, out: &mut O, t: &Task| -> Result<Flow, Stop>
         ensures did { Does flow_seen result (state_seen s.new (O.taken out.new)) ((level (code_seen code.entry.now) room).stmt (work_of t.now) (state_seen s.old (O.taken out.old))) }
     { execute(s, out, code, room, t) };
+    let term = |s: &mut State, out: &mut O, e: &Typed| -> Result<InTerm, Stop>
+        ensures did { Does in_term_seen result (state_seen s.new (O.taken out.new)) ((level (code_seen code.entry.now) room).term (part e.now) (state_seen s.old (O.taken out.old))) }
+    { define(s, out, code, room, e) };
     let inside = Inside {
         code,
         room,
         evaluate: value,
         execute: statement,
-        define: (),
+        define: term,
         locate: (),
     };
     evaluate_form(s, out, &inside, code, e.place, e.kind, &e.form)
@@ -126,10 +130,12 @@ fn define<O: Out>(
         define: term,
         locate: (),
     };
-    if e.moving {
-        moving_term(s, out, &inside, e.place, &e.form)
-    } else {
-        constant_term(s, out, &inside, code, e.place, e.kind, &e.form)
+    if !e.moving {
+        return constant_term(s, out, &inside, code, e.place, e.kind, &e.form);
+    }
+    match e.kind {
+        Kind::Constraint => constraint_form(s, out, &inside, e.place, &e.form),
+        _ => moving_term(s, out, &inside, e.place, &e.form),
     }
 }
 

@@ -23,7 +23,7 @@ use run_steps::effects::{add_part, assign_part, define_part, step_part, subtract
 use run_steps::inside::{Around, Within};
 use run_steps::plain::{number_itself, plain_slot};
 use run_values::{Stop, Value};
-use declaration_forms::term_forms::parts::single_term;
+use declaration_forms::expression_forms::parts::single_term;
 
 /// `target = value` and its like, at a place.
 #[tactic(auto, unfolding(comet_meaning::specs::Writes::write_form))]

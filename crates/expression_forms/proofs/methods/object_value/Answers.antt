@@ -2,7 +2,7 @@ use Rattle.std.proofs.Common.{sym, subst}
 use Rattle.comet_meaning.specs.Methods.{object_value}
 use Rattle.run_steps.specs.Does.{Does}
 use Rattle.run_steps.proofs.Forms.{object_read}
-use Rattle.expression_forms.proofs.calls.object_value.Goals as goal
+use Rattle.expression_forms.proofs.methods.object_value.Goals as goal
 
 pub returns-in-Domain : goal.returns-in-Domain
 unfolding object_value

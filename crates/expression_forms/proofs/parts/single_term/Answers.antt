@@ -1,5 +1,5 @@
 use Rattle.comet_meaning.specs.Parts.{term}
-use Rattle.term_forms.proofs.parts.single_term.Goals as goal
+use Rattle.expression_forms.proofs.parts.single_term.Goals as goal
 
 pub returns : goal.returns
 unfolding term
