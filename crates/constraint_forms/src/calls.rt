@@ -75,15 +75,7 @@ fn bounded_call<O: Out, W: Defining<O>>(
     if arguments.len() != 2 {
         return Ok(Built::constant(0));
     }
-    bounded_term(
-        s,
-        out,
-        inside,
-        at,
-        function,
-        &arguments[0],
-        &arguments[1],
-    )
+    bounded_term(s, out, inside, at, function, &arguments[0], &arguments[1])
 }
 
 /// A call of `knapsack`.

@@ -47,16 +47,7 @@ pub fn constraint_form<O: Out, W: Defining<O>>(
             generators,
             condition,
             body,
-        } => as_in_term(joining_term(
-            s,
-            out,
-            inside,
-            at,
-            *aggregate,
-            generators,
-            condition,
-            body,
-        )),
+        } => as_in_term(joining_term(s, out, inside, at, *aggregate, generators, condition, body)),
         Form::Builtin { builtin, arguments } => {
             as_in_term(constraint_call(s, out, inside, at, *builtin, arguments))
         }

@@ -54,11 +54,7 @@ pub(crate) fn relate_with(
 }
 
 /// `!c`, of the constraint's term.
-pub(crate) fn negate(
-    alloc: Global,
-    at: Place,
-    operand: Result<Built, Stop>,
-) -> Result<Built, Stop>
+pub(crate) fn negate(alloc: Global, at: Place, operand: Result<Built, Stop>) -> Result<Built, Stop>
     ensures did { (s : states.State) → Follows (λ t. t) (λ t. t) operand result s s (negated at) }
 {
     match operand {

@@ -84,15 +84,7 @@ fn combined_term<O: Out, W: Defining<O>>(
 {
     match links.first() {
         None => Ok(first),
-        Some(link) => members_term(
-            s,
-            out,
-            inside,
-            link.place,
-            link.operator,
-            links,
-            first,
-        ),
+        Some(link) => members_term(s, out, inside, link.place, link.operator, links, first),
     }
 }
 

@@ -11,14 +11,14 @@ ghost use Rattle.run_values.specs.Views.{value_seen};
 
 use cbl_base::Place;
 use checked_tree::{Kind, Slot, Typed};
+use expression_forms::expressions::value_of;
+use expression_forms::parts::single_term;
 use run_state::{Out, State};
 use run_steps::effects::{
     input_made, objective_made, put_made, solver_made, sum_made, system_made,
 };
 use run_steps::inside::{Defining, Within};
 use run_values::{Stop, Value};
-use expression_forms::expressions::value_of;
-use expression_forms::parts::single_term;
 
 /// A name gets a new object of this kind: a system and a sum are made in the solver that stands among the arguments, and
 /// an objective of the term there. Where it is no object nothing is done.

@@ -32,15 +32,7 @@ pub fn post_constraint<O: Out, W: Defining<O>>(
     if arguments.len() == 0 {
         return Ok(Value::Nothing);
     }
-    add_constraint(
-        s,
-        out,
-        inside,
-        at,
-        object,
-        &arguments[0],
-        &arguments[1..],
-    )
+    add_constraint(s, out, inside, at, object, &arguments[0], &arguments[1..])
 }
 
 /// The object, the constraint, its weight, a unit for the call, and then it is posted.
@@ -80,15 +72,7 @@ pub fn post_part<O: Out, W: Defining<O>>(
     if arguments.len() == 0 {
         return Ok(Value::Nothing);
     }
-    add_part(
-        s,
-        out,
-        inside,
-        at,
-        object,
-        &arguments[0],
-        &arguments[1..],
-    )
+    add_part(s, out, inside, at, object, &arguments[0], &arguments[1..])
 }
 
 /// The object, the term, its weight, a unit for the call, and then it is posted.

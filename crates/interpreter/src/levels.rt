@@ -1,6 +1,7 @@
 //! One level of a run: a part is executed by its form, with room for one part fewer inside it.
 ghost use Rattle.std.specs.Prelude.{◌≡◌, ℕ, List, map};
 ghost use Rattle.checked_tree.specs.Tasks.{work_of};
+ghost use Rattle.comet_meaning.specs.InTerms.{is_constraint};
 ghost use Rattle.comet_meaning.specs.Limits.{most_depth};
 ghost use Rattle.comet_meaning.specs.Loops.{tasks_form};
 ghost use Rattle.comet_meaning.specs.Program.{level};
@@ -15,11 +16,11 @@ use cbl_base::RunFault;
 use checked_tree::{Kind, Task, Typed};
 use constraint_forms::constraints::constraint_form;
 use constraint_forms::term_forms::terms::{constant_term, moving_term};
-use statement_forms::expression_forms::expressions::evaluate_form;
 use run_state::{InTerm, Out, State, Target};
 use run_steps::code::{Code, Flow};
 use run_steps::inside::Inside;
 use run_values::{Stop, Value};
+use statement_forms::expression_forms::expressions::evaluate_form;
 use statement_forms::statements::{execute_act, execute_all};
 use statement_forms::targets::target_of_form;
 
@@ -130,12 +131,14 @@ fn define<O: Out>(
         define: term,
         locate: (),
     };
-    if !e.moving {
-        return constant_term(s, out, &inside, code, e.place, e.kind, &e.form);
-    }
-    match e.kind {
-        Kind::Constraint => constraint_form(s, out, &inside, e.place, &e.form),
-        _ => moving_term(s, out, &inside, e.place, &e.form),
+    if e.moving {
+        if is_constraint(e.kind) {
+            constraint_form(s, out, &inside, e.place, &e.form)
+        } else {
+            moving_term(s, out, &inside, e.place, &e.form)
+        }
+    } else {
+        constant_term(s, out, &inside, code, e.place, e.kind, &e.form)
     }
 }
 
@@ -176,6 +179,13 @@ fn execute<O: Out>(
         locate: target,
     };
     execute_act(s, out, &inside, t.place, &t.act)
+}
+
+/// Whether an expression of this kind is a constraint.
+fn is_constraint(kind: Kind) -> bool
+    ensures { result ≡ is_constraint kind }
+{
+    matches!(kind, Kind::Constraint)
 }
 
 /// What statements do in order, from this state on, with room for 1000 parts inside each other. The state and what was

@@ -8,6 +8,7 @@
 mod for_all;
 mod loops;
 mod printing;
+
 pub use declaration_forms::expression_forms as expression_forms;
 
 pub mod statements;

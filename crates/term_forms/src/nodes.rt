@@ -42,7 +42,13 @@ pub fn node_of_one(alloc: Global, at: Place, op: Op, term: Built) -> Result<Buil
 }
 
 /// The same of two.
-pub fn node_of_two(alloc: Global, at: Place, op: Op, first: Built, second: Built) -> Result<Built, Stop>
+pub fn node_of_two(
+    alloc: Global,
+    at: Place,
+    op: Op,
+    first: Built,
+    second: Built,
+) -> Result<Built, Stop>
     ensures did { (s : states.State) → Does (λ t. t) result s (node_form at op (first ∷ second ∷ []) s) }
 {
     let mut terms = Vec::new(alloc);
