@@ -101,7 +101,9 @@ pub(crate) fn is_built_action(action: &Action) -> bool
         } => are_built_dimensions(dimensions) && is_built_start(start),
         Action::DeclareVariable(variable) => is_built_variable(variable),
         Action::Make {
-            kind, arguments, ..
+            kind,
+            arguments,
+            ..
         } => is_built_object(*kind) && are_built_arguments(arguments),
         Action::Write { target, value, .. } => is_built_part(target) && is_built_part(value),
         Action::Swap { left, right } => is_built_part(left) && is_built_part(right),

@@ -45,12 +45,7 @@ pub fn whole_value(s: &State, at: Place, whole: &Value) -> Result<Value, Stop>
 /// The violations of a system, or those of a variable in it. At this place `NotClosed` where the solver is open, and then
 /// `WrongSolver` where it has no such system or variable; else the fault of the question where it was met. Of other
 /// arguments nothing is given.
-pub fn violations(
-    s: &State,
-    at: Place,
-    whole: &Value,
-    arguments: &[Value],
-) -> Result<Value, Stop>
+pub fn violations(s: &State, at: Place, whole: &Value, arguments: &[Value]) -> Result<Value, Stop>
     ensures did { (printed : List ℕ) → Did value_seen result (state_seen s.now printed) (systems.violations at (value_seen whole.now) (map value_seen arguments.now) (state_seen s.now printed)) }
     ensures stop { IfErr result IsFaultOrMemory }
 {
@@ -82,12 +77,7 @@ fn violations_of(s: &State, at: Place, whole: &Value, variable: VarId) -> Result
 
 /// The delta of an assignment: the value behind it less the value now. The stops are those of `violations`, and
 /// `DefinedVariable` where the variable has a definition. Of other arguments nothing is given.
-pub fn assign_delta(
-    s: &State,
-    at: Place,
-    whole: &Value,
-    arguments: &[Value],
-) -> Result<Value, Stop>
+pub fn assign_delta(s: &State, at: Place, whole: &Value, arguments: &[Value]) -> Result<Value, Stop>
     ensures did { (printed : List ℕ) → Did value_seen result (state_seen s.now printed) (systems.assign_delta at (value_seen whole.now) (map value_seen arguments.now) (state_seen s.now printed)) }
     ensures stop { IfErr result IsFaultOrMemory }
 {
@@ -130,12 +120,7 @@ fn delta_of_assigned(
 
 /// The delta of a swap: the value behind it less the value now. The stops are those of `assign_delta`. Of other arguments
 /// nothing is given.
-pub fn swap_delta(
-    s: &State,
-    at: Place,
-    whole: &Value,
-    arguments: &[Value],
-) -> Result<Value, Stop>
+pub fn swap_delta(s: &State, at: Place, whole: &Value, arguments: &[Value]) -> Result<Value, Stop>
     ensures did { (printed : List ℕ) → Did value_seen result (state_seen s.now printed) (systems.swap_delta at (value_seen whole.now) (map value_seen arguments.now) (state_seen s.now printed)) }
     ensures stop { IfErr result IsFaultOrMemory }
 {

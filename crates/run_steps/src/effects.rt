@@ -29,7 +29,8 @@ use cbl_base::{Place, VarId};
 use checked_tree::{Kind, Slot};
 use comet_syntax::tree::Step;
 use run_objects::{
-    added, define, make_objective, make_solver, make_sum, make_system, stepped, subtracted, swap, write,
+    added, define, make_objective, make_solver, make_sum, make_system, stepped, subtracted, swap,
+    write,
 };
 use run_solvers::Built;
 use run_state::{Out, State, Target};
@@ -347,11 +348,7 @@ pub fn sum_made(s: &mut State, at: Place, solver: Result<Value, Stop>) -> Result
 }
 
 /// A new objective of a term.
-pub fn objective_made(
-    s: &mut State,
-    at: Place,
-    term: Result<Built, Stop>,
-) -> Result<Value, Stop>
+pub fn objective_made(s: &mut State, at: Place, term: Result<Built, Stop>) -> Result<Value, Stop>
     ensures did { (printed : List ℕ) → Follows (λ t. t) value_seen term result (state_seen s.old printed) (state_seen s.new printed) (make_objective at) }
 {
     match term {
