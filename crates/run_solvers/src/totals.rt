@@ -7,6 +7,7 @@ ghost use Rattle.comet_meaning.specs.Values as values;
 ghost use Rattle.ls_solver.specs.Adding.{early_member_refusal};
 ghost use Rattle.ls_solver.specs.Totals.{whole_of};
 ghost use Rattle.model_values.specs.declared.wholes.Whole.TheVariants as wholes;
+ghost use Rattle.model_view.specs.Building.{constant};
 ghost use Rattle.model_view.specs.Plain.{plain_member};
 ghost use Rattle.run_solvers.specs.Building.{IsShallow};
 ghost use Rattle.run_solvers.specs.Changing.{objective_one, posted_one, total_one};
@@ -21,7 +22,7 @@ ghost use Rattle.term_model.specs.Posting.{totals_by};
 ghost use Rattle.term_model.specs.declared.posting.Side.TheVariants.{Objectives, Systems};
 
 use crate::built::Built;
-use crate::defining::are_same;
+use crate::defining::{are_same, nothing_of};
 use crate::held::Held;
 use crate::refusals::stop_of;
 use cbl_base::{NoMemory, Place};
@@ -110,8 +111,18 @@ impl Held {
         match self.is_number(&term) {
             Err(NoMemory) => Err(Stop::NoMemory),
             Ok(true) => self.post_number(at, total, term, weight),
-            Ok(false) => self.post_number(at, total, Term::Const(0), weight),
+            Ok(false) => self.post_nothing(at, total, weight),
         }
+    }
+
+    /// Posts the number 0.
+    fn post_nothing(&mut self, at: Place, total: TotalId, weight: i64) -> Result<(), Stop>
+        requires kept { IsKept self.old }
+        requires early { early_member_refusal self.old.solver total (constant (pos 0)) weight ≡ None }
+        ensures { Tries self.old self.new result (sized_member at (whole_of total) (record { term = constant (pos 0); weight = weight }) (held_seen self.old)) }
+    {
+        let term = nothing_of(self.alloc, None);
+        self.post_number(at, total, term, weight)
     }
 
     /// Whether a term is a number.
@@ -137,6 +148,7 @@ impl Held {
         requires kind { kind_of_term (kinds_in self.old.solver.model.vars.items) term ≡ Some number_kind }
         ensures { Tries self.old self.new result (sized_member at (whole_of total) (plain_member (record { term = term; weight = weight })) (held_seen self.old)) }
     {
+        self.solver.keeps_form();
         match self.solver.add_member(total, Member { term, weight }) {
             Ok(()) => Ok(()),
             Err(fault) => Err(stop_of(self.alloc, at, &self.names, fault)),
