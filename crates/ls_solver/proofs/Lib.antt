@@ -1,3 +1,4 @@
+pub mod AnswerLaws
 pub mod CommitLaws
 pub use Rattle.solver_models.proofs.DefinitionLaws
 pub use Rattle.solver_models.proofs.ListLaws

@@ -150,11 +150,11 @@ module _ (users : ℕ → NumberRule) (M : Model) (env : ℕ → Outcome) (side 
   no_sums : (n : ℕ) → HasSums n [] []
   no_sums n k t at = let c : None ≡ Some t = at in cc
 
+  sums_same : (us vs : List ℤ) (sums : Sums) → sums ≡ Some (Ok us) → sums ≡ Some (Ok vs) → us ≡ vs
+  sums_same us vs sums e h = cc
+
   sums_from : (totals : List Total) (n : ℕ) (so_far xs : List ℤ) → added (Some (Ok so_far)) (enumerate_from n totals) ≡ Some (Ok xs) → AreSums n totals so_far xs
-  sums_from [] n so_far xs e = ([], sym (ok_in so_far xs e) ∙ sym (append-nil so_far), no_sums n)
-    where
-      ok_in : (us vs : List ℤ) → Some (Ok us) ≡ Some (Ok vs) → us ≡ vs
-      ok_in us vs h = cc
+  sums_from [] n so_far xs e = ([], sym (sums_same so_far xs (Some (Ok so_far)) refl e) ∙ sym (append-nil so_far), no_sums n)
   sums_from (t ∷ totals) n so_far xs e = cases (sum_in users M env (whole_by side n) t.place) refl e (sums_from totals (n + 1))
     where
       cases : (o : Option (Result ℤ Failure)) → sum_in users M env (whole_by side n) t.place ≡ o → added (gather_sum (Some (Ok so_far)) o) (enumerate_from (n + 1) totals) ≡ Some (Ok xs) →

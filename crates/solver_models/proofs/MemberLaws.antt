@@ -135,7 +135,7 @@ module _ (M N : Model) (side : Side) (k : ℕ) (member : Member) (formed : IsWel
 
   numbers_old : AreOld (number_by side k) count M.posted.items
   numbers_old = old_from (number_by side k) count M.posted.items
-      (λ j d at. range_within 0 count j d (ap (λ ns. slice_get ns j) (sym (formed_posted M formed side k was gets.totals.stood)) ∙ at))
+      (λ j d at. let lt = range_within 0 count j d (ap (λ ns. slice_get ns j) (sym (formed_posted M formed side k was gets.totals.stood)) ∙ at) in omega (arith, lt))
 
   member_same : (other : Side) (s m : ℕ) → (other ≡ side) ⊎ (other ≡ other_side side) → (other ≡ side → s ≡ k → m < count) → member_at (totals_by N other) s m ≡ member_at (totals_by M other) s m
   member_same other s m (inl e) less =
