@@ -66,7 +66,6 @@ const OTHER: VarId = VarId {
 // ---- terms
 #[derive(Clone, Copy)]
 enum Shape {
-    Variable(VarId),
     // alldifferent over the first four variables, each plus so many times its number from 1
     Different(i64),
     // x == 4 && y <= 0
@@ -135,7 +134,6 @@ fn quotient_and_cell(alloc: Global) -> Result<Term, Fail> {
 
 fn term_of(alloc: Global, shape: Shape) -> Result<Term, Fail> {
     match shape {
-        Shape::Variable(x) => Ok(Term::Var(x)),
         Shape::Different(step) => different(alloc, step),
         Shape::FourAndNone => joined(alloc, Op::AllOf, 4, 0),
         Shape::FiveOrOne => joined(alloc, Op::AnyOf, 5, 1),
@@ -266,7 +264,7 @@ fn close(solver: &mut Solver) -> Result<End, Fail> {
     Ok(done(solver.close(1)))
 }
 
-fn change(alloc: Global, solver: &mut Solver, by: Change) -> Result<End, Fail> {
+fn make(alloc: Global, solver: &mut Solver, by: Change) -> Result<End, Fail> {
     if !solver.usable() {
         return none();
     }
@@ -319,7 +317,7 @@ fn hold(
     questions: &[(Question, End)],
 ) -> Result<(), Fail> {
     for step in changes {
-        if change(alloc, solver, step.0)? != step.1 {
+        if make(alloc, solver, step.0)? != step.1 {
             return Err(Fail::from("a change ended otherwise"));
         }
     }
