@@ -72,7 +72,13 @@ impl Solver {
         requires moved { AreOwn self.now.model change }
         ensures { IsReply (delta_reply self.now k vars.now change) result }
     {
-        reply_of(total_delta(self.alloc, &self.model, &self.assignment, k, change))
+        reply_of(total_delta(
+            self.alloc,
+            &self.model,
+            &self.assignment,
+            k,
+            change,
+        ))
     }
 
     /// How the value would change if one variable got another number, without a count of steps.
@@ -184,7 +190,12 @@ impl Solver {
         requires own { reply_refusal self.now (of_system s) (x ∷ []) ≡ None }
         ensures { IsReply (variable_reply self.now s x) result }
     {
-        let violations = violations_in(self.alloc, &self.model, &self.assignment, s.index, x.index);
-        reply_of(violations)
+        reply_of(violations_in(
+            self.alloc,
+            &self.model,
+            &self.assignment,
+            s.index,
+            x.index,
+        ))
     }
 }

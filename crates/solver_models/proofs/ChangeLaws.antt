@@ -9,7 +9,7 @@ use Rattle.cbl_base.specs.declared.ids.VarId.{VarId}
 use Rattle.cbl_base.specs.declared.input.Input.{Input}
 use Rattle.ls_events.specs.declared.change.VarChange.{VarChange}
 use Rattle.solver_models.specs.Changes.{change_at, change_between, changes_of}
-use Rattle.solver_models.specs.Committing.{after_moves, moved}
+use Rattle.solver_models.specs.Moves.{after_moves, moved}
 use Rattle.solver_models.specs.Ids.{id_at}
 use Rattle.solver_models.specs.Kept.{AreFresh}
 use Rattle.solver_models.specs.KeptChanges.{change_in, with_change}

@@ -3,8 +3,8 @@ use Rattle.std.proofs.Common.{◌≡◌, ℕ, ℤ, ◌<◌, ◌≤◌, Bool, tru
 use Rattle.std.specs.Prelude.{not, nat_le, if◌then◌else◌}
 use Rattle.cbl_base.specs.declared.faults.RunFault.TheVariants.{AlreadyClosed, DefinedVariable, WrongSolver}
 use Rattle.cbl_base.specs.declared.ids.VarId.{VarId}
-use Rattle.cbl_base.specs.declared.input.Input.{Input}
 use Rattle.cbl_base.specs.declared.limits.TheConstants.{MAX_TERM_DEPTH}
+use Rattle.model_values.specs.Fresh.{Fresh}
 use Rattle.solver_models.specs.Defining.{GetsDefinition, distinct_with, early_refusal, is_own_definition, is_too_deep}
 use Rattle.solver_models.specs.Ids.{has_definition, is_own, names_only}
 use Rattle.solver_models.specs.Kept.{IsKept}
@@ -40,7 +40,7 @@ shallow_enough : (b : Bool) → not b ≡ false → b ≡ true
 shallow_enough true h = refl
 shallow_enough false h = absurd (true≢false h)
 
-module _ (number : ℕ) (M N : Model) (a : List ℤ) (marks marked : List Bool) (counted : Option Subterms) (after : Subterms) (values : List Input) (closed usable : Bool) (def : Definition) (kept : IsKept M a marks counted values closed usable) where
+module _ (number : ℕ) (M N : Model) (a : List ℤ) (marks marked : List Bool) (counted : Option Subterms) (after : Subterms) (values : Fresh) (closed usable : Bool) (def : Definition) (kept : IsKept M a marks counted values closed usable) where
   abbrev state : SolverState
   state = record { number = number; model = M; assignment = a; closed = closed; usable = usable }
 

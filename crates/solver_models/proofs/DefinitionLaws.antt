@@ -46,7 +46,7 @@ map_below : {X : Type 0} (f g : Posted → X) (n : ℕ) → ((p : Posted) → Is
 map_below f g n e [] below = refl
 map_below f g n e (p ∷ ps) below = ap (λ x. x ∷ map f ps) (e p below.0) ∙ ap (λ xs. g p ∷ xs) (map_below f g n e ps below.1)
 
-joined-push : (xss : List (List ℕ)) (ys : List ℕ) → joined (xss ++ ys ∷ []) ≡ joined xss ++ ys
+pub joined-push : (xss : List (List ℕ)) (ys : List ℕ) → joined (xss ++ ys ∷ []) ≡ joined xss ++ ys
 joined-push [] ys = append-nil ys
 joined-push (xs ∷ xss) ys = ap (λ t. xs ++ t) (joined-push xss ys) ∙ sym (append_assoc xs (joined xss) ys)
 

@@ -7,22 +7,30 @@ use Rattle.cbl_base.specs.declared.faults.RunFault.TheVariants.{AlreadyClosed, T
 use Rattle.cbl_base.specs.declared.limits.TheConstants.{MAX_VARIABLES}
 use native.Mathlib.Decide.{ℕ_discrete}
 use Rattle.cbl_base.proofs.PlaceLemmas.{others_stay}
-use Rattle.cbl_base.specs.declared.input.Input.{Input}
+use Rattle.model_values.specs.Fresh.{Fresh, fresh_of}
+use Rattle.cbl_base.specs.declared.place.Place.{Place}
+use Rattle.solver_models.specs.Adding.{GetsMember}
 use Rattle.solver_models.specs.Declaring.{GetsVariable}
 use Rattle.solver_models.specs.Defining.{GetsDefinition, distinct_with}
 use Rattle.solver_models.specs.Ids.{has_definition}
-use Rattle.solver_models.specs.Kept.{AreFresh, AreMarks, IsClosable, IsCounted, IsKept, mark_at}
+use Rattle.solver_models.specs.Kept.{AreMarks, IsClosable, IsCounted, IsKept, mark_at}
 use Rattle.solver_models.specs.State.{IsSameModel}
+use Rattle.solver_models.specs.Totals.{GetsTotal}
 use Rattle.solver_models.proofs.DefinitionLaws.{formed_defined, has_more, subterms_more}
+use Rattle.solver_models.proofs.MemberLaws.{definitions_with_member, formed_with_member, subterms_with_member}
 use Rattle.solver_models.proofs.ModelLaws.{IsEmpty, IsGrown, definitions_same, formed_empty, formed_grown, grown_same, grown_variable, nothing_defined, subterms_same}
+use Rattle.solver_models.proofs.TotalLaws.{definitions_with_total, formed_with_total, subterms_with_total}
 use Rattle.term_count.specs.Counting.{Counts}
 use Rattle.term_count.specs.declared.subterms.Subterms.{Subterms}
 use Rattle.term_model.specs.Naming.{users_of}
 use Rattle.term_model.specs.Subterms.{distinct_subterms}
-use Rattle.term_model.specs.Wellformed.{IsDefinition}
+use Rattle.term_model.specs.Users.{no_users}
+use Rattle.term_model.specs.Wellformed.{IsDefinition, IsMember}
 use Rattle.term_model.specs.declared.model.Definition.{Definition}
+use Rattle.term_model.specs.declared.model.Member.{Member}
 use Rattle.term_model.specs.declared.model.Model.{Model}
 use Rattle.term_model.specs.declared.model.VarDecl.{VarDecl}
+use Rattle.term_model.specs.declared.posting.Side.{Side}
 use Rattle.term_model.specs.declared.term.Term.{Term}
 use Rattle.term_model.proofs.VarLaws.{set_same}
 
@@ -54,7 +62,7 @@ mark_set marks x i lt = cases (ℕ_discrete i x)
     cases (no ne) = ap (λ o. unwrap_or o false) (others_stay marks x i true ne) ∙ sym (ap (λ b. b || mark_at marks i) (ne_from x i ne))
 
 -- ---- a new solver
-pub empty_kept : (M : Model) (a : List ℤ) (marks : List Bool) (values : List Input) → M.vars.items ≡ [] → M.defs.items ≡ [] → M.systems.items ≡ [] → M.objectives.items ≡ [] → M.posted.items ≡ [] →
+pub empty_kept : (M : Model) (a : List ℤ) (marks : List Bool) (values : Fresh) → M.vars.items ≡ [] → M.defs.items ≡ [] → M.systems.items ≡ [] → M.objectives.items ≡ [] → M.posted.items ≡ [] →
     a ≡ [] → marks ≡ [] → IsKept M a marks None values false true
 empty_kept M a marks values vars defs systems objectives posted assigned marked =
     let empty : IsEmpty M = record { vars = vars; defs = defs; systems = systems; objectives = objectives; posted = posted } in
@@ -76,7 +84,7 @@ counted_same : (M N : Model) (counted : Option Subterms) → distinct_subterms N
 counted_same M N None e counted = tt
 counted_same M N (Some terms) e counted = subst (Counts terms) (sym e) counted
 
-module _ (M N : Model) (more : List VarDecl) (a after : List ℤ) (marks marked : List Bool) (counted : Option Subterms) (values : List Input) (closed usable : Bool) (grown : IsGrown M N more) (kept : IsKept M a marks counted values closed usable) (open' : closed ≡ false)
+module _ (M N : Model) (more : List VarDecl) (a after : List ℤ) (marks marked : List Bool) (counted : Option Subterms) (values : Fresh) (closed usable : Bool) (grown : IsGrown M N more) (kept : IsKept M a marks counted values closed usable) (open' : closed ≡ false)
     (few : length N.vars.items < 2 ^ 32) (long : length after ≡ length N.vars.items) (are : AreMarks N marked) where
   kept_grown : IsKept N after marked counted values closed usable
   kept_grown = record {
@@ -89,7 +97,7 @@ module _ (M N : Model) (more : List VarDecl) (a after : List ℤ) (marks marked 
     fresh = λ h. open_ closed open' h;
   }
 
-pub kept_same : (M N : Model) (a after : List ℤ) (marks marked : List Bool) (counted : Option Subterms) (values : List Input) (closed usable : Bool) → IsSameModel M N → after ≡ a → marked ≡ marks → closed ≡ false →
+pub kept_same : (M N : Model) (a after : List ℤ) (marks marked : List Bool) (counted : Option Subterms) (values : Fresh) (closed usable : Bool) → IsSameModel M N → after ≡ a → marked ≡ marks → closed ≡ false →
     IsKept M a marks counted values closed usable → IsKept N after marked counted values closed usable
 kept_same M N a after marks marked counted values closed usable same e f open' kept =
     let count : length N.vars.items ≡ length M.vars.items = ap length same.vars in
@@ -102,7 +110,7 @@ length_push : {X : Type 0} (xs : List X) (x : X) → length (xs ++ x ∷ []) ≡
 length_push [] x = refl
 length_push (y ∷ xs) x = let rest = length_push xs x in omega (arith, rest)
 
-pub kept_variable : (M N : Model) (decl : VarDecl) (start : ℤ) (a after : List ℤ) (marks marked : List Bool) (counted : Option Subterms) (values : List Input) (closed usable : Bool) → GetsVariable M N decl → after ≡ a ++ start ∷ [] → marked ≡ marks ++ false ∷ [] →
+pub kept_variable : (M N : Model) (decl : VarDecl) (start : ℤ) (a after : List ℤ) (marks marked : List Bool) (counted : Option Subterms) (values : Fresh) (closed usable : Bool) → GetsVariable M N decl → after ≡ a ++ start ∷ [] → marked ≡ marks ++ false ∷ [] →
     closed ≡ false → length M.vars.items + 1 < 2 ^ 32 → IsKept M a marks counted values closed usable → IsKept N after marked counted values closed usable
 kept_variable M N decl start a after marks marked counted values closed usable gets e f open' few kept =
     let count : length N.vars.items ≡ length M.vars.items + 1 = ap length gets.vars ∙ length_push M.vars.items decl in
@@ -113,7 +121,7 @@ kept_variable M N decl start a after marks marked counted values closed usable g
     })
 
 -- ---- one more definition
-pub kept_definition : (M N : Model) (def : Definition) (a : List ℤ) (marks marked : List Bool) (counted : Option Subterms) (after : Subterms) (values : List Input) (closed usable : Bool) → GetsDefinition M N def → marked ≡ set marks def.var.index true → closed ≡ false →
+pub kept_definition : (M N : Model) (def : Definition) (a : List ℤ) (marks marked : List Bool) (counted : Option Subterms) (after : Subterms) (values : Fresh) (closed usable : Bool) → GetsDefinition M N def → marked ≡ set marks def.var.index true → closed ≡ false →
     has_definition M def.var.index ≡ false → IsDefinition M def → users_of def.term ≡ [] → Counts after (distinct_with (distinct_subterms M) def.term) → IsKept M a marks counted values closed usable → IsKept N a marked (Some after) values closed usable
 kept_definition M N def a marks marked counted after values closed usable gets e open' free is none counts kept =
     let count : length N.vars.items ≡ length M.vars.items = ap length gets.vars in
@@ -131,7 +139,42 @@ kept_definition M N def a marks marked counted after values closed usable gets e
       fresh = λ h. open_ closed open' h;
     }
 
-pub kept_uncounted : (M : Model) (a : List ℤ) (marks : List Bool) (counted : Option Subterms) (values : List Input) (closed usable : Bool) → IsKept M a marks counted values closed usable → IsKept M a marks None values closed usable
+-- ---- one more system or objective, and one more member
+pub kept_total : (M N : Model) (side : Side) (place : Place) (a : List ℤ) (marks : List Bool) (counted : Option Subterms) (values : Fresh) (closed usable : Bool) → GetsTotal M N side place → closed ≡ false →
+    IsKept M a marks counted values closed usable → IsKept N a marks counted values closed usable
+kept_total M N side place a marks counted values closed usable gets open' kept =
+    let count : length N.vars.items ≡ length M.vars.items = ap length gets.vars in
+    record {
+      formed = formed_with_total M N side place gets kept.formed;
+      few = subst (λ n. n < 2 ^ 32) (sym count) kept.few;
+      assigned = kept.assigned ∙ sym count;
+      marked = record {
+        count = kept.marked.count ∙ sym count;
+        each = λ i. kept.marked.each i ∙ sym (ap is_some (definitions_with_total M N side place gets i));
+      };
+      terms = counted_same M N counted (subterms_with_total M N side place gets) kept.terms;
+      closable = λ h. open_ closed open' h;
+      fresh = λ h. open_ closed open' h;
+    }
+
+pub kept_member : (M N : Model) (side : Side) (k : ℕ) (member : Member) (a : List ℤ) (marks : List Bool) (counted : Option Subterms) (after : Subterms) (values : Fresh) (closed usable : Bool) → GetsMember M N side k member → closed ≡ false →
+    IsMember M member → users_of member.term ≡ [] → Counts after (distinct_with (distinct_subterms M) member.term) → IsKept M a marks counted values closed usable → IsKept N a marks (Some after) values closed usable
+kept_member M N side k member a marks counted after values closed usable gets open' is none counts kept =
+    let count : length N.vars.items ≡ length M.vars.items = ap length gets.vars in
+    record {
+      formed = formed_with_member M N side k member kept.formed gets is none;
+      few = subst (λ n. n < 2 ^ 32) (sym count) kept.few;
+      assigned = kept.assigned ∙ sym count;
+      marked = record {
+        count = kept.marked.count ∙ sym count;
+        each = λ i. kept.marked.each i ∙ sym (ap is_some (definitions_with_member M N side k member kept.formed gets i));
+      };
+      terms = subst (Counts after) (sym (subterms_with_member M N side k member kept.formed gets)) counts;
+      closable = λ h. open_ closed open' h;
+      fresh = λ h. open_ closed open' h;
+    }
+
+pub kept_uncounted : (M : Model) (a : List ℤ) (marks : List Bool) (counted : Option Subterms) (values : Fresh) (closed usable : Bool) → IsKept M a marks counted values closed usable → IsKept M a marks None values closed usable
 kept_uncounted M a marks counted values closed usable kept = record {
   formed = kept.formed;
   few = kept.few;
@@ -143,7 +186,7 @@ kept_uncounted M a marks counted values closed usable kept = record {
 }
 
 -- ---- a solver that can't be used any more, one that was closed, and other numbers
-pub kept_unusable : (M : Model) (a after : List ℤ) (marks : List Bool) (counted : Option Subterms) (values : List Input) (closed usable : Bool) → length after ≡ length a → IsKept M a marks counted values closed usable → IsKept M after marks counted values closed false
+pub kept_unusable : (M : Model) (a after : List ℤ) (marks : List Bool) (counted : Option Subterms) (values : Fresh) (closed usable : Bool) → length after ≡ length a → IsKept M a marks counted values closed usable → IsKept M after marks counted values closed false
 kept_unusable M a after marks counted values closed usable long kept = record {
   formed = kept.formed;
   few = kept.few;
@@ -154,7 +197,7 @@ kept_unusable M a after marks counted values closed usable long kept = record {
   fresh = λ h g. open_ false refl g;
 }
 
-pub kept_open : (M : Model) (a after : List ℤ) (marks : List Bool) (counted : Option Subterms) (values : List Input) (closed usable : Bool) → length after ≡ length a → closed ≡ false → IsKept M a marks counted values closed usable → IsKept M after marks counted values closed usable
+pub kept_open : (M : Model) (a after : List ℤ) (marks : List Bool) (counted : Option Subterms) (values : Fresh) (closed usable : Bool) → length after ≡ length a → closed ≡ false → IsKept M a marks counted values closed usable → IsKept M after marks counted values closed usable
 kept_open M a after marks counted values closed usable long open' kept = record {
   formed = kept.formed;
   few = kept.few;
@@ -165,7 +208,7 @@ kept_open M a after marks counted values closed usable long open' kept = record 
   fresh = λ h. open_ closed open' h;
 }
 
-pub kept_closed : (M : Model) (a after : List ℤ) (marks : List Bool) (counted : Option Subterms) (values fresh : List Input) (closed usable : Bool) → length after ≡ length a → IsClosable M → AreFresh M after fresh → IsKept M a marks counted values closed usable → IsKept M after marks counted fresh true usable
+pub kept_closed : (M : Model) (a after : List ℤ) (marks : List Bool) (counted : Option Subterms) (values fresh : Fresh) (closed usable : Bool) → length after ≡ length a → IsClosable M → fresh_of no_users M after ≡ Ok fresh → IsKept M a marks counted values closed usable → IsKept M after marks counted fresh true usable
 kept_closed M a after marks counted values fresh closed usable long closable are kept = record {
   formed = kept.formed;
   few = kept.few;
@@ -176,12 +219,12 @@ kept_closed M a after marks counted values fresh closed usable long closable are
   fresh = λ _ _. are;
 }
 
-pub kept_closed_again : (M : Model) (a after : List ℤ) (marks : List Bool) (counted : Option Subterms) (values fresh : List Input) (closed usable : Bool) → length after ≡ length a → closed ≡ true → AreFresh M after fresh → IsKept M a marks counted values closed usable → IsKept M after marks counted fresh closed usable
+pub kept_closed_again : (M : Model) (a after : List ℤ) (marks : List Bool) (counted : Option Subterms) (values fresh : Fresh) (closed usable : Bool) → length after ≡ length a → closed ≡ true → fresh_of no_users M after ≡ Ok fresh → IsKept M a marks counted values closed usable → IsKept M after marks counted fresh closed usable
 kept_closed_again M a after marks counted values fresh closed usable long shut are kept =
     subst (λ b. IsKept M after marks counted fresh b usable) (sym shut) (kept_closed M a after marks counted values fresh closed usable long (kept.closable shut) are kept)
 
 -- ---- the same whatever was answered
-pub kept_pushed : (result : Result (Unit {0}) NoMemory) (M N : Model) (decl : VarDecl) (start : ℤ) (a after : List ℤ) (marks marked : List Bool) (counted : Option Subterms) (values : List Input) (closed usable : Bool) → OnOk result (GetsVariable M N decl) → OnOk result (after ≡ a ++ start ∷ []) → OnOk result (marked ≡ marks ++ false ∷ []) →
+pub kept_pushed : (result : Result (Unit {0}) NoMemory) (M N : Model) (decl : VarDecl) (start : ℤ) (a after : List ℤ) (marks marked : List Bool) (counted : Option Subterms) (values : Fresh) (closed usable : Bool) → OnOk result (GetsVariable M N decl) → OnOk result (after ≡ a ++ start ∷ []) → OnOk result (marked ≡ marks ++ false ∷ []) →
     OnErr result (IsSameModel M N) → OnErr result (after ≡ a) → OnErr result (marked ≡ marks) → closed ≡ false → length M.vars.items + 1 < 2 ^ 32 → IsKept M a marks counted values closed usable → IsKept N after marked counted values closed usable
 kept_pushed (Ok done) M N decl start a after marks marked counted values closed usable gets e f same e' f' open' few kept = kept_variable M N decl start a after marks marked counted values closed usable gets e f open' few kept
 kept_pushed (Err stop) M N decl start a after marks marked counted values closed usable gets e f same e' f' open' few kept = kept_same M N a after marks marked counted values closed usable same e' f' open' kept
