@@ -16,9 +16,11 @@ number_in-requires c =
 pub returns-then-self : goal.returns-then-self
 returns-then-self c =
     let s = c.self.inside in
-    fresh_there s.number s.model s.assignment.items s.marks.items s.terms (seen_values s.values) s.closed s.usable c.self.invariant c.args.x c.args.self.now c.self.view_is c.requires.usable
+    let fits : FitsSigned w64 c.number_in.result = search rules in
+    rw (to_z-of_z w64 c.number_in.result fits)
+    (fresh_there s.number s.model s.assignment.items s.marks.items s.terms (seen_values s.values) s.closed s.usable c.self.invariant c.args.x c.args.self.now c.self.view_is c.requires.usable
     (readable c.args.self.now c.args.x c.requires.readable).0 (ap (λ (t : SolverState). t.closed) (sym c.self.view_is) ∙ c.if-self.true)
-    (Int c.number_in.result) (ap (λ vs. slice_get vs c.args.x.index) (sym c.deref.ensures.value) ∙ c.number_in.ensures)
+    (Int c.number_in.result) (ap (λ vs. slice_get vs c.args.x.index) (sym c.deref.ensures.value) ∙ c.number_in.ensures))
 
 pub returns-else-self : goal.returns-else-self
 returns-else-self c =
