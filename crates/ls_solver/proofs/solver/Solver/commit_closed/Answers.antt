@@ -12,6 +12,14 @@ pub tell-requires-clause-assigned : goal.tell-requires-clause-assigned
 tell-requires-clause-assigned c =
     ap length (c.deref.ensures.value ∙ c.write_moves.ensures) ∙ moves_length c.self.inside.assignment.items c.args.moves.now ∙ c.self.invariant.assigned
 
+pub tell-requires-clause-before : goal.tell-requires-clause-before
+tell-requires-clause-before c =
+    let s = c.self.inside in
+    let shut = ap (λ (t : SolverState). t.closed) c.self.view_is ∙ c.requires.closed in
+    let can = ap (λ (t : SolverState). t.usable) c.self.view_is ∙ c.requires.usable in
+    ap length c.deref-2.ensures.value
+    ∙ (variables_there s.model s.assignment.items c.self.invariant.formed (c.self.invariant.closable shut) c.self.invariant.assigned (seen_values s.values) (c.self.invariant.fresh shut can)).count
+
 pub invariant_of-self : goal.invariant_of-self
 invariant_of-self c =
     let s = c.self.inside in
