@@ -1,5 +1,6 @@
 -- What is posted: the first argument, and behind it a weight where there is one.
-use Rattle.std.proofs.Common.{◌≡◌, refl, sym, ap, pos, true, false, List, [], ◌∷◌, length, drop, get_or, Bool, if◌then◌else◌, arith}
+use Rattle.std.proofs.Common.{◌≡◌, ◌∙◌, ◌-◌, refl, sym, ap, pos, true, false, List, [], ◌∷◌, length, take, drop, get_or, Bool, if◌then◌else◌, arith}
+use Rattle.std.proofs.lemmas.List.{take_rest}
 use Rattle.cbl_base.specs.declared.place.Place.{Place}
 use Rattle.checked_tree.specs.declared.expressions.Typed.{Typed}
 use Rattle.checked_tree.specs.Shape.{Shape}
@@ -22,9 +23,9 @@ unfolding constraint
 constraint_stays l e s h = ap (λ (b : Bool). (if b then term l (part e) else (truth l (part e) >>= λ held. give (broken held))) s) h
 
 -- the first of expressions in a row, and those behind it
-pub row_split : (es : List Typed) (a : Typed) → (length es ≡ 0 → ⊥) → a ≡ get_or es 0 a → row es ≡ part a ∷ row (drop 1 es)
+pub row_split : (es : List Typed) (a : Typed) → (length es ≡ 0 → ⊥) → a ≡ get_or es 0 a → row es ≡ part a ∷ row (take (length es - 1) (drop 1 es))
 row_split [] a h is = absurd (h refl)
-row_split (x ∷ xs) a h is = ap (λ y. part y ∷ row xs) (sym is)
+row_split (x ∷ xs) a h is = ap (λ y. part y ∷ row xs) (sym is) ∙ ap (λ ys. part a ∷ row ys) (sym (take_rest (x ∷ xs) 1))
 
 -- nothing is posted
 
