@@ -1,7 +1,8 @@
 //! Models that are built and asked, with the values that the language's description gives.
 use cbl_base::{NoMemory, Place, RunFault, VarId};
 use cbl_operations::Op;
-use model_values::{AskStop, ModelStop, Move, NoUsers, Whole, delta, fresh, variable_violations};
+use model_values::{AskStop, ModelStop, Move, NoUsers, Whole, delta, fresh};
+use violation_shares::variable_violations;
 use std::alloc::Global;
 use std::process::Abort;
 use std::test::*;

@@ -28,12 +28,12 @@ use Rattle.term_model.specs.declared.model.Member.{Member}
 use Rattle.term_model.specs.declared.model.Model.{Model}
 use Rattle.term_model.specs.declared.model.Posted.{Posted}
 use Rattle.model_values.specs.declared.failure.Failure.{Failure}
-use Rattle.model_values.specs.declared.shares.ArgumentsHeld.{ArgumentsHeld}
-use Rattle.model_values.specs.declared.shares.Combination.{Combination}
-use Rattle.model_values.specs.declared.shares.Combination.TheVariants.{Every, One, Negation, Plain}
-use Rattle.model_values.specs.declared.shares.Fewest.{Fewest}
-use Rattle.model_values.specs.declared.shares.Share.{Share}
-use Rattle.model_values.specs.declared.system_shares.WeighedHeld.{WeighedHeld}
+use Rattle.violation_shares.specs.declared.shares.ArgumentsHeld.{ArgumentsHeld}
+use Rattle.violation_shares.specs.declared.shares.Combination.{Combination}
+use Rattle.violation_shares.specs.declared.shares.Combination.TheVariants.{Every, One, Negation, Plain}
+use Rattle.violation_shares.specs.declared.shares.Fewest.{Fewest}
+use Rattle.violation_shares.specs.declared.shares.Share.{Share}
+use Rattle.violation_shares.specs.declared.system_shares.WeighedHeld.{WeighedHeld}
 use Rattle.term_model.specs.declared.term.Term.{Term}
 use Rattle.term_model.specs.declared.term.Term.TheOpen.{Term-F}
 use Rattle.term_model.specs.declared.term.Term.TheFolds.{fold-Term}

@@ -1,9 +1,9 @@
 use Rattle.std.proofs.Common.{rules}
 use Rattle.cbl_operations.specs.RuleOf.{rule_of}
 use Rattle.term_model.specs.Users.{user_rules}
-use Rattle.model_values.proofs.ShareLaws.{place_found, place_skipped}
-use Rattle.model_values.proofs.shares.violations_where.Goals as goal
-use Rattle.model_values.proofs.shares.violations_where.Goals.{then-is_marked+in_ok-violation+in_ok-push, else-is_marked}
+use Rattle.violation_shares.proofs.ShareLaws.{place_found, place_skipped}
+use Rattle.violation_shares.proofs.shares.violations_where.Goals as goal
+use Rattle.violation_shares.proofs.shares.violations_where.Goals.{then-is_marked+in_ok-violation+in_ok-push, else-is_marked}
 
 pub loop-place-preserved : goal.loop-place-preserved
 loop-place-preserved g c = elim c.if-is_marked.branch [

@@ -3,8 +3,8 @@ use Rattle.model_values.specs.Dependence.{AreMarks}
 use Rattle.model_values.specs.Outcomes.{env_of}
 use Rattle.model_values.specs.VarOutcomes.{outcome_of_var}
 use Rattle.term_model.specs.Users.{user_rules}
-use Rattle.model_values.proofs.ShareLaws.{variable_from}
-use Rattle.model_values.proofs.system_shares.variable_violations.Goals as goal
+use Rattle.violation_shares.proofs.ShareLaws.{variable_from}
+use Rattle.violation_shares.proofs.system_shares.variable_violations.Goals as goal
 
 pub returns : goal.returns
 returns g c =

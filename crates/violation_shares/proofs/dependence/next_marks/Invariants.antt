@@ -1,6 +1,6 @@
 use Rattle.std.proofs.Common.{◌≡◌, ◌<◌, ℕ, Some, length, slice_get}
 use Rattle.model_values.specs.Dependence.{mark_step}
-use Rattle.model_values.proofs.dependence.next_marks.Given as goal
+use Rattle.violation_shares.proofs.dependence.next_marks.Given as goal
 
 abbrev pub invariant-loop-index : goal.invariant-loop-index
 invariant-loop-index g l =

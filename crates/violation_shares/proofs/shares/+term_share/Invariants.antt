@@ -4,8 +4,8 @@ use Rattle.model_values.specs.Dependence.{marked}
 use Rattle.term_model.specs.Kinds.{kinds_in, kind_of_term, all_kinds}
 use Rattle.model_values.specs.Outcomes.{AreKinds, gathered, listed, env_of}
 use Rattle.term_model.specs.Users.{user_rules}
-use Rattle.model_values.specs.VariableViolations.{arguments_of, seen_arguments, share_of}
-use Rattle.model_values.proofs.shares.+term_share.Given as goal
+use Rattle.violation_shares.specs.VariableViolations.{arguments_of, seen_arguments, share_of}
+use Rattle.violation_shares.proofs.shares.+term_share.Given as goal
 
 abbrev pub invariant-loop-arg : goal.invariant-loop-arg
 invariant-loop-arg g l =

@@ -3,7 +3,7 @@ use Rattle.std.specs.Cmp.{booleans_Decides}
 use Rattle.std.proofs.lemmas.Slice.Eq.{slice_eq-Decides}
 use Rattle.model_values.specs.Dependence.{mark_step}
 use Rattle.model_values.proofs.MarkLaws.{mark_more, marks_fixed, marks_through}
-use Rattle.model_values.proofs.dependence.marks_of.Goals as goal
+use Rattle.violation_shares.proofs.dependence.marks_of.Goals as goal
 
 pub returns-then-eq : goal.returns-then-eq
 returns-then-eq g c =

@@ -6,16 +6,16 @@ ghost use Rattle.model_values.specs.Dependence.{marked};
 ghost use Rattle.term_model.specs.Kinds.{kinds_in};
 ghost use Rattle.model_values.specs.Outcomes.{HasKinds, env_of};
 ghost use Rattle.term_model.specs.Users.{user_rules};
-ghost use Rattle.model_values.specs.VariableViolations.{HasWeightsOf, answered, listed_violations, none_weighed, seen_weighed, variable_violations_of, violation_in_system, weigh_posted, weighed_in, weighted_violation};
+ghost use Rattle.violation_shares.specs.VariableViolations.{HasWeightsOf, answered, listed_violations, none_weighed, seen_weighed, variable_violations_of, violation_in_system, weigh_posted, weighed_in, weighted_violation};
 ghost use Rattle.term_model.specs.Wellformed.{IsWellFormed, HasDefinedSets};
 
-use crate::asked::AskStop;
-use crate::deltas::whole_outcome;
+use model_values::asked::AskStop;
+use model_values::deltas::whole_outcome;
 use crate::dependence::marks_of;
-use crate::evaluation::Setting;
-use crate::settling::{outcomes_of, tables_of};
+use model_values::evaluation::Setting;
+use model_values::settling::{outcomes_of, tables_of};
 use crate::shares::{gather_violation, term_share};
-use crate::wholes::{Sum, Whole, member_in, place_of};
+use model_values::wholes::{Sum, Whole, member_in, place_of};
 use cbl_base::{NoMemory, RunFault};
 use cbl_violations::weighted_total_value;
 use operation_values::UserValues;
@@ -30,7 +30,7 @@ pub(crate) struct WeighedHeld {
     pub(crate) weights: Vec<i64>,
 }
 
-#[tactic(auto, using(crate::proofs::PartLaws::member_kinded, crate::proofs::ShareLaws::member_weighed, crate::proofs::ShareLaws::weights_more))]
+#[tactic(auto, using(model_values::proofs::PartLaws::member_kinded, crate::proofs::ShareLaws::member_weighed, crate::proofs::ShareLaws::weights_more))]
 /// The members so far and what was posted, where it is one of them.
 fn weigh_posted<U: UserValues>(
     setting: &Setting<'_, U>,

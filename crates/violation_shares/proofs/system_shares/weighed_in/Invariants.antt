@@ -2,8 +2,8 @@ use Rattle.std.proofs.Common.{◌≡◌, take}
 use Rattle.model_values.specs.Dependence.{marked}
 use Rattle.model_values.specs.Outcomes.{env_of}
 use Rattle.term_model.specs.Users.{user_rules}
-use Rattle.model_values.specs.VariableViolations.{weighed_in, seen_weighed, listed_violations, HasWeightsOf}
-use Rattle.model_values.proofs.system_shares.weighed_in.Given as goal
+use Rattle.violation_shares.specs.VariableViolations.{weighed_in, seen_weighed, listed_violations, HasWeightsOf}
+use Rattle.violation_shares.proofs.system_shares.weighed_in.Given as goal
 
 abbrev pub invariant-loop-turn : goal.invariant-loop-turn
 invariant-loop-turn g l =

@@ -8,10 +8,10 @@ ghost use Rattle.model_values.specs.Dependence.{marked};
 ghost use Rattle.term_model.specs.Kinds.{kinds_in, kind_of_term};
 ghost use Rattle.model_values.specs.Outcomes.{HasKinds, env_of};
 ghost use Rattle.term_model.specs.Users.{user_rules};
-ghost use Rattle.model_values.specs.VariableViolations.{combination_of, gather_violation, fewer, number_if, with_argument, no_arguments, seen_arguments, listed_violations, violations_where, total_violation, violation_of_fewest, one_depends, violation_by, node_share, leaf_share, share_of};
+ghost use Rattle.violation_shares.specs.VariableViolations.{combination_of, gather_violation, fewer, number_if, with_argument, no_arguments, seen_arguments, listed_violations, violations_where, total_violation, violation_of_fewest, one_depends, violation_by, node_share, leaf_share, share_of};
 
-use crate::dependence::is_marked;
-use crate::evaluation::{Outcome, Setting, copied_set, gather, outcome_at};
+use model_values::dependence::is_marked;
+use model_values::evaluation::{Outcome, Setting, copied_set, gather, outcome_at};
 use cbl_base::{Input, NoMemory, RunFault};
 use cbl_operations::{Op, greatest_value};
 use cbl_violations::all_of_violations;
@@ -259,7 +259,7 @@ fn leaf_share(outcome: Outcome, depends: bool) -> Share
 }
 
 /// The share of a term, where the marked variables depend on the variable.
-#[tactic(auto, using(crate::proofs::Layers::kind_of_outcome, crate::proofs::Kinded::kinds_gather, crate::proofs::ShareLaws::share_of_layer))]
+#[tactic(auto, using(model_values::proofs::Layers::kind_of_outcome, model_values::proofs::Kinded::kinds_gather, crate::proofs::ShareLaws::share_of_layer))]
 pub(crate) fn term_share<U: UserValues>(
     setting: &Setting<'_, U>,
     marks: &[bool],

@@ -6,13 +6,13 @@ use Rattle.term_model.specs.Depth.{depth_of}
 use Rattle.term_model.specs.Kinds.{kinds_in, kind_of_term, all_kinds}
 use Rattle.model_values.specs.Outcomes.{AreKinds, listed, gathered, env_of}
 use Rattle.term_model.specs.Users.{user_rules}
-use Rattle.model_values.specs.VariableViolations.{arguments_of, leaf_share, node_share, one_depends, seen_arguments, share_of}
-use Rattle.model_values.specs.declared.shares.Share.{Share}
+use Rattle.violation_shares.specs.VariableViolations.{arguments_of, leaf_share, node_share, one_depends, seen_arguments, share_of}
+use Rattle.violation_shares.specs.declared.shares.Share.{Share}
 use Rattle.term_model.specs.declared.term.Term.{Term}
 use Rattle.term_model.proofs.Layers.{args_of_term, depth_below}
 use Rattle.model_values.proofs.Layers.{inputs_of_term, kind_of_outcome, gathered_more, kinds_one_more}
-use Rattle.model_values.proofs.ShareLaws.{arguments_more, kind_of_share, share_of_layer}
-use Rattle.model_values.proofs.shares.+term_share.Goals as goal
+use Rattle.violation_shares.proofs.ShareLaws.{arguments_more, kind_of_share, share_of_layer}
+use Rattle.violation_shares.proofs.shares.+term_share.Goals as goal
 
 pub term_share-requires : goal.term_share-requires
 term_share-requires g t c κs within =

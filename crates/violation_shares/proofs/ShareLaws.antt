@@ -19,7 +19,7 @@ use Rattle.model_values.specs.Dependence.{marked, var_depends, AreMarks}
 use Rattle.term_model.specs.Kinds.{kinds_in}
 use Rattle.model_values.specs.Outcomes.{Outcome, gathered}
 use Rattle.model_values.specs.VarOutcomes.{outcome_of_var}
-use Rattle.model_values.specs.VariableViolations.{Arguments, Weighed, answered, arguments_of, gather_violation, no_arguments, node_share, none_weighed, share_of, share_step, variable_violations_of, violation_in_system, violations_where, weigh_posted, weighed_in, weighted_violation, with_argument, with_member, HasWeightsOf}
+use Rattle.violation_shares.specs.VariableViolations.{Arguments, Weighed, answered, arguments_of, gather_violation, no_arguments, node_share, none_weighed, share_of, share_step, variable_violations_of, violation_in_system, violations_where, weigh_posted, weighed_in, weighted_violation, with_argument, with_member, HasWeightsOf}
 use Rattle.term_model.specs.Wellformed.{IsWellFormed}
 use Rattle.model_values.specs.Wholes.{outcome_of_whole, place_of}
 use Rattle.model_values.specs.Support.{member_in}
@@ -28,7 +28,7 @@ use Rattle.term_model.specs.declared.model.Member.{Member}
 use Rattle.term_model.specs.declared.model.Model.{Model}
 use Rattle.term_model.specs.declared.model.Posted.{Posted}
 use Rattle.model_values.specs.declared.failure.Failure.{Failure}
-use Rattle.model_values.specs.declared.shares.Share.{Share}
+use Rattle.violation_shares.specs.declared.shares.Share.{Share}
 use Rattle.term_model.specs.declared.term.Term.{Term}
 use Rattle.term_model.specs.declared.term.Term.TheOpen.{Term-F}
 use Rattle.term_model.specs.declared.term.Term.TheViews.{roll-Term, Node}

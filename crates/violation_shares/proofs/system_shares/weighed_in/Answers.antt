@@ -2,10 +2,10 @@ use Rattle.std.proofs.Common.{rules, ◌≡◌, ◌<◌, length, arith, get_or}
 use Rattle.model_values.specs.Dependence.{marked}
 use Rattle.model_values.specs.Outcomes.{env_of}
 use Rattle.term_model.specs.Users.{user_rules}
-use Rattle.model_values.specs.VariableViolations.{seen_weighed}
+use Rattle.violation_shares.specs.VariableViolations.{seen_weighed}
 use Rattle.term_model.specs.declared.model.Posted.{Posted}
-use Rattle.model_values.proofs.ShareLaws.{weighed_more}
-use Rattle.model_values.proofs.system_shares.weighed_in.Goals as goal
+use Rattle.violation_shares.proofs.ShareLaws.{weighed_more}
+use Rattle.violation_shares.proofs.system_shares.weighed_in.Goals as goal
 
 pub loop-turn-preserved : goal.loop-turn-preserved
 loop-turn-preserved g c =
