@@ -5,3 +5,6 @@
 
 #[cfg(test)]
 mod solver;
+
+#[cfg(test)]
+mod totals;
