@@ -15,7 +15,9 @@ use crate::fault::SolverFault;
 use crate::solver::Solver;
 use cbl_base::limits::{MAX_TERM_DEPTH, MAX_TERM_NODES};
 use cbl_base::{Limit, NoMemory, RunFault};
-use solver_models::{ObjectiveId, SystemId, TotalId, counted_with, is_within, names_given, push_member};
+use solver_models::{
+    ObjectiveId, SystemId, TotalId, counted_with, is_within, names_given, push_member,
+};
 use std::mem;
 use term_count::Subterms;
 use term_model::{Member, Term};

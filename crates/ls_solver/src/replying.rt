@@ -61,24 +61,13 @@ impl Solver {
     }
 
     /// The same where none of these is refused.
-    fn delta_of_own(
-        &self,
-        k: TotalId,
-        vars: &[VarId],
-        change: Move,
-    ) -> Result<i64, SolverFault>
+    fn delta_of_own(&self, k: TotalId, vars: &[VarId], change: Move) -> Result<i64, SolverFault>
         requires usable { self.now.usable ≡ true }
         requires own { reply_refusal self.now k vars.now ≡ None }
         requires moved { AreOwn self.now.model change }
         ensures { IsReply (delta_reply self.now k vars.now change) result }
     {
-        reply_of(total_delta(
-            self.alloc,
-            &self.model,
-            &self.assignment,
-            k,
-            change,
-        ))
+        reply_of(total_delta(self.alloc, &self.model, &self.assignment, k, change))
     }
 
     /// How the value would change if one variable got another number, without a count of steps.
@@ -190,12 +179,6 @@ impl Solver {
         requires own { reply_refusal self.now (of_system s) (x ∷ []) ≡ None }
         ensures { IsReply (variable_reply self.now s x) result }
     {
-        reply_of(violations_in(
-            self.alloc,
-            &self.model,
-            &self.assignment,
-            s.index,
-            x.index,
-        ))
+        reply_of(violations_in(self.alloc, &self.model, &self.assignment, s.index, x.index))
     }
 }

@@ -1,5 +1,5 @@
 -- What a solver keeps once it got a system, an objective or a member.
-use Rattle.std.proofs.Common.{◌≡◌, ℕ, ℤ, pos, ◌<◌, ◌≤◌, Bool, true, false, ◌&&◌, List, [], Option, Some, None, Result, Ok, Err, length, refl, sym, ap, ◌∙◌, subst, arith, true≢false}
+use Rattle.std.proofs.Common.{◌≡◌, ℕ, ℤ, pos, ◌<◌, Bool, true, false, ◌&&◌, List, [], Option, Some, None, Result, Ok, Err, length, refl, subst, arith, true≢false}
 use Rattle.std.specs.Prelude.{OnErr, OnOk, int_lt, not, nat_eq, nat_le, nat_lt, if◌then◌else◌}
 use Rattle.cbl_base.specs.Inputs.{number_kind}
 use Rattle.cbl_base.specs.declared.faults.NoMemory.{NoMemory}

@@ -1,5 +1,5 @@
 -- What a solver keeps once a variable got a definition.
-use Rattle.std.proofs.Common.{◌≡◌, ℕ, ℤ, ◌<◌, ◌≤◌, Bool, true, false, ◌&&◌, List, [], Option, Some, None, length, refl, sym, ap, ◌∙◌, subst, arith, set, true≢false}
+use Rattle.std.proofs.Common.{◌≡◌, ℕ, ℤ, Bool, true, false, ◌&&◌, List, [], Option, Some, None, length, refl, subst, set, true≢false}
 use Rattle.std.specs.Prelude.{not, nat_le, if◌then◌else◌}
 use Rattle.cbl_base.specs.declared.faults.RunFault.TheVariants.{AlreadyClosed, DefinedVariable, WrongSolver}
 use Rattle.cbl_base.specs.declared.ids.VarId.{VarId}

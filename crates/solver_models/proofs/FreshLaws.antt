@@ -1,10 +1,9 @@
 -- The fresh values of a whole model are what each variable, each system and each objective comes to.
-use Rattle.std.proofs.Common.{◌≡◌, ℕ, ℤ, zero, suc, ◌+◌, ◌<◌, ◌≤◌, Bool, true, false, List, [], ◌∷◌, ◌++◌, Option, Some, None, Result, Ok, Err, fold, map, length, refl, sym, ap, ◌∙◌, subst, arith, slice_get, true≢false}
+use Rattle.std.proofs.Common.{◌≡◌, ℕ, ℤ, zero, suc, ◌+◌, ◌<◌, List, [], ◌∷◌, ◌++◌, Option, Some, None, Result, Ok, Err, fold, map, length, refl, sym, ap, ◌∙◌, subst, arith, slice_get}
 use Rattle.std.specs.Prelude.{unwrap_or}
 use Rattle.std.specs.List.{enumerate_from, range_with_len}
 use Rattle.std.specs.Option.{option_map}
 use Rattle.std.proofs.lemmas.List.{append-nil, append_assoc, length-map}
-use Rattle.cbl_base.specs.Inputs.{kind_of}
 use Rattle.cbl_base.specs.NumberRule.{NumberRule}
 use Rattle.cbl_base.specs.declared.input.Input.{Input}
 use Rattle.solver_models.specs.Kept.{AreFresh, AreTotals, IsClosable, totals_in}
@@ -12,12 +11,11 @@ use Rattle.solver_models.proofs.KindLaws.{variables_kinded}
 use Rattle.solver_models.proofs.ListLaws.{range_at, range_length, slice_map, slice_within}
 use Rattle.model_values.specs.Failures.{first_failure, no_failure}
 use Rattle.model_values.specs.Fresh.{Fresh, Sums, add_sum, all_joined, fresh_of, fresh_sums, fresh_vars, gather_sum, joined_or, whole_by}
-use Rattle.model_values.specs.Outcomes.{Outcome, gather, gathered}
+use Rattle.model_values.specs.Outcomes.{Outcome, gather}
 use Rattle.model_values.specs.VarOutcomes.{outcome_of_var}
 use Rattle.model_values.specs.Support.{failure_below}
 use Rattle.model_values.specs.Wholes.{place_in, place_of, sum_in, sum_or}
 use Rattle.model_values.specs.declared.failure.Failure.{Failure}
-use Rattle.term_model.specs.Kinds.{kinds_in}
 use Rattle.term_model.specs.Posting.{totals_by}
 use Rattle.term_model.specs.Subterms.{distinct_subterms}
 use Rattle.term_model.specs.Users.{no_users}

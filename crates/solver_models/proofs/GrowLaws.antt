@@ -1,5 +1,5 @@
 -- One of several systems or objectives that got a member, and the model with it.
-use Rattle.std.proofs.Common.{◌≡◌, ℕ, zero, suc, ◌<◌, Bool, true, false, List, [], ◌∷◌, ◌++◌, Option, Some, None, Result, Ok, Err, is_err, length, refl, sym, ap, ◌∙◌, subst, arith, true≢false, slice_get, slice_index_or, slice_set}
+use Rattle.std.proofs.Common.{◌≡◌, ℕ, zero, suc, ◌<◌, Bool, false, List, [], ◌∷◌, ◌++◌, Some, Result, Ok, Err, is_err, length, refl, sym, ap, ◌∙◌, arith, true≢false, slice_get, slice_index_or, slice_set}
 use Rattle.std.specs.Prelude.{OnOk, unwrap_or}
 use Rattle.std.specs.Option.{option_map}
 use Rattle.cbl_base.specs.declared.faults.NoMemory.{NoMemory}

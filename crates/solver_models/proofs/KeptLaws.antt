@@ -1,5 +1,5 @@
 -- What a solver keeps fits its state after each change of it.
-use Rattle.std.proofs.Common.{◌≡◌, ℕ, ℤ, zero, suc, ◌+◌, ◌<◌, ◌≤◌, ◌^◌, Bool, true, false, ◌||◌, List, [], ◌∷◌, ◌++◌, Option, Some, None, Result, Ok, Err, is_some, length, lit<, refl, sym, ap, ◌∙◌, subst, arith, slice_get, set, length-set, true≢false}
+use Rattle.std.proofs.Common.{◌≡◌, ℕ, ℤ, zero, suc, ◌+◌, ◌<◌, ◌^◌, Bool, true, false, ◌||◌, List, [], ◌∷◌, ◌++◌, Option, Some, None, Result, Ok, Err, is_some, length, lit<, refl, sym, ap, ◌∙◌, subst, arith, set, length-set, true≢false}
 use Rattle.std.specs.Prelude.{OnErr, OnOk, nat_eq, nat_lt, unwrap_or, if◌then◌else◌}
 use Rattle.cbl_base.specs.declared.faults.NoMemory.{NoMemory}
 use Rattle.cbl_base.specs.declared.faults.Limit.TheVariants.{Variables}
@@ -31,7 +31,6 @@ use Rattle.term_model.specs.declared.model.Member.{Member}
 use Rattle.term_model.specs.declared.model.Model.{Model}
 use Rattle.term_model.specs.declared.model.VarDecl.{VarDecl}
 use Rattle.term_model.specs.declared.posting.Side.{Side}
-use Rattle.term_model.specs.declared.term.Term.{Term}
 use Rattle.term_model.proofs.VarLaws.{set_same}
 
 open_ : {X : Type 0} (closed : Bool) → closed ≡ false → closed ≡ true → X

@@ -1,9 +1,9 @@
 -- The kind of a term stays as variables come; and what a term comes to is of its kind.
-use Rattle.std.proofs.Common.{◌≡◌, ℕ, ℤ, zero, suc, ◌+◌, ◌<◌, ◌≤◌, List, [], ◌∷◌, ◌++◌, Option, Some, None, IsSome, is_some, All, fold, map, length, refl, sym, ap, ◌∙◌, subst, arith, true≢false, slice_get}
-use Rattle.std.specs.Prelude.{IfSome, unwrap_or}
+use Rattle.std.proofs.Common.{◌≡◌, ℕ, ℤ, zero, suc, ◌<◌, List, [], ◌∷◌, ◌++◌, Option, Some, None, IsSome, is_some, All, fold, map, length, refl, sym, ap, ◌∙◌, subst, arith, true≢false, slice_get}
+use Rattle.std.specs.Prelude.{IfSome}
 use Rattle.std.specs.Option.{option_map}
 use Rattle.std.proofs.lemmas.List.Elements.{All-head, All-tail}
-use Rattle.cbl_base.specs.Inputs.{InputKind, kind_of, kinds_of, number_kind}
+use Rattle.cbl_base.specs.Inputs.{InputKind, kind_of, number_kind}
 use Rattle.cbl_base.specs.NumberRule.{NumberRule}
 use Rattle.cbl_base.specs.declared.input.Input.{Input}
 use Rattle.cbl_base.specs.declared.input.Input.TheVariants.{Int}

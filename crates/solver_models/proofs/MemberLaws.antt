@@ -1,6 +1,6 @@
 -- A model that got a member is well formed as before, with the same definitions, and its distinct subterms are those with
 -- the member's term.
-use Rattle.std.proofs.Common.{◌≡◌, ◌⊎◌, inl, inr, ℕ, ℤ, zero, suc, ◌+◌, ◌<◌, ◌≤◌, Bool, true, false, List, [], ◌∷◌, ◌++◌, Option, Some, None, All, fold, map, length, length-set, refl, sym, ap, ◌∙◌, subst, arith, slice_get, set}
+use Rattle.std.proofs.Common.{◌≡◌, ◌⊎◌, inl, inr, ℕ, zero, suc, ◌+◌, ◌<◌, true, List, [], ◌∷◌, ◌++◌, Option, Some, None, All, map, length, length-set, refl, sym, ap, ◌∙◌, subst, arith, slice_get, set}
 use native.Mathlib.Decide.{ℕ_discrete}
 use Rattle.std.specs.Prelude.{filter_map, nat_eq, unwrap_or, if◌then◌else◌}
 use Rattle.std.specs.List.{cons_option, range_with_len}
@@ -29,7 +29,6 @@ use Rattle.term_model.specs.declared.model.Posted.TheVariants.{Define, Constrain
 use Rattle.term_model.specs.declared.model.Total.{Total}
 use Rattle.term_model.specs.declared.posting.Side.{Side}
 use Rattle.term_model.specs.declared.posting.Side.TheVariants.{Systems, Objectives}
-use Rattle.term_model.specs.declared.term.Term.{Term}
 use Rattle.term_model.proofs.NamingLaws.{last_or}
 use Rattle.term_model.proofs.UsableLaws.{less_there, not_eq}
 use Rattle.term_model.proofs.VarLaws.{set_same}

@@ -1,7 +1,6 @@
 -- A model that got variables, or nothing, is well formed as before, with the same definitions and distinct subterms.
-use Rattle.std.proofs.Common.{◌≡◌, ℕ, zero, suc, ◌+◌, ◌<◌, ◌≤◌, List, [], ◌∷◌, ◌++◌, Option, Some, None, All, false, fold, get_or, map, length, refl, sym, ap, ◌∙◌, subst, arith, slice_get}
+use Rattle.std.proofs.Common.{◌≡◌, ℕ, suc, ◌<◌, ◌≤◌, List, [], ◌∷◌, ◌++◌, Some, None, All, false, get_or, map, length, refl, sym, ap, ◌∙◌, subst, arith, slice_get}
 use Rattle.std.specs.Prelude.{filter_map, nat_eq}
-use Rattle.std.specs.List.{list_any}
 use Rattle.std.specs.Option.{option_map}
 use Rattle.std.proofs.lemmas.List.{append-nil}
 use Rattle.std.proofs.lemmas.List.Elements.{All-nil}
@@ -17,13 +16,10 @@ use Rattle.term_model.specs.declared.model.Member.{Member}
 use Rattle.term_model.specs.declared.model.Model.{Model}
 use Rattle.term_model.specs.declared.model.Posted.{Posted}
 use Rattle.term_model.specs.declared.model.Posted.TheVariants.{Define, Constrain, Part}
-use Rattle.term_model.specs.declared.model.Total.{Total}
 use Rattle.term_model.specs.declared.model.VarDecl.{VarDecl}
 use Rattle.term_model.specs.declared.posting.Side.TheVariants.{Systems, Objectives}
-use Rattle.term_model.specs.declared.term.Term.{Term}
-use Rattle.term_model.proofs.UsableLaws.{less_there, no_member, not_eq}
+use Rattle.term_model.proofs.UsableLaws.{not_eq}
 use Rattle.solver_models.specs.Declaring.{GetsVariable}
-use Rattle.solver_models.specs.Ids.{has_definition}
 use Rattle.solver_models.specs.State.{IsSameModel}
 use Rattle.solver_models.proofs.KindLaws.{definition_grows, member_grows}
 use Rattle.solver_models.proofs.ListLaws.{any_below, map_same, mapped_at}

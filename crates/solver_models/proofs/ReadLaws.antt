@@ -1,8 +1,8 @@
 -- What is read of a variable: its number in the assignment while the solver is open, and then what is kept.
-use Rattle.std.proofs.Common.{◌≡◌, ℕ, ℤ, zero, suc, ◌<◌, ◌≤◌, Bool, true, false, ◌&&◌, List, [], ◌∷◌, Option, Some, None, is_some, length, refl, sym, ap, ◌∙◌, subst, arith, slice_get, true≢false}
+use Rattle.std.proofs.Common.{◌≡◌, ℕ, ℤ, zero, suc, ◌<◌, Bool, true, false, ◌&&◌, List, Option, Some, None, is_some, length, refl, sym, ap, ◌∙◌, subst, arith, slice_get, true≢false}
 use Rattle.std.specs.Prelude.{not, if◌then◌else◌, nat_eq, nat_lt}
 use Rattle.std.specs.Option.{option_map}
-use Rattle.cbl_base.specs.Inputs.{InputKind, kind_of, number_kind, set_kind}
+use Rattle.cbl_base.specs.Inputs.{kind_of, number_kind, set_kind}
 use Rattle.cbl_base.specs.NumberRule.{NumberRule}
 use Rattle.cbl_base.specs.declared.input.Input.{Input}
 use Rattle.cbl_base.specs.declared.input.Input.TheVariants.{Int, Set}

@@ -1,15 +1,14 @@
 -- What a solver that isn't refused a reply has, and what is kept of its systems and objectives.
-use Rattle.std.proofs.Common.{◌≡◌, ℕ, ℤ, ◌<◌, Bool, true, false, ◌&&◌, List, [], ◌∷◌, Option, Some, None, Result, Ok, Err, length, refl, sym, ap, ◌∙◌, subst, slice_get}
+use Rattle.std.proofs.Common.{◌≡◌, ℕ, ℤ, ◌<◌, Bool, true, false, ◌&&◌, List, [], ◌∷◌, Option, Some, None, Result, Ok, length, refl, sym, ap, ◌∙◌, subst, slice_get}
 use Rattle.std.specs.Prelude.{not, unwrap_or, if◌then◌else◌}
 use Rattle.std.specs.List.{list_all}
 use Rattle.cbl_base.specs.declared.faults.RunFault.TheVariants.{NotClosed, WrongSolver}
 use Rattle.cbl_base.specs.declared.ids.VarId.{VarId}
-use Rattle.model_values.specs.Delta.{AreOwn, value_of}
-use Rattle.model_values.specs.Fresh.{Fresh, fresh_of, whole_by}
-use Rattle.model_values.specs.declared.deltas.Move.TheVariants.{Assign, Swap}
+use Rattle.model_values.specs.Delta.{value_of}
+use Rattle.model_values.specs.Fresh.{Fresh, whole_by}
 use Rattle.model_values.specs.declared.failure.Failure.{Failure}
 use Rattle.solver_models.specs.Ids.{is_own}
-use Rattle.solver_models.specs.Kept.{AreTotals, IsKept, totals_in}
+use Rattle.solver_models.specs.Kept.{IsKept, totals_in}
 use Rattle.solver_models.specs.Replying.{fresh_total, read_refusal, reply_refusal}
 use Rattle.solver_models.specs.State.{SolverState}
 use Rattle.solver_models.specs.Totals.{is_own_total}
@@ -21,7 +20,6 @@ use Rattle.term_count.specs.declared.subterms.Subterms.{Subterms}
 use Rattle.term_model.specs.Posting.{totals_by}
 use Rattle.term_model.specs.Users.{no_users}
 use Rattle.term_model.specs.declared.model.Model.{Model}
-use Rattle.term_model.specs.declared.posting.Side.{Side}
 use Rattle.term_model.proofs.UsableLaws.{less_there}
 
 both_true : (a b : Bool) → (a && b) ≡ true → (a ≡ true) × (b ≡ true)

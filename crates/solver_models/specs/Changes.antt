@@ -1,6 +1,6 @@
 -- What a commit changes: the whole-number variables, free and defined, whose fresh values differ, in order of
 -- declaration, each with its old and its new value. A rule of this project.
-use Rattle.std.specs.Prelude.{ℕ, ℤ, List, [], length, Option, Some, None, if◌then◌else◌}
+use Rattle.std.specs.Prelude.{ℕ, List, length, Option, Some, None, if◌then◌else◌}
 use Rattle.std.specs.List.{filter_map, range_with_len}
 use Rattle.std.specs.Ordering.{int_eq}
 use Rattle.cbl_base.specs.declared.ids.VarId.{VarId}

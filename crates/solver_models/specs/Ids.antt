@@ -1,6 +1,6 @@
 -- An id that a solver gave carries the solver's number, and the place of a variable of its model. A term names only
 -- such ids where all variables in it are such. A rule of this project.
-use Rattle.std.specs.Prelude.{ℕ, Bool, true, ◌&&◌, List, length, is_some, nat_eq, nat_lt}
+use Rattle.std.specs.Prelude.{ℕ, Bool, true, ◌&&◌, length, is_some, nat_eq, nat_lt}
 use Rattle.std.specs.List.{list_all}
 use Rattle.cbl_base.specs.declared.ids.VarId.{VarId}
 use Rattle.solver_models.specs.State.{SolverState}

@@ -35,11 +35,7 @@ fn dependencies(alloc: Global, model: &Model) -> Result<Vec<Vec<u32>>, NoMemory>
 }
 
 /// The named cycle of a model, where there is one.
-pub fn cycle_of(
-    alloc: Global,
-    number: u32,
-    model: &Model,
-) -> Result<Option<Vec<VarId>>, NoMemory>
+pub fn cycle_of(alloc: Global, number: u32, model: &Model) -> Result<Option<Vec<VarId>>, NoMemory>
     requires formed { IsWellFormed model.now }
     requires few { length model.now.vars.items < 2 ^ 32 }
     ensures { IfOk result (λ found. MatchOption found (IsAcyclic model.now) (λ ids. (list : List ℕ) × (ids.items ≡ map (λ i. record { solver = number; index = i }) list) × IsNamedCycle model.now list)) }

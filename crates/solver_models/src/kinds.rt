@@ -30,7 +30,12 @@ fn are_same(left: VarKind, right: VarKind) -> bool
 }
 
 /// Whether a term is of the kind of the variable at a place.
-pub fn is_of_kind(alloc: Global, vars: &[VarDecl], index: u32, term: &Term) -> Result<bool, NoMemory>
+pub fn is_of_kind(
+    alloc: Global,
+    vars: &[VarDecl],
+    index: u32,
+    term: &Term,
+) -> Result<bool, NoMemory>
     ensures { IfOk result (λ is. OnTrue is (kind_of_term (kinds_in vars.now) term.now ≡ kinds_in vars.now index)) }
 {
     let Some(wanted) = kind_at(vars, index) else {

@@ -157,12 +157,7 @@ fn grow(alloc: Global, total: &mut Total, member: Member) -> Result<(), NoMemory
 }
 
 /// The same of the one at a place.
-fn grow_at(
-    alloc: Global,
-    totals: &mut Vec<Total>,
-    k: u32,
-    member: Member,
-) -> Result<(), NoMemory>
+fn grow_at(alloc: Global, totals: &mut Vec<Total>, k: u32, member: Member) -> Result<(), NoMemory>
     requires { k < length totals.old.items }
     ensures ok { OnOk result (Grows totals.old.items totals.new.items k member) }
     ensures err { OnErr result (totals.new.items ≡ totals.old.items) }
@@ -183,12 +178,7 @@ fn next_member(totals: &[Total], k: u32) -> Result<u32, NoMemory>
 }
 
 /// Puts a constraint behind the others of its system, and posts it last.
-fn push_constraint(
-    alloc: Global,
-    model: &mut Model,
-    k: u32,
-    member: Member,
-) -> Result<(), NoMemory>
+fn push_constraint(alloc: Global, model: &mut Model, k: u32, member: Member) -> Result<(), NoMemory>
     requires { k < length model.old.systems.items }
     ensures ok { OnOk result (GetsMember model.old model.new Systems k member) }
     ensures err { OnErr result (IsSameModel model.old model.new) }

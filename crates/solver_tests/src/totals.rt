@@ -114,7 +114,12 @@ fn against(alloc: Global, op: Op, x: VarId, number: i64) -> Result<Term, Fail> {
 }
 
 fn cell(alloc: Global, place: Place) -> Result<Term, Fail> {
-    let args = vec![in alloc; Term::Var(X), Term::Const(10), Term::Const(20), Term::Const(30)]?;
+    let args = vec![in alloc;
+        Term::Var(X),
+        Term::Const(10),
+        Term::Const(20),
+        Term::Const(30),
+    ]?;
     let op = Op::Element { low: 1, len: 3 };
     Ok(Term::Node { op, args, place })
 }
@@ -329,77 +334,71 @@ fn hold(
     Ok(())
 }
 
-// ---- tests
-const QUEENS_IN_ONE_ROW: &[(Change, End)] = &[
-    (Change::New(1), End::Done),
-    (Change::New(1), End::Done),
-    (Change::New(1), End::Done),
-    (Change::New(1), End::Done),
-    (Change::System, End::Done),
-    (Change::Post(SYSTEM, Shape::Different(0), 1), End::Done),
-    (Change::Post(SYSTEM, Shape::Different(1), 1), End::Done),
-    (Change::Post(SYSTEM, Shape::Different(-1), 1), End::Done),
-    (Change::Close, End::Done),
-];
+// ---- rows
+// What is made of a new solver, with how each call ends, and what it then answers.
+#[derive(Clone, Copy)]
+struct Row<'a> {
+    changes: &'a [(Change, End)],
+    questions: &'a [(Question, End)],
+}
 
-// Four queens in one row: the first constraint would fall to 2, and the second rise to 1.
-#[test]
-fn queens_in_one_row(rt: HostRuntime) -> Result<(), Fail> {
-    hold(
-        rt.alloc(),
-        &mut Solver::new(rt.alloc(), SOLVER),
-        QUEENS_IN_ONE_ROW,
-        &[
+fn hold_all(alloc: Global, rows: &[Row]) -> Result<(), Fail> {
+    for row in rows {
+        let mut solver = Solver::new(alloc, SOLVER);
+        hold(alloc, &mut solver, row.changes, row.questions)?;
+    }
+    Ok(())
+}
+
+const VALUES: &[Row<'static>] = &[
+    // Four queens in one row: the first constraint would fall to 2, and the second rise to 1.
+    Row {
+        changes: &[
+            (Change::New(1), End::Done),
+            (Change::New(1), End::Done),
+            (Change::New(1), End::Done),
+            (Change::New(1), End::Done),
+            (Change::System, End::Done),
+            (Change::Post(SYSTEM, Shape::Different(0), 1), End::Done),
+            (Change::Post(SYSTEM, Shape::Different(1), 1), End::Done),
+            (Change::Post(SYSTEM, Shape::Different(-1), 1), End::Done),
+            (Change::Close, End::Done),
+        ],
+        questions: &[
             (Question::Violations(SYSTEM), End::Number(3)),
             (Question::Assign(SYSTEM, QUEEN_2, 3), End::Number(0)),
             (Question::Share(SYSTEM, X), End::Number(1)),
         ],
-    )
-}
-
-const QUEENS_ON_A_DIAGONAL: &[(Change, End)] = &[
-    (Change::New(1), End::Done),
-    (Change::New(2), End::Done),
-    (Change::New(3), End::Done),
-    (Change::New(4), End::Done),
-    (Change::System, End::Done),
-    (Change::Post(SYSTEM, Shape::Different(0), 1), End::Done),
-    (Change::Post(SYSTEM, Shape::Different(1), 1), End::Done),
-    (Change::Post(SYSTEM, Shape::Different(-1), 1), End::Done),
-    (Change::Close, End::Done),
-];
-
-// Four queens on a diagonal: the outer two exchanged leave the diagonal; one exchanged with itself changes nothing.
-#[test]
-fn queens_on_a_diagonal(rt: HostRuntime) -> Result<(), Fail> {
-    hold(
-        rt.alloc(),
-        &mut Solver::new(rt.alloc(), SOLVER),
-        QUEENS_ON_A_DIAGONAL,
-        &[
+    },
+    // Four queens on a diagonal: the outer two exchanged leave the diagonal; one exchanged with itself changes nothing.
+    Row {
+        changes: &[
+            (Change::New(1), End::Done),
+            (Change::New(2), End::Done),
+            (Change::New(3), End::Done),
+            (Change::New(4), End::Done),
+            (Change::System, End::Done),
+            (Change::Post(SYSTEM, Shape::Different(0), 1), End::Done),
+            (Change::Post(SYSTEM, Shape::Different(1), 1), End::Done),
+            (Change::Post(SYSTEM, Shape::Different(-1), 1), End::Done),
+            (Change::Close, End::Done),
+        ],
+        questions: &[
             (Question::Violations(SYSTEM), End::Number(3)),
             (Question::Swap(SYSTEM, X, QUEEN_4), End::Number(-1)),
             (Question::Swap(SYSTEM, X, X), End::Number(0)),
         ],
-    )
-}
-
-const SQUARE: &[(Change, End)] = &[
-    (Change::New(3), End::Done),
-    (Change::New(4), End::Done),
-    (Change::Objective, End::Done),
-    (Change::Add(OBJECTIVE, Shape::Square, 1), End::Done),
-    (Change::Close, End::Done),
-];
-
-// The square of 3 is 9, and 7 less than that of 4.
-#[test]
-fn square_of_three(rt: HostRuntime) -> Result<(), Fail> {
-    hold(
-        rt.alloc(),
-        &mut Solver::new(rt.alloc(), SOLVER),
-        SQUARE,
-        &[
+    },
+    // The square of 3 is 9, and 7 less than that of 4.
+    Row {
+        changes: &[
+            (Change::New(3), End::Done),
+            (Change::New(4), End::Done),
+            (Change::Objective, End::Done),
+            (Change::Add(OBJECTIVE, Shape::Square, 1), End::Done),
+            (Change::Close, End::Done),
+        ],
+        questions: &[
             (Question::Value(OBJECTIVE), End::Number(9)),
             (Question::AssignValue(OBJECTIVE, X, 4), End::Number(7)),
             (Question::SwapValue(OBJECTIVE, X, Y), End::Number(7)),
@@ -408,72 +407,57 @@ fn square_of_three(rt: HostRuntime) -> Result<(), Fail> {
                 End::At(NOWHERE, RunFault::Overflow),
             ),
         ],
-    )
-}
-
-const WEIGHTED: &[(Change, End)] = &[
-    (Change::New(1), End::Done),
-    (Change::New(2), End::Done),
-    (Change::System, End::Done),
-    (Change::Post(SYSTEM, Shape::FourAndNone, 3), End::Done),
-    (Change::Close, End::Done),
-];
-
-// Three times the violations of both members.
-#[test]
-fn weight_counts(rt: HostRuntime) -> Result<(), Fail> {
-    hold(
-        rt.alloc(),
-        &mut Solver::new(rt.alloc(), SOLVER),
-        WEIGHTED,
-        &[
+    },
+    // Three times the violations of both members.
+    Row {
+        changes: &[
+            (Change::New(1), End::Done),
+            (Change::New(2), End::Done),
+            (Change::System, End::Done),
+            (Change::Post(SYSTEM, Shape::FourAndNone, 3), End::Done),
+            (Change::Close, End::Done),
+        ],
+        questions: &[
             (Question::Violations(SYSTEM), End::Number(15)),
             (Question::Share(SYSTEM, Y), End::Number(6)),
             (Question::Assign(SYSTEM, X, 4), End::Number(-9)),
         ],
-    )
-}
-
-const EITHER: &[(Change, End)] = &[
-    (Change::New(2), End::Done),
-    (Change::New(3), End::Done),
-    (Change::System, End::Done),
-    (Change::Post(SYSTEM, Shape::FiveOrOne, 1), End::Done),
-    (Change::Close, End::Done),
-];
-
-// Of two members the one with fewer violations counts.
-#[test]
-fn fewer_violations_count(rt: HostRuntime) -> Result<(), Fail> {
-    hold(
-        rt.alloc(),
-        &mut Solver::new(rt.alloc(), SOLVER),
-        EITHER,
-        &[
+    },
+    // Of two members the one with fewer violations counts.
+    Row {
+        changes: &[
+            (Change::New(2), End::Done),
+            (Change::New(3), End::Done),
+            (Change::System, End::Done),
+            (Change::Post(SYSTEM, Shape::FiveOrOne, 1), End::Done),
+            (Change::Close, End::Done),
+        ],
+        questions: &[
             (Question::Violations(SYSTEM), End::Number(2)),
             (Question::Share(SYSTEM, X), End::Number(0)),
             (Question::Share(SYSTEM, Y), End::Number(2)),
         ],
-    )
-}
-
-const THROUGH_DEFINITION: &[(Change, End)] = &[
-    (Change::New(1), End::Done),
-    (Change::New(0), End::Done),
-    (Change::Define(Y, Shape::Cell(FIRST)), End::Done),
-    (Change::System, End::Done),
-    (Change::Post(SYSTEM, Shape::AtMostTwenty, 1), End::Done),
-    (Change::Close, End::Done),
+    },
 ];
 
-// A delta looks through definitions, and its fault is that of the definition's term.
+// Values, deltas and the violations of a variable.
 #[test]
-fn delta_through_definition(rt: HostRuntime) -> Result<(), Fail> {
-    hold(
-        rt.alloc(),
-        &mut Solver::new(rt.alloc(), SOLVER),
-        THROUGH_DEFINITION,
-        &[
+fn values_and_deltas(rt: HostRuntime) -> Result<(), Fail> {
+    hold_all(rt.alloc(), VALUES)
+}
+
+const FAULTS: &[Row<'static>] = &[
+    // A delta looks through definitions, and its fault is that of the definition's term.
+    Row {
+        changes: &[
+            (Change::New(1), End::Done),
+            (Change::New(0), End::Done),
+            (Change::Define(Y, Shape::Cell(FIRST)), End::Done),
+            (Change::System, End::Done),
+            (Change::Post(SYSTEM, Shape::AtMostTwenty, 1), End::Done),
+            (Change::Close, End::Done),
+        ],
+        questions: &[
             (Question::Assign(SYSTEM, X, 3), End::Number(10)),
             (
                 Question::Assign(SYSTEM, X, 4),
@@ -484,67 +468,60 @@ fn delta_through_definition(rt: HostRuntime) -> Result<(), Fail> {
                 End::Refused(RunFault::DefinedVariable),
             ),
         ],
-    )
-}
-
-const SHARED: &[(Change, End)] = &[
-    (Change::New(1), End::Done),
-    (Change::System, End::Done),
-    (Change::Post(SYSTEM, Shape::CellAtMost(FIRST), 1), End::Done),
-    (Change::System, End::Done),
-    (Change::Post(SECOND, Shape::QuotientAndCell, 1), End::Done),
-    (Change::Close, End::Done),
-];
-
-// What two systems share has the number and the place of where it stands first, also where only the second is asked.
-#[test]
-fn shared_cell_fails_first(rt: HostRuntime) -> Result<(), Fail> {
-    hold(
-        rt.alloc(),
-        &mut Solver::new(rt.alloc(), SOLVER),
-        SHARED,
-        &[
+    },
+    // What two systems share has the number and the place of where it stands first, also where only the second is asked.
+    Row {
+        changes: &[
+            (Change::New(1), End::Done),
+            (Change::System, End::Done),
+            (Change::Post(SYSTEM, Shape::CellAtMost(FIRST), 1), End::Done),
+            (Change::System, End::Done),
+            (Change::Post(SECOND, Shape::QuotientAndCell, 1), End::Done),
+            (Change::Close, End::Done),
+        ],
+        questions: &[
             (Question::Violations(SECOND), End::Number(0)),
             (
                 Question::Assign(SECOND, X, 4),
                 End::At(FIRST, RunFault::OutOfRange),
             ),
         ],
-    )
-}
-
-const REFUSED: &[(Change, End)] = &[
-    (Change::New(1), End::Done),
-    (Change::New(2), End::Done),
-    (Change::System, End::Done),
-    (
-        Change::Post(OTHER_SYSTEM, Shape::AtMostTwenty, -1),
-        End::Refused(RunFault::WrongSolver),
-    ),
-    (
-        Change::Post(SYSTEM, Shape::AtMostTwenty, -1),
-        End::Refused(RunFault::OutOfRange),
-    ),
-    (
-        Change::Add(OBJECTIVE, Shape::Square, 1),
-        End::Refused(RunFault::WrongSolver),
-    ),
-    (Change::Close, End::Done),
-    (Change::System, End::Refused(RunFault::AlreadyClosed)),
-    (
-        Change::Post(OTHER_SYSTEM, Shape::AtMostTwenty, -1),
-        End::Refused(RunFault::AlreadyClosed),
-    ),
+    },
 ];
 
-// Each call is refused first for its state, then for its ids, then for its weight; what is refused leaves no trace.
+// A delta looks through definitions, and its fault is that of the asked part, numbered as in the whole model.
 #[test]
-fn refusals_in_order(rt: HostRuntime) -> Result<(), Fail> {
-    hold(
-        rt.alloc(),
-        &mut Solver::new(rt.alloc(), SOLVER),
-        REFUSED,
-        &[
+fn faults_of_the_asked_part(rt: HostRuntime) -> Result<(), Fail> {
+    hold_all(rt.alloc(), FAULTS)
+}
+
+const REFUSALS: &[Row<'static>] = &[
+    // Each call is refused first for its state, then for its ids, then for its weight; what is refused leaves no trace.
+    Row {
+        changes: &[
+            (Change::New(1), End::Done),
+            (Change::New(2), End::Done),
+            (Change::System, End::Done),
+            (
+                Change::Post(OTHER_SYSTEM, Shape::AtMostTwenty, -1),
+                End::Refused(RunFault::WrongSolver),
+            ),
+            (
+                Change::Post(SYSTEM, Shape::AtMostTwenty, -1),
+                End::Refused(RunFault::OutOfRange),
+            ),
+            (
+                Change::Add(OBJECTIVE, Shape::Square, 1),
+                End::Refused(RunFault::WrongSolver),
+            ),
+            (Change::Close, End::Done),
+            (Change::System, End::Refused(RunFault::AlreadyClosed)),
+            (
+                Change::Post(OTHER_SYSTEM, Shape::AtMostTwenty, -1),
+                End::Refused(RunFault::AlreadyClosed),
+            ),
+        ],
+        questions: &[
             (Question::Violations(SYSTEM), End::Number(0)),
             (
                 Question::Violations(SECOND),
@@ -559,23 +536,15 @@ fn refusals_in_order(rt: HostRuntime) -> Result<(), Fail> {
                 End::Refused(RunFault::WrongSolver),
             ),
         ],
-    )
-}
-
-const OPEN: &[(Change, End)] = &[
-    (Change::New(1), End::Done),
-    (Change::System, End::Done),
-    (Change::Objective, End::Done),
-];
-
-// Before the solver is closed no system and no objective can be asked.
-#[test]
-fn nothing_before_close(rt: HostRuntime) -> Result<(), Fail> {
-    hold(
-        rt.alloc(),
-        &mut Solver::new(rt.alloc(), SOLVER),
-        OPEN,
-        &[
+    },
+    // Before the solver is closed no system and no objective can be asked.
+    Row {
+        changes: &[
+            (Change::New(1), End::Done),
+            (Change::System, End::Done),
+            (Change::Objective, End::Done),
+        ],
+        questions: &[
             (
                 Question::Violations(OTHER_SYSTEM),
                 End::Refused(RunFault::NotClosed),
@@ -589,5 +558,11 @@ fn nothing_before_close(rt: HostRuntime) -> Result<(), Fail> {
                 End::Refused(RunFault::NotClosed),
             ),
         ],
-    )
+    },
+];
+
+// Each call is refused first for its state, then for its ids, then for its weight; what is refused leaves no trace.
+#[test]
+fn refusals_in_order(rt: HostRuntime) -> Result<(), Fail> {
+    hold_all(rt.alloc(), REFUSALS)
 }
