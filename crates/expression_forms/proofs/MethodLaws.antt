@@ -1,6 +1,7 @@
 -- What a method asks of its arguments, one after the other.
-use Rattle.std.proofs.Common.{◌≡◌, refl, sym, subst, ap, ◌∙◌, ℕ, zero, suc, ◌+◌, ◌-◌, ◌<◌, ◌≤◌, List, [], ◌∷◌, ◌++◌, map, length, drop, get_or, Bool, true, false, if◌then◌else◌}
+use Rattle.std.proofs.Common.{◌≡◌, refl, sym, subst, ap, ◌∙◌, ℕ, ◌+◌, ◌-◌, ◌<◌, ◌≤◌, List, [], ◌∷◌, ◌++◌, map, length, drop, get_or, Bool, if◌then◌else◌, arith}
 use Rattle.std.specs.Prelude.{nat_lt}
+use Rattle.std.proofs.lemmas.Bool.{lt-ltb}
 use Rattle.cbl_base.specs.declared.place.Place.{Place}
 use Rattle.checked_tree.specs.declared.expressions.Method.{Method}
 use Rattle.checked_tree.specs.declared.expressions.Method.TheVariants as methods
@@ -45,8 +46,7 @@ asked_read l n e s h = ap (λ k. asked_value l (nat_lt 0 k) e s) h
 
 pub asked_itself : (l : Level) (n : ℕ) (e : Shape) (s : State) → (n ≡ 0 → ⊥) → asked_value l (nat_lt 0 n) e s ≡ l.expr e s
 unfolding asked_value
-asked_itself l zero e s h = absurd (h refl)
-asked_itself l (suc n) e s h = refl
+asked_itself l n e s h = ap (λ (b : Bool). (if b then l.expr e else value l e) s) (lt-ltb 0 n (omega (arith, h)))
 
 -- the arguments that are left, of which so many are variables themselves
 pub record AskedLeft {X : Type 0} (l : Level) (f : X → Shape) (xs : List X) (i n : ℕ) (vs : List Value) (s : State) (w : Outcome (List Value)) : Type 0 where

@@ -1,4 +1,5 @@
-use Rattle.std.proofs.Common.{◌≡◌, arith, length}
+use Rattle.std.proofs.Common.{◌≡◌, arith, length, w64}
+use Rattle.std.proofs.lemmas.Int.{to_z-of_z}
 use Rattle.comet_meaning.proofs.GoingOn.{goes_charge, goes_then, goes_unless}
 use Rattle.comet_meaning.proofs.GoingTerms.{goes_node}
 use Rattle.run_state.specs.Views.{state_seen}
@@ -19,4 +20,4 @@ pub returns-in_err-op : goal.returns-in_err-op
 returns-in_err-op c = let n : c.len-count.result ≡ length c.args.cells.terms.items = omega (arith, c.len-count.ensures, c.args.cells.terms.ok.0) in record { did = λ printed. after _ _ _ _ (c.in_ok-charge.ensures.did printed) (after _ _ _ _ (rw c.len-weight_count.ensures at (c.in_ok-charge-2.ensures.did printed)) (after _ _ _ _ (rw n at (c.in_ok-charge-3.ensures.did printed)) (exit _ _ _ _ _ c.from_residual-in_err-op.ensures.1 (memory_ends _ _ _ c.in_err-op.ensures.memory ((goes_then (goes_unless _ _ _) (λ _. goes_node _ _ _)).from _).printed)))) }
 
 pub returns : goal.returns
-returns c = let n : c.len-count.result ≡ length c.args.cells.terms.items = omega (arith, c.len-count.ensures, c.args.cells.terms.ok.0) in record { did = λ printed. after _ _ _ _ (c.in_ok-charge.ensures.did printed) (after _ _ _ _ (rw c.len-weight_count.ensures at (c.in_ok-charge-2.ensures.did printed)) (after _ _ _ _ (rw n at (c.in_ok-charge-3.ensures.did printed)) (rw (c.in_ok-op.ensures.operation, c.len-weight_count.ensures) at (c.even_of.ensures.did (state_seen c.charge-3.new.self printed))))) }
+returns c = let n : c.len-count.result ≡ length c.args.cells.terms.items = omega (arith, c.len-count.ensures, c.args.cells.terms.ok.0) in record { did = λ printed. after _ _ _ _ (c.in_ok-charge.ensures.did printed) (after _ _ _ _ (rw c.len-weight_count.ensures at (c.in_ok-charge-2.ensures.did printed)) (after _ _ _ _ (rw n at (c.in_ok-charge-3.ensures.did printed)) (rw (c.in_ok-op.ensures.operation, c.len-weight_count.ensures, to_z-of_z w64 c.args.capacity c.ranges.capacity) at (c.even_of.ensures.did (state_seen c.charge-3.new.self printed))))) }

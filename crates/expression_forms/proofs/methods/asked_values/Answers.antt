@@ -15,7 +15,7 @@ pub returns-in_err-push : goal.returns-in_err-push
 returns-in_err-push g c = record { did = memory_exit _ _ _ _ c.from_residual-in_err-push.ensures.1 (asked_onward (asked_step c.loop-e.invariant _ c.loop-e-test.true c.e-item.is c.in_ok-value.ensures.did) (goes_level _ _)).printed }
 
 pub loop-e-preserved : goal.loop-e-preserved
-loop-e-preserved g c = asked_pushed _ _ _ _ _ _ _ _ _ _ c.in_ok-push.ensures.items c.saturating_sub.ensures (asked_step c.loop-e.invariant _ c.loop-e-test.true c.e-item.is c.in_ok-value.ensures.did)
+loop-e-preserved g c = asked_pushed _ _ _ _ _ _ _ _ _ _ c.in_ok-push.ensures.items c.saturating_sub-left.ensures (asked_step c.loop-e.invariant _ c.loop-e-test.true c.e-item.is c.in_ok-value.ensures.did)
 
 pub returns : goal.returns
 returns g c = record { did = asked_end c.loop-e.invariant c.loop-e-test.false }
