@@ -1,6 +1,6 @@
 -- It is there without a term, and then gets it.
 use Rattle.std.proofs.Common.{ℕ, ◌∙◌, ap, subst, sym}
-use Rattle.run_solvers.specs.Makes.{Makes}
+use Rattle.run_solvers.specs.Makes.{Ends}
 use Rattle.run_solvers.specs.Changing.{Made, posted_one}
 use Rattle.model_values.specs.declared.wholes.Whole.TheVariants.{Objective}
 use Rattle.run_solvers.specs.Views.{held_seen}
@@ -32,7 +32,7 @@ pub returns-in-Err-post_first-clause-tries : goal.returns-in-Err-post_first-clau
 returns-in-Err-post_first-clause-tries c =
     let old = c.args.self.now in
     let mid = c.try_total.new.self in record {
-      meant = subst (λ (made : Made). Makes (held_seen c.post_first.new.self) c.post_first.result made)
+      meant = subst (λ (made : Made). Ends c.in-Err-post_first.stop made)
           (sym (objective_posted c.args.at old.number c.args.built (held_seen old) (held_seen mid) c.in-Ok.ensures.tries.meant
           ∙ first_posted c.args.at _ _ c.args.built (held_seen old) (held_seen mid) c.in-Ok.index c.in-Ok.ensures.index c.in-Ok.ensures.tries.number)) c.in-Err-post_first.ensures.meant;
       kept = tt;

@@ -1,9 +1,10 @@
 -- The solver is there, and the change is its own; or it isn't there.
-use Rattle.std.proofs.Common.{◌≡◌, ◌<◌, length, get_or, refl, sym, ◌∙◌, ap, arith, rules}
+use Rattle.std.proofs.Common.{◌≡◌, ◌<◌, ℤ, length, get_or, sym, ◌∙◌, ap, subst, arith, rules, w64, to_z, of_z}
 use Rattle.ls_solver.specs.Totals.{whole_of}
 use Rattle.comet_meaning.specs.Parts.{solver_at}
 use Rattle.comet_meaning.specs.Values.{Nothing}
-use Rattle.run_solvers.specs.Changing.{Made, changed}
+use Rattle.run_solvers.specs.Changing.{Made, changed, posted_one}
+use Rattle.run_solvers.specs.Makes.{Makes}
 use Rattle.run_solvers.specs.Views.{held_seen}
 use Rattle.run_solvers.proofs.TotalActs.{posted_none, posted_nowhere, posts}
 use Rattle.run_solvers.proofs.FoundSolvers.{changed_kept, does_so, found, kept_there, no_cycle_so, not_found}
@@ -43,8 +44,10 @@ returns-clause-did c = λ s is.
     let all = is ∙ sym c.self.view_is in
     let there : c.index_mut.result.now ≡ get_or held c.args.total.solver c.index_mut.result.now = search rules in
     let lt : c.args.total.solver < length held = omega (arith, c.len.ensures, c.if-number-len.false) in
+    let same : to_z w64 (of_z w64 c.args.weight) ≡ c.args.weight = search rules in
+    let meant = subst (λ (z : ℤ). Makes (held_seen c.post.new.self) c.post.result (posted_one c.args.at c.args.total.solver (whole_of c.args.total) c.args.built z (held_seen c.index_mut.result.now))) same c.post.ensures.meant in
     rw (posts c.args.at c.args.built c.args.weight c.args.total.solver (whole_of c.args.total) s, found held c.args.total.solver c.index_mut.result.now s all lt there)
-    (does_so Nothing c.args.total.solver s held c.post.new.self c.post.result _ all c.post.ensures.meant)
+    (does_so Nothing c.args.total.solver s held c.post.new.self c.post.result _ all meant)
 
 pub returns-clause-stop : goal.returns-clause-stop
-returns-clause-stop c = no_cycle_so (held_seen c.post.new.self) c.post.result _ (posted_none c.args.at c.args.total.solver (whole_of c.args.total) c.args.built c.args.weight (held_seen c.index_mut.result.now)) c.post.ensures.meant
+returns-clause-stop c = no_cycle_so (held_seen c.post.new.self) c.post.result _ (posted_none c.args.at c.args.total.solver (whole_of c.args.total) c.args.built (to_z w64 (of_z w64 c.args.weight)) (held_seen c.index_mut.result.now)) c.post.ensures.meant
