@@ -1,5 +1,5 @@
 -- What a post makes of a solver, and how it stops, is what the meaning of programs says.
-use Rattle.std.proofs.Common.{◌≡◌, ℕ, zero, suc, ℤ, pos, negsuc, ◌≤◌, Bool, true, false, ◌&&◌, ◌||◌, List, Option, Some, None, Ok, length, refl, sym, ap, ◌∙◌, subst, arith}
+use Rattle.std.proofs.Common.{◌≡◌, ℕ, suc, ℤ, pos, negsuc, ◌≤◌, Bool, true, false, ◌&&◌, ◌||◌, List, Option, Some, None, Ok, length, refl, sym, ap, ◌∙◌, subst, arith}
 use Rattle.std.specs.Prelude.{int_le, int_lt, not, nat_le, if◌then◌else◌}
 use Rattle.cbl_base.specs.Inputs.{InputKind, number_kind, set_kind}
 use Rattle.cbl_base.specs.declared.faults.Limit.TheVariants.{TermNodes}
@@ -72,8 +72,7 @@ early_open false true false e = (refl, refl, refl)
 
 -- a weight is below 0, or is not
 below_zero : (z : ℤ) → int_lt z (pos 0) ≡ not (int_le (pos 0) z)
-below_zero (pos zero) = refl
-below_zero (pos (suc n)) = refl
+below_zero (pos n) = let lt : nat_le (suc n) 0 ≡ false = grind arith in let le : nat_le 0 n ≡ true = grind arith in lt ∙ sym (ap not le)
 below_zero (negsuc n) = refl
 
 and_first : (a b : Bool) → (a && b) ≡ true → a ≡ true

@@ -1,5 +1,6 @@
 -- What stands for a term of another kind is a number.
 use Rattle.std.proofs.Common.{◌≡◌, ℤ, pos, None, refl, ◌∙◌, ap, subst, sym, w64, to_z, of_z, rules}
+use Rattle.cbl_base.specs.Inputs.{number_kind}
 use Rattle.term_model.specs.declared.term.Term.{Term}
 use Rattle.ls_solver.specs.Adding.{early_member_refusal}
 use Rattle.ls_solver.specs.Totals.{whole_of}
@@ -17,7 +18,7 @@ post_number-requires-clause-early c =
     let S = c.args.self.now.solver in
     let same : to_z w64 (of_z w64 c.args.weight) ≡ c.args.weight = search rules in
     subst (λ (z : ℤ). early_member_refusal S c.args.total c.nothing_of-term.result z ≡ None) (sym same)
-    (early_number S c.args.total (constant (pos 0)) c.nothing_of-term.result c.args.weight (nothing_names S c.nothing_of-term.result _ c.nothing_of-term.ensures.seen) c.requires.early)
+    (early_number S c.args.total (constant (pos 0)) c.nothing_of-term.result c.args.weight (nothing_names S c.nothing_of-term.result number_kind c.nothing_of-term.ensures.seen) c.requires.early)
 
 pub post_number-requires-clause-kind : goal.post_number-requires-clause-kind
 post_number-requires-clause-kind c = zero_kind _ c.nothing_of-term.result c.nothing_of-term.ensures.seen
