@@ -13,11 +13,11 @@ ghost use Rattle.run_values.specs.Views.{value_seen};
 
 use cbl_base::RunFault;
 use checked_tree::{Task, Typed};
-use statement_forms::expression_forms::expressions::evaluate_form;
 use run_state::{InTerm, Out, State, Target};
 use run_steps::code::{Code, Flow};
 use run_steps::inside::Inside;
 use run_values::{Stop, Value};
+use statement_forms::expression_forms::expressions::evaluate_form;
 use statement_forms::statements::{execute_act, execute_all};
 use statement_forms::targets::target_of_form;
 use statement_forms::term_forms::terms::{constant_term, moving_term};

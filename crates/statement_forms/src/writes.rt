@@ -18,12 +18,12 @@ use cbl_base::Place;
 use checked_tree::{Kind, Slot, Typed};
 use comet_syntax::tree::{Step, WriteOperator};
 use declaration_forms::expression_forms::expressions::{number_of, other_value_of, value_of};
+use declaration_forms::term_forms::parts::single_term;
 use run_state::{Out, State, Target};
 use run_steps::effects::{add_part, assign_part, define_part, step_part, subtract_part, swap_part};
 use run_steps::inside::{Around, Within};
 use run_steps::plain::{number_itself, plain_slot};
 use run_values::{Stop, Value};
-use declaration_forms::term_forms::parts::single_term;
 
 /// `target = value` and its like, at a place.
 #[tactic(auto, unfolding(comet_meaning::specs::Writes::write_form))]
