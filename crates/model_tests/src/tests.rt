@@ -2,11 +2,11 @@
 use cbl_base::{NoMemory, Place, RunFault, VarId};
 use cbl_operations::Op;
 use model_values::{AskStop, ModelStop, Move, NoUsers, Whole, delta, fresh};
-use violation_shares::variable_violations;
 use std::alloc::Global;
 use std::process::Abort;
 use std::test::*;
 use term_model::{Definition, Member, Model, Posted, Term, Total, VarDecl, VarKind, is_usable};
+use violation_shares::variable_violations;
 
 fn at(col: u32) -> Place {
     Place { line: 1, col }

@@ -82,11 +82,7 @@ pub fn copied_outcome(alloc: Global, cell: &Option<Outcome>) -> Result<Outcome, 
 }
 
 /// What a variable comes to, where it is known.
-pub fn outcome_at(
-    alloc: Global,
-    cells: &[Option<Outcome>],
-    index: u32,
-) -> Result<Outcome, NoMemory>
+pub fn outcome_at(alloc: Global, cells: &[Option<Outcome>], index: u32) -> Result<Outcome, NoMemory>
     ensures { IfOk result (λ o. o ≡ env_of cells.now index) }
 {
     match cells.get(index as usize) {

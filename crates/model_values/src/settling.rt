@@ -235,9 +235,7 @@ pub fn tables_of<'a, U>(
 /// What all variables come to. The first pass goes in an order that puts each variable behind those that
 /// it depends on, so that no other is needed.
 #[tactic(auto, using(crate::proofs::Settled::right_start, crate::proofs::Settled::settled_some))]
-pub fn outcomes_of<U: UserValues>(
-    tables: &Tables<'_, U>,
-) -> Result<Vec<Option<Outcome>>, NoMemory>
+pub fn outcomes_of<U: UserValues>(tables: &Tables<'_, U>) -> Result<Vec<Option<Outcome>>, NoMemory>
     requires well_formed { IsWellFormed tables.now.model.now }
     requires sets { HasDefinedSets tables.now.model.now }
     requires acyclic { IsAcyclic tables.now.model.now }

@@ -124,11 +124,7 @@ fn parts_of<U: UserValues>(setting: &Setting<'_, U>, whole: Whole) -> Result<Par
 pub type Sum = Result<i64, Failure>;
 
 /// The total of the parts of a system or an objective that was declared at this place, where all have a number.
-pub fn sum_of(
-    alloc: Global,
-    place: Place,
-    parts: &PartsHeld,
-) -> Result<Option<Sum>, NoMemory>
+pub fn sum_of(alloc: Global, place: Place, parts: &PartsHeld) -> Result<Option<Sum>, NoMemory>
     requires { HasWeights (listed_numbers parts.now.numbers) parts.now.weights.items }
     ensures { IfOk result (λ o. o ≡ sum_of place (listed_numbers parts.now.numbers) parts.now.weights.items) }
 {

@@ -10,11 +10,11 @@ ghost use Rattle.model_values.specs.Outcomes.{HasKinds, env_of};
 ghost use Rattle.term_model.specs.Users.{user_rules};
 ghost use Rattle.violation_shares.specs.VariableViolations.{combination_of, gather_violation, fewer, number_if, with_argument, no_arguments, seen_arguments, listed_violations, violations_where, total_violation, violation_of_fewest, one_depends, violation_by, node_share, leaf_share, share_of};
 
-use model_values::dependence::is_marked;
-use model_values::evaluation::{Outcome, Setting, copied_set, gather, outcome_at};
 use cbl_base::{Input, NoMemory, RunFault};
 use cbl_operations::{Op, greatest_value};
 use cbl_violations::all_of_violations;
+use model_values::dependence::is_marked;
+use model_values::evaluation::{Outcome, Setting, copied_set, gather, outcome_at};
 use operation_values::{UserValues, number_of, value_of, violation_at};
 use std::alloc::Global;
 use term_model::Term;
