@@ -21,7 +21,7 @@ use run_steps::effects::declare_value;
 use run_steps::inside::{Defining, Within};
 use run_values::values::first_value;
 use run_values::{Bounds, Stop};
-use term_forms::expression_forms::expressions::{bounds_of, number_of, value_of};
+use term_forms::evaluating::expressions::{bounds_of, number_of, value_of};
 use term_forms::parts::single_term;
 use term_model::VarKind;
 

@@ -5,8 +5,8 @@
 //! layers above use that each does what the meaning of the form says.
 #![tactic(auto)]
 
-pub use term_forms as term_forms;
-pub use term_forms::expression_forms as expression_forms;
+pub use term_forms as defining;
+pub use term_forms::evaluating as evaluating;
 
 pub mod array_declarations;
 pub mod declarations;

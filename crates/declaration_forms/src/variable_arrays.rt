@@ -22,7 +22,7 @@ use run_steps::declaring::{
 };
 use run_steps::inside::Defining;
 use run_values::Stop;
-use term_forms::expression_forms::expressions::value_of;
+use term_forms::evaluating::expressions::value_of;
 use term_model::VarDecl;
 
 /// How the variables of an array are made: the place of the declaration, what each is declared as, and their numbers

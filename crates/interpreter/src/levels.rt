@@ -17,10 +17,10 @@ use run_state::{InTerm, Out, State, Target};
 use run_steps::code::{Code, Flow};
 use run_steps::inside::Inside;
 use run_values::{Stop, Value};
-use statement_forms::expression_forms::expressions::evaluate_form;
+use statement_forms::defining::terms::{constant_term, moving_term};
+use statement_forms::evaluating::expressions::evaluate_form;
 use statement_forms::statements::{execute_act, execute_all};
 use statement_forms::targets::target_of_form;
-use statement_forms::term_forms::terms::{constant_term, moving_term};
 
 /// How many statements and expressions may be executed inside each other.
 const MOST_DEPTH: u32 = 1000;
