@@ -81,7 +81,7 @@ fn partial_writes_and_a_failing_sink(rt: HostRuntime) -> Result<(), Fail> {
 /// Texts that are no UTF-8, or too long, and the lines that tell why they are refused.
 #[test]
 fn texts_that_no_file_of_cases_holds(rt: HostRuntime) -> Result<(), Fail> {
-    let left = run_text(rt.alloc(), b"x\n\xff")?;
+    let left = run_text(rt.alloc(), b"x\n\xff".as_slice())?;
     assert_eq!(rt;
         form_fault(&left.report.cause),
         Some((Place { line: 2, col: 1 }, FormCause::Encoding))
