@@ -16,7 +16,7 @@ use run_solvers::Built;
 use run_state::{Out, State};
 use run_steps::inside::Defining;
 use run_values::Stop;
-use term_forms::expression_forms::expressions::number_of;
+use term_forms::evaluating::expressions::number_of;
 use term_forms::parts::term_cells;
 
 /// `alldifferent(x)`

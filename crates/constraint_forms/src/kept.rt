@@ -18,7 +18,7 @@ use run_state::{Out, State};
 use run_steps::inside::Within;
 use run_values::{Cells, Stop, Value};
 use std::alloc::Global;
-use term_forms::expression_forms::expressions::value_of;
+use term_forms::evaluating::expressions::value_of;
 
 /// An array that is kept.
 #[tactic(auto, unfolding(comet_meaning::specs::ConstraintForms::kept_cells))]

@@ -5,7 +5,7 @@
 //! what the meaning of the form says.
 #![tactic(auto)]
 
-pub use term_forms as term_forms;
+pub use term_forms as defining;
 
 mod calls;
 pub mod constraints;

@@ -15,7 +15,7 @@ use run_solvers::Built;
 use run_state::{Out, State};
 use run_steps::inside::Defining;
 use run_values::Stop;
-use term_forms::expression_forms::parts::{constraint_part, single_term};
+use term_forms::evaluating::parts::{constraint_part, single_term};
 
 /// `a == b` and its like.
 #[tactic(auto, unfolding(comet_meaning::specs::ConstraintForms::relation_form))]

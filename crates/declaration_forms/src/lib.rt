@@ -5,7 +5,7 @@
 //! layers above use that each does what the meaning of the form says.
 #![tactic(auto)]
 
-pub use expression_forms as expression_forms;
+pub use expression_forms as evaluating;
 
 pub mod array_declarations;
 pub mod declarations;

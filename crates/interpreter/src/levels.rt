@@ -15,12 +15,12 @@ ghost use Rattle.run_values.specs.Views.{value_seen};
 use cbl_base::RunFault;
 use checked_tree::{Kind, Task, Typed};
 use constraint_forms::constraints::constraint_form;
-use constraint_forms::term_forms::terms::{constant_term, moving_term};
+use constraint_forms::defining::terms::{constant_term, moving_term};
 use run_state::{InTerm, Out, State, Target};
 use run_steps::code::{Code, Flow};
 use run_steps::inside::Inside;
 use run_values::{Stop, Value};
-use statement_forms::expression_forms::expressions::evaluate_form;
+use statement_forms::evaluating::expressions::evaluate_form;
 use statement_forms::statements::{execute_act, execute_all};
 use statement_forms::targets::target_of_form;
 

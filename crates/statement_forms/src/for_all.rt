@@ -11,8 +11,8 @@ ghost use Rattle.run_state.specs.Views.{state_seen};
 
 use cbl_base::Place;
 use checked_tree::{Generator, Task, Typed};
-use declaration_forms::expression_forms::expressions::{condition, value_of};
-use declaration_forms::expression_forms::tuples::next_tuple;
+use declaration_forms::evaluating::expressions::{condition, value_of};
+use declaration_forms::evaluating::tuples::next_tuple;
 use run_state::{Out, State};
 use run_steps::code::Flow;
 use run_steps::inside::Within;

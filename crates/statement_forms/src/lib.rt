@@ -9,7 +9,7 @@ mod for_all;
 mod loops;
 mod printing;
 
-pub use declaration_forms::expression_forms as expression_forms;
+pub use declaration_forms::evaluating as evaluating;
 
 pub mod statements;
 pub mod targets;

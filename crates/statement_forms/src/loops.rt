@@ -15,7 +15,7 @@ ghost use Rattle.run_state.specs.Views.{state_seen};
 use crate::statements::perform;
 use cbl_base::Place;
 use checked_tree::{Action, Counter, Task, Typed};
-use declaration_forms::expression_forms::expressions::{condition, number_of};
+use declaration_forms::evaluating::expressions::{condition, number_of};
 use run_state::{Out, State};
 use run_steps::code::Flow;
 use run_steps::effects::put_number;

@@ -7,7 +7,7 @@ ghost use Rattle.run_steps.specs.Does.{Does};
 ghost use Rattle.run_state.specs.Views.{state_seen};
 
 use checked_tree::Printed;
-use declaration_forms::expression_forms::expressions::value_of;
+use declaration_forms::evaluating::expressions::value_of;
 use run_state::out::print;
 use run_state::{Out, State};
 use run_steps::effects::show_part;

@@ -20,7 +20,7 @@ use cbl_base::Place;
 use checked_tree::{Act, Action, Task, Typed};
 use declaration_forms::array_declarations::declare_array;
 use declaration_forms::declarations::{declare, declare_variable};
-use declaration_forms::expression_forms::expressions::{truth_of, value_of};
+use declaration_forms::evaluating::expressions::{truth_of, value_of};
 use declaration_forms::objects::declare_object;
 use run_state::{Out, State};
 use run_steps::code::Flow;

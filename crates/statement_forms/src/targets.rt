@@ -11,7 +11,7 @@ ghost use Rattle.run_state.specs.Views.{state_seen};
 
 use cbl_base::Place;
 use checked_tree::{Form, Kind, Typed};
-use declaration_forms::expression_forms::expressions::{number_of, value_of};
+use declaration_forms::evaluating::expressions::{number_of, value_of};
 use run_state::{Out, State, Target};
 use run_steps::inside::{Around, Within};
 use run_steps::operands::{target_in_array, target_in_grid};

@@ -5,7 +5,7 @@
 //! of the form says.
 #![tactic(auto)]
 
-pub use expression_forms as expression_forms;
+pub use expression_forms as evaluating;
 
 pub mod aggregates;
 pub mod arrays;
