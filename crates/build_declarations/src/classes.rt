@@ -79,6 +79,5 @@ pub fn undo_templated(stacks: &mut Stacks, class: Templated) -> Result<(), NoMem
     let place = take(&mut stacks.places);
     let template = take(&mut stacks.templates);
     let kind = with_template(class, template);
-    put(&mut stacks.classes, Class { place, kind })?;
-    Ok(())
+    put(&mut stacks.classes, Class { place, kind })
 }

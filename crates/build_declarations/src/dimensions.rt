@@ -7,7 +7,9 @@ ghost use Rattle.build_declarations.specs.MadeDeclarations.{IsReady, IsUndone, I
 
 use cbl_base::NoMemory;
 use comet_syntax::tree::{Argument, Dimension, Dimensions, Expression, Name, Suffix};
-use parse_stacks::{Behind, DimensionRest, Stacks, put, raise, raise_name, take, take_behind};
+use parse_stacks::{
+    Behind, DimensionRest, Stacks, put, put_made, raise, raise_name, take, take_behind,
+};
 use std::alloc::Global;
 
 // A dimension whose range begins with this operand.
@@ -93,8 +95,8 @@ pub fn undo_named_dimension(alloc: Global, stacks: &mut Stacks) -> Result<(), No
 {
     let name = take(&mut stacks.names);
     let rest = take(&mut stacks.dimension_rests);
-    let dimension = make_named(alloc, name, rest)?;
-    put(&mut stacks.dimensions, dimension)
+    let dimension = make_named(alloc, name, rest);
+    put_made(&mut stacks.dimensions, dimension)
 }
 
 // An operand that doesn't begin with a name and what stands behind it
@@ -109,8 +111,8 @@ pub fn undo_unnamed_dimension(alloc: Global, stacks: &mut Stacks) -> Result<(), 
         &mut stacks.compared,
         &mut stacks.branches,
     );
-    let dimension = make_unnamed(alloc, operand, behind)?;
-    put(&mut stacks.dimensions, dimension)
+    let dimension = make_unnamed(alloc, operand, behind);
+    put_made(&mut stacks.dimensions, dimension)
 }
 
 // `in range`

@@ -8,7 +8,7 @@ ghost use Rattle.build_declarations.specs.MadePrograms.{IsReady, IsUndone, int_k
 
 use cbl_base::NoMemory;
 use comet_syntax::tree::{Incremental, Parameter, ParameterKind};
-use parse_stacks::{ParameterType, Stacks, put, put_before, take};
+use parse_stacks::{ParameterType, Stacks, put, put_first, take};
 use std::alloc::Global;
 
 fn kind_of_int(is_array: bool) -> ParameterKind
@@ -37,9 +37,7 @@ pub fn undo_parameters(stacks: &mut Stacks) -> Result<(), NoMemory>
     ensures { IfOk result (λ _. IsUndone forms.ParametersParameter stacks.old stacks.new) }
 {
     let parameter = take(&mut stacks.parameters);
-    let more = take(&mut stacks.parameter_lists);
-    let all = put_before(more, parameter)?;
-    put(&mut stacks.parameter_lists, all)
+    put_first(&mut stacks.parameter_lists, parameter)
 }
 
 // No parameters, or no more of them
@@ -61,10 +59,16 @@ pub fn undo_parameter(stacks: &mut Stacks) -> Result<(), NoMemory>
     requires { IsReady forms.ParameterParameterKind stacks.old }
     ensures { IfOk result (λ _. IsUndone forms.ParameterParameterKind stacks.old stacks.new) }
 {
-    let ParameterType { kind, place } = take(&mut stacks.parameter_types);
+    let typed = take(&mut stacks.parameter_types);
     let name = take(&mut stacks.names);
-    put(&mut stacks.parameters, Parameter { place, kind, name })?;
-    Ok(())
+    put(
+        &mut stacks.parameters,
+        Parameter {
+            place: typed.place,
+            kind: typed.kind,
+            name,
+        },
+    )
 }
 
 // A type that is its word alone, or `set{int}`
@@ -85,8 +89,7 @@ pub fn undo_int_kind(stacks: &mut Stacks) -> Result<(), NoMemory>
     let place = take(&mut stacks.places);
     let is_array = take(&mut stacks.brackets);
     let kind = kind_of_int(is_array);
-    put(&mut stacks.parameter_types, ParameterType { kind, place })?;
-    Ok(())
+    put(&mut stacks.parameter_types, ParameterType { kind, place })
 }
 
 // `var{int}` or `var{int}[]`, and the same with `inc`
@@ -99,8 +102,7 @@ pub fn undo_variable_kind(stacks: &mut Stacks, word: Incremental) -> Result<(), 
     let place = take(&mut stacks.places);
     let is_array = take(&mut stacks.brackets);
     let kind = kind_of_variable(word, is_array);
-    put(&mut stacks.parameter_types, ParameterType { kind, place })?;
-    Ok(())
+    put(&mut stacks.parameter_types, ParameterType { kind, place })
 }
 
 // `Solver<name>`

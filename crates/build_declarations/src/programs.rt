@@ -19,7 +19,7 @@ use comet_syntax::tree::{
     Block, ClassKind, Function, Incremental, Name, Parameter, ParameterKind, ResultKind, TopPart,
 };
 use parse_machine::ProgramForm;
-use parse_stacks::{Stacks, put, put_before, take};
+use parse_stacks::{Stacks, put, put_first, put_made, take};
 use std::alloc::Global;
 
 // A function, whose parameters are given the last one first.
@@ -52,9 +52,7 @@ fn undo_top(stacks: &mut Stacks) -> Result<(), NoMemory>
     ensures { IfOk result (λ _. IsUndone forms.ProgramTop stacks.old stacks.new) }
 {
     let top = take(&mut stacks.tops);
-    let more = take(&mut stacks.programs);
-    let all = put_before(more, top)?;
-    put(&mut stacks.programs, all)
+    put_first(&mut stacks.programs, top)
 }
 
 // No parts
@@ -99,8 +97,8 @@ fn undo_function(alloc: Global, stacks: &mut Stacks) -> Result<(), NoMemory>
     let name = take(&mut stacks.names);
     let parameters = take(&mut stacks.parameter_lists);
     let body = take(&mut stacks.blocks);
-    let function = make_function(alloc, place, kind, name, parameters, body)?;
-    put(&mut stacks.tops, function)
+    let function = make_function(alloc, place, kind, name, parameters, body);
+    put_made(&mut stacks.tops, function)
 }
 
 // A statement

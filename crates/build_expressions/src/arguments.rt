@@ -8,7 +8,7 @@ ghost use Rattle.build_expressions.specs.MadeArguments.{ArgumentMade, CalledMade
 use crate::making::{in_order, make_index, make_method};
 use cbl_base::NoMemory;
 use comet_syntax::tree::Argument;
-use parse_stacks::{Stacks, put, put_before, take};
+use parse_stacks::{Stacks, put, put_first, take};
 use std::alloc::Global;
 
 /// `(arguments)`
@@ -29,10 +29,8 @@ pub fn undo_index(stacks: &mut Stacks) -> Result<(), NoMemory>
     let place = take(&mut stacks.places);
     let index = take(&mut stacks.expressions);
     let second = take(&mut stacks.optional);
-    let more = take(&mut stacks.suffixes);
     let next = make_index(place, index, second);
-    let all = put_before(more, next)?;
-    put(&mut stacks.suffixes, all)
+    put_first(&mut stacks.suffixes, next)
 }
 
 /// `.name(arguments)` and more
@@ -42,10 +40,8 @@ pub fn undo_method(stacks: &mut Stacks) -> Result<(), NoMemory>
 {
     let name = take(&mut stacks.names);
     let listed = take(&mut stacks.lists);
-    let more = take(&mut stacks.suffixes);
     let next = make_method(name, listed);
-    let all = put_before(more, next)?;
-    put(&mut stacks.suffixes, all)
+    put_first(&mut stacks.suffixes, next)
 }
 
 /// `, second`
@@ -63,9 +59,7 @@ pub fn undo_listed(stacks: &mut Stacks) -> Result<(), NoMemory>
     ensures { IfOk result (λ _. Undone listed listed_argument ListedMade stacks.old stacks.new) }
 {
     let first = take(&mut stacks.arguments);
-    let more = take(&mut stacks.lists);
-    let all = put_before(more, first)?;
-    put(&mut stacks.lists, all)
+    put_first(&mut stacks.lists, first)
 }
 
 /// `, argument` and more
@@ -74,9 +68,7 @@ pub fn undo_more_arguments(stacks: &mut Stacks) -> Result<(), NoMemory>
     ensures { IfOk result (λ _. Undone arguments_tail arguments_tail_comma MoreArgumentsMade stacks.old stacks.new) }
 {
     let next = take(&mut stacks.arguments);
-    let more = take(&mut stacks.lists);
-    let all = put_before(more, next)?;
-    put(&mut stacks.lists, all)
+    put_first(&mut stacks.lists, next)
 }
 
 /// An expression as an argument

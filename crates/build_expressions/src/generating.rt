@@ -9,7 +9,7 @@ ghost use Rattle.build_expressions.specs.MadeGenerators.{ConditionMade, Generato
 use crate::making::in_order;
 use cbl_base::NoMemory;
 use comet_syntax::tree::{Expression, Generator, Generators, Name};
-use parse_stacks::{Stacks, beside, box_some, put, put_before, take};
+use parse_stacks::{Stacks, beside, box_some, put, put_before, put_first, put_made, take};
 use std::alloc::Global;
 
 // Generators with their condition.
@@ -57,8 +57,8 @@ pub fn undo_generators_form(alloc: Global, stacks: &mut Stacks) -> Result<(), No
     let first = take(&mut stacks.generators);
     let more = take(&mut stacks.generator_lists);
     let condition = take(&mut stacks.optional);
-    let made = join_generators(alloc, first, more, condition)?;
-    put(&mut stacks.all_generators, made)
+    let made = join_generators(alloc, first, more, condition);
+    put_made(&mut stacks.all_generators, made)
 }
 
 /// `, generator` and more
@@ -67,9 +67,7 @@ pub fn undo_generators_more(stacks: &mut Stacks) -> Result<(), NoMemory>
     ensures { IfOk result (λ _. Undone generators_tail generators_tail_comma MoreGeneratorsMade stacks.old stacks.new) }
 {
     let next = take(&mut stacks.generators);
-    let more = take(&mut stacks.generator_lists);
-    let all = put_before(more, next)?;
-    put(&mut stacks.generator_lists, all)
+    put_first(&mut stacks.generator_lists, next)
 }
 
 /// `name in domain`

@@ -3,31 +3,16 @@ ghost use Rattle.std.specs.Prelude.{◌≡◌, [], IfOk, None};
 ghost use Rattle.comet_syntax.specs.Grammar.Symbols.{and_tail, branches, comparison_tail, expression, or_tail, product_tail, range_tail, total_tail};
 ghost use Rattle.comet_syntax.specs.Grammar.Expressions.{and_tail_and_and, branches_question, comparison_tail_less, expression_operand, or_tail_or_or, product_tail_star, range_tail_dot_dot, total_tail_plus};
 ghost use Rattle.parse_stacks.specs.Undoing.{Ready, Undone};
-ghost use Rattle.build_expressions.specs.MadeLevels.{BranchesMade, ComparedMade, ConjunctionMade, DisjunctionMade, Joined, ProductMade, TotalMade, UpToMade, WholeMade};
-ghost use Rattle.comet_syntax.specs.Written.Expressions.{written};
+ghost use Rattle.build_expressions.specs.MadeLevels.{BranchesMade, ComparedMade, ConjunctionMade, DisjunctionMade, ProductMade, TotalMade, UpToMade, WholeMade};
 
 use crate::making::make_link;
-use cbl_base::{NoMemory, Place};
-use comet_syntax::tree::{ChainOperator, Comparison, Expression, Link};
+use cbl_base::NoMemory;
+use comet_syntax::tree::{ChainOperator, Comparison};
 use parse_stacks::{
-    Branches, Compared, Stacks, UpTo, link, put, put_before, raise, raise_to_comparison,
+    Branches, Compared, Stacks, UpTo, link, put, put_first, put_made, raise, raise_to_comparison,
     raise_to_conjunction, raise_to_range, raise_to_total, take, take_behind,
 };
 use std::alloc::Global;
-
-// The links with one more before them. Links stand the last one first.
-fn join(
-    more: Vec<Link>,
-    operator: ChainOperator,
-    place: Place,
-    operand: Expression,
-) -> Result<Vec<Link>, NoMemory>
-    ensures { IfOk result (λ all. Joined operator place (written operand) more all) }
-{
-    let next = make_link(operator, place, operand);
-    let all = put_before(more, next)?;
-    Ok(all)
-}
 
 /// An operand and all that stands behind it.
 pub fn undo_whole(alloc: Global, stacks: &mut Stacks) -> Result<(), NoMemory>
@@ -41,8 +26,8 @@ pub fn undo_whole(alloc: Global, stacks: &mut Stacks) -> Result<(), NoMemory>
         &mut stacks.compared,
         &mut stacks.branches,
     );
-    let made = raise(alloc, operand, behind)?;
-    put(&mut stacks.expressions, made)
+    let made = raise(alloc, operand, behind);
+    put_made(&mut stacks.expressions, made)
 }
 
 /// `? then : otherwise`
@@ -76,9 +61,8 @@ pub fn undo_disjunction(alloc: Global, stacks: &mut Stacks) -> Result<(), NoMemo
         compared,
         conjunction,
     )?;
-    let more = take(&mut stacks.links);
-    let all = join(more, ChainOperator::Or, place, operand)?;
-    put(&mut stacks.links, all)
+    let next = make_link(ChainOperator::Or, place, operand);
+    put_first(&mut stacks.links, next)
 }
 
 /// `&& operand` and more
@@ -93,9 +77,8 @@ pub fn undo_conjunction(alloc: Global, stacks: &mut Stacks) -> Result<(), NoMemo
     let up_to = take(&mut stacks.up_to);
     let compared = take(&mut stacks.compared);
     let operand = raise_to_comparison(alloc, operand, product, total, up_to, compared)?;
-    let more = take(&mut stacks.links);
-    let all = join(more, ChainOperator::And, place, operand)?;
-    put(&mut stacks.links, all)
+    let next = make_link(ChainOperator::And, place, operand);
+    put_first(&mut stacks.links, next)
 }
 
 /// `< right` and its like
@@ -147,9 +130,8 @@ pub fn undo_total(
     let operand = take(&mut stacks.expressions);
     let product = take(&mut stacks.links);
     let operand = link(alloc, operand, product)?;
-    let more = take(&mut stacks.links);
-    let all = join(more, operator, place, operand)?;
-    put(&mut stacks.links, all)
+    let next = make_link(operator, place, operand);
+    put_first(&mut stacks.links, next)
 }
 
 /// `* operand` and its like, and more
@@ -159,9 +141,8 @@ pub fn undo_product(stacks: &mut Stacks, operator: ChainOperator) -> Result<(), 
 {
     let place = take(&mut stacks.places);
     let operand = take(&mut stacks.expressions);
-    let more = take(&mut stacks.links);
-    let all = join(more, operator, place, operand)?;
-    put(&mut stacks.links, all)
+    let next = make_link(operator, place, operand);
+    put_first(&mut stacks.links, next)
 }
 
 /// No links, at any level

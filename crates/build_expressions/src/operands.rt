@@ -10,7 +10,7 @@ use crate::making::{
 };
 use cbl_base::NoMemory;
 use comet_syntax::tree::{Aggregate, Extreme, UnaryOperator};
-use parse_stacks::{Stacks, link, name_operand, put, suffix, take};
+use parse_stacks::{Stacks, link, name_operand, put, put_made, suffix, take};
 use std::alloc::Global;
 
 /// A name or a call, with suffixes.
@@ -21,8 +21,8 @@ pub fn undo_named(alloc: Global, stacks: &mut Stacks) -> Result<(), NoMemory>
     let name = take(&mut stacks.names);
     let called = take(&mut stacks.called);
     let suffixes = take(&mut stacks.suffixes);
-    let made = name_operand(alloc, name, called, suffixes)?;
-    put(&mut stacks.expressions, made)
+    let made = name_operand(alloc, name, called, suffixes);
+    put_made(&mut stacks.expressions, made)
 }
 
 /// A literal, or `min` or `max` of two expressions, with suffixes.
@@ -32,8 +32,8 @@ pub fn undo_suffixed(alloc: Global, stacks: &mut Stacks) -> Result<(), NoMemory>
 {
     let primary = take(&mut stacks.expressions);
     let suffixes = take(&mut stacks.suffixes);
-    let made = suffix(alloc, primary, suffixes)?;
-    put(&mut stacks.expressions, made)
+    let made = suffix(alloc, primary, suffixes);
+    put_made(&mut stacks.expressions, made)
 }
 
 /// `{arguments}` and suffixes
@@ -45,8 +45,8 @@ pub fn undo_set(alloc: Global, stacks: &mut Stacks) -> Result<(), NoMemory>
     let listed = take(&mut stacks.lists);
     let suffixes = take(&mut stacks.suffixes);
     let primary = make_set(place, listed);
-    let made = suffix(alloc, primary, suffixes)?;
-    put(&mut stacks.expressions, made)
+    let made = suffix(alloc, primary, suffixes);
+    put_made(&mut stacks.expressions, made)
 }
 
 /// `-operand` or `!operand`
@@ -60,8 +60,8 @@ pub fn undo_unary(
 {
     let place = take(&mut stacks.places);
     let operand = take(&mut stacks.expressions);
-    let made = make_unary(alloc, operator, place, operand)?;
-    put(&mut stacks.expressions, made)
+    let made = make_unary(alloc, operator, place, operand);
+    put_made(&mut stacks.expressions, made)
 }
 
 /// `sum(generators) body` and its like
@@ -74,8 +74,8 @@ pub fn undo_aggregate(alloc: Global, stacks: &mut Stacks, kind: Aggregate) -> Re
     let product = take(&mut stacks.links);
     let body = link(alloc, operand, product)?;
     let generators = take(&mut stacks.all_generators);
-    let made = make_aggregate(alloc, kind, place, generators, body)?;
-    put(&mut stacks.expressions, made)
+    let made = make_aggregate(alloc, kind, place, generators, body);
+    put_made(&mut stacks.expressions, made)
 }
 
 /// `true` or `false`
@@ -95,8 +95,8 @@ pub fn undo_parentheses(alloc: Global, stacks: &mut Stacks) -> Result<(), NoMemo
 {
     let place = take(&mut stacks.places);
     let inner = take(&mut stacks.expressions);
-    let made = make_parentheses(alloc, place, inner)?;
-    put(&mut stacks.expressions, made)
+    let made = make_parentheses(alloc, place, inner);
+    put_made(&mut stacks.expressions, made)
 }
 
 /// `[arguments]`
@@ -118,6 +118,6 @@ pub fn undo_extreme(alloc: Global, stacks: &mut Stacks, which: Extreme) -> Resul
     let place = take(&mut stacks.places);
     let left = take(&mut stacks.expressions);
     let right = take(&mut stacks.expressions);
-    let made = make_extreme(alloc, which, place, left, right)?;
-    put(&mut stacks.expressions, made)
+    let made = make_extreme(alloc, which, place, left, right);
+    put_made(&mut stacks.expressions, made)
 }

@@ -12,8 +12,8 @@ use crate::making::{make_aggregate, make_extreme};
 use cbl_base::{NoMemory, Place};
 use comet_syntax::tree::{Aggregate, Expression, Extreme, Name};
 use parse_stacks::{
-    Pair, PairRest, Stacks, beside, beside_two, link, put, raise, raise_name, suffix, take,
-    take_behind,
+    Pair, PairRest, Stacks, beside, beside_two, link, put, put_made, raise, raise_name, suffix,
+    take, take_behind,
 };
 use std::alloc::Global;
 
@@ -97,8 +97,8 @@ pub fn undo_pair(alloc: Global, stacks: &mut Stacks, which: Extreme) -> Result<(
 {
     let place = take(&mut stacks.places);
     let behind = take(&mut stacks.pairs);
-    let made = make_pair(alloc, which, place, behind)?;
-    put(&mut stacks.expressions, made)
+    let made = make_pair(alloc, which, place, behind);
+    put_made(&mut stacks.expressions, made)
 }
 
 /// A name, and what stands behind it
@@ -108,8 +108,8 @@ pub fn undo_named_pair(alloc: Global, stacks: &mut Stacks) -> Result<(), NoMemor
 {
     let name = take(&mut stacks.names);
     let rest = take(&mut stacks.pair_rests);
-    let made = begin(alloc, name, rest)?;
-    put(&mut stacks.pairs, made)
+    let made = begin(alloc, name, rest);
+    put_made(&mut stacks.pairs, made)
 }
 
 /// `left, right)` and suffixes

@@ -7,7 +7,7 @@ ghost use Rattle.parse_stacks.specs.Undoing.{Ready, Undone};
 
 use cbl_base::NoMemory;
 use comet_syntax::tree::Item;
-use parse_stacks::{Stacks, put, put_before, take};
+use parse_stacks::{Stacks, put, put_first, take};
 use std::alloc::Global;
 
 /// An expression that is printed.
@@ -41,9 +41,7 @@ pub fn undo_more_items(stacks: &mut Stacks) -> Result<(), NoMemory>
     ensures { IfOk result (λ _. Undone items_tail items_tail_less_less (λ v x. reverse x.items ≡ v.1.0 ∷ reverse v.1.1.0.items) stacks.old stacks.new) }
 {
     let first = take(&mut stacks.items);
-    let more = take(&mut stacks.item_lists);
-    let all = put_before(more, first)?;
-    put(&mut stacks.item_lists, all)
+    put_first(&mut stacks.item_lists, first)
 }
 
 /// No more items.

@@ -17,7 +17,9 @@ ghost use Rattle.build_simples.specs.MadeSimples.{done_text, named_text};
 use crate::targets::{finish_name, finish_target};
 use cbl_base::{NoMemory, Place};
 use comet_syntax::tree::{Expression, Item, Simple, Step, WriteOperator};
-use parse_stacks::{NamedRest, NewValue, Stacks, WriteRest, put, put_before, suffix, take};
+use parse_stacks::{
+    NamedRest, NewValue, Stacks, WriteRest, put, put_before, put_made, suffix, take,
+};
 use std::alloc::Global;
 
 /// A simple statement that begins with a name.
@@ -27,8 +29,8 @@ pub fn undo_named(alloc: Global, stacks: &mut Stacks) -> Result<(), NoMemory>
 {
     let name = take(&mut stacks.names);
     let rest = take(&mut stacks.named_rests);
-    let made = finish_name(alloc, name, rest)?;
-    put(&mut stacks.simples, made)
+    let made = finish_name(alloc, name, rest);
+    put_made(&mut stacks.simples, made)
 }
 
 /// A simple statement that begins with a literal, or with `min` or `max`.
@@ -40,8 +42,8 @@ pub fn undo_unnamed(alloc: Global, stacks: &mut Stacks) -> Result<(), NoMemory>
     let suffixes = take(&mut stacks.suffixes);
     let target = suffix(alloc, primary, suffixes)?;
     let rest = take(&mut stacks.writes);
-    let made = finish_target(alloc, target, rest)?;
-    put(&mut stacks.simples, made)
+    let made = finish_target(alloc, target, rest);
+    put_made(&mut stacks.simples, made)
 }
 
 // `cout << items`
@@ -80,8 +82,8 @@ pub fn undo_call(alloc: Global, stacks: &mut Stacks) -> Result<(), NoMemory>
 {
     let place = take(&mut stacks.places);
     let chosen = take(&mut stacks.expressions);
-    let made = make_call(alloc, place, chosen)?;
-    put(&mut stacks.simples, made)
+    let made = make_call(alloc, place, chosen);
+    put_made(&mut stacks.simples, made)
 }
 
 /// `= value` behind a name

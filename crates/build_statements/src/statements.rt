@@ -16,7 +16,7 @@ use crate::nodes::{
 };
 use cbl_base::NoMemory;
 use comet_syntax::tree::Extreme;
-use parse_stacks::{Stacks, put, put_before, take};
+use parse_stacks::{Stacks, put, put_first, put_made, take};
 use std::alloc::Global;
 
 /// `{ statements }`
@@ -37,9 +37,7 @@ pub fn undo_more_statements(stacks: &mut Stacks) -> Result<(), NoMemory>
     ensures { IfOk result (λ _. IsUndone forms.StatementsStatement stacks.old stacks.new) }
 {
     let first = take(&mut stacks.statements);
-    let more = take(&mut stacks.statement_lists);
-    let all = put_before(more, first)?;
-    put(&mut stacks.statement_lists, all)
+    put_first(&mut stacks.statement_lists, first)
 }
 
 /// A block as a statement.
@@ -68,8 +66,8 @@ pub fn undo_declared(alloc: Global, stacks: &mut Stacks) -> Result<(), NoMemory>
     ensures { IfOk result (λ _. IsUndone forms.StatementDeclaration stacks.old stacks.new) }
 {
     let declaration = take(&mut stacks.declarations);
-    let made = make_declared(alloc, declaration)?;
-    put(&mut stacks.statements, made)
+    let made = make_declared(alloc, declaration);
+    put_made(&mut stacks.statements, made)
 }
 
 /// `simple;`
@@ -89,8 +87,8 @@ pub fn undo_return(alloc: Global, stacks: &mut Stacks) -> Result<(), NoMemory>
 {
     let place = take(&mut stacks.places);
     let value = take(&mut stacks.optional);
-    let made = make_return(alloc, place, value)?;
-    put(&mut stacks.statements, made)
+    let made = make_return(alloc, place, value);
+    put_made(&mut stacks.statements, made)
 }
 
 /// `if (test) then otherwise`
@@ -102,8 +100,8 @@ pub fn undo_if(alloc: Global, stacks: &mut Stacks) -> Result<(), NoMemory>
     let test = take(&mut stacks.expressions);
     let then = take(&mut stacks.statements);
     let otherwise = take(&mut stacks.otherwise);
-    let made = make_if(alloc, place, test, then, otherwise)?;
-    put(&mut stacks.statements, made)
+    let made = make_if(alloc, place, test, then, otherwise);
+    put_made(&mut stacks.statements, made)
 }
 
 /// `while (test) body`
@@ -114,8 +112,8 @@ pub fn undo_while(alloc: Global, stacks: &mut Stacks) -> Result<(), NoMemory>
     let place = take(&mut stacks.places);
     let test = take(&mut stacks.expressions);
     let body = take(&mut stacks.statements);
-    let made = make_while(alloc, place, test, body)?;
-    put(&mut stacks.statements, made)
+    let made = make_while(alloc, place, test, body);
+    put_made(&mut stacks.statements, made)
 }
 
 /// `for (start; test; step) body`
@@ -128,8 +126,8 @@ pub fn undo_for(alloc: Global, stacks: &mut Stacks) -> Result<(), NoMemory>
     let test = take(&mut stacks.optional);
     let step = take(&mut stacks.for_steps);
     let body = take(&mut stacks.statements);
-    let made = make_for(alloc, place, start, test, step, body)?;
-    put(&mut stacks.statements, made)
+    let made = make_for(alloc, place, start, test, step, body);
+    put_made(&mut stacks.statements, made)
 }
 
 /// `forall (generators) body`
@@ -140,8 +138,8 @@ pub fn undo_for_all(alloc: Global, stacks: &mut Stacks) -> Result<(), NoMemory>
     let place = take(&mut stacks.places);
     let generators = take(&mut stacks.all_generators);
     let body = take(&mut stacks.statements);
-    let made = make_for_all(alloc, place, generators, body)?;
-    put(&mut stacks.statements, made)
+    let made = make_for_all(alloc, place, generators, body);
+    put_made(&mut stacks.statements, made)
 }
 
 /// `select (generators) body`
@@ -152,8 +150,8 @@ pub fn undo_select(alloc: Global, stacks: &mut Stacks) -> Result<(), NoMemory>
     let place = take(&mut stacks.places);
     let generators = take(&mut stacks.all_generators);
     let body = take(&mut stacks.statements);
-    let made = make_select(alloc, place, generators, body)?;
-    put(&mut stacks.statements, made)
+    let made = make_select(alloc, place, generators, body);
+    put_made(&mut stacks.statements, made)
 }
 
 /// `selectMin (generators) (key) body` or `selectMax (generators) (key) body`
@@ -167,8 +165,8 @@ pub fn undo_select_by(alloc: Global, stacks: &mut Stacks, extreme: Extreme) -> R
     let generators = take(&mut stacks.all_generators);
     let key = take(&mut stacks.expressions);
     let body = take(&mut stacks.statements);
-    let made = make_select_by(alloc, place, extreme, generators, key, body)?;
-    put(&mut stacks.statements, made)
+    let made = make_select_by(alloc, place, extreme, generators, key, body);
+    put_made(&mut stacks.statements, made)
 }
 
 /// `neighbor (key, selector) body`
@@ -180,8 +178,8 @@ pub fn undo_neighbor(alloc: Global, stacks: &mut Stacks) -> Result<(), NoMemory>
     let key = take(&mut stacks.expressions);
     let selector = take(&mut stacks.names);
     let body = take(&mut stacks.statements);
-    let made = make_neighbor(alloc, place, key, selector, body)?;
-    put(&mut stacks.statements, made)
+    let made = make_neighbor(alloc, place, key, selector, body);
+    put_made(&mut stacks.statements, made)
 }
 
 /// `whenever variable@event(int old, int new) body`
@@ -194,8 +192,8 @@ pub fn undo_whenever(alloc: Global, stacks: &mut Stacks) -> Result<(), NoMemory>
     let event = take(&mut stacks.names);
     let names = take(&mut stacks.events);
     let body = take(&mut stacks.statements);
-    let made = make_whenever(alloc, place, variable, event, names, body)?;
-    put(&mut stacks.statements, made)
+    let made = make_whenever(alloc, place, variable, event, names, body);
+    put_made(&mut stacks.statements, made)
 }
 
 /// `with atomic (solver) block` or `with delay (solver) block`
@@ -207,8 +205,8 @@ pub fn undo_with(alloc: Global, stacks: &mut Stacks) -> Result<(), NoMemory>
     let mode = take(&mut stacks.modes);
     let solver = take(&mut stacks.names);
     let body = take(&mut stacks.blocks);
-    let made = make_with(alloc, place, mode, solver, body)?;
-    put(&mut stacks.statements, made)
+    let made = make_with(alloc, place, mode, solver, body);
+    put_made(&mut stacks.statements, made)
 }
 
 /// `parall (name in domain) body`
@@ -220,6 +218,6 @@ pub fn undo_parall(alloc: Global, stacks: &mut Stacks) -> Result<(), NoMemory>
     let name = take(&mut stacks.names);
     let domain = take(&mut stacks.expressions);
     let body = take(&mut stacks.statements);
-    let made = make_parall(alloc, place, name, domain, body)?;
-    put(&mut stacks.statements, made)
+    let made = make_parall(alloc, place, name, domain, body);
+    put_made(&mut stacks.statements, made)
 }

@@ -1,5 +1,5 @@
 -- Expressions go onward where the parts in them do.
-use Rattle.std.proofs.Common.{ℕ, ℤ, pos, Bool, List, [], ◌∷◌, ◌++◌, nat_le, length, Option, Some, None}
+use Rattle.std.proofs.Common.{ℕ, ◌-◌, ℤ, pos, Bool, List, [], ◌∷◌, ◌++◌, nat_le, nat_lt, length, Option, Some, None}
 use Rattle.cbl_base.specs.declared.place.Place.{Place}
 use Rattle.cbl_base.specs.declared.faults.RunFault.TheVariants.{BadData}
 use Rattle.comet_syntax.specs.declared.tree.expressions.Aggregate.{Aggregate}
@@ -22,13 +22,15 @@ use Rattle.comet_meaning.specs.Parts.{items}
 use Rattle.comet_meaning.specs.Builtins.{builtin_value, builtin_form}
 use Rattle.comet_meaning.specs.Aggregates.{Element, with_element, element_form, aggregate_value, aggregate_form}
 use Rattle.comet_meaning.specs.Data.{spelled, behind_blanks, word_of, behind_word, unread, first_word, fitting, word_value, went_on, next_number}
-use Rattle.comet_meaning.specs.Methods.{fitting_number, put_set, method_value, object_value, method_form}
+use Rattle.comet_meaning.specs.Posting.{weight_form, post_constraint, post_part}
+use Rattle.comet_meaning.specs.Methods.{fitting_number, put_set, method_value, object_value, asked_value, asked_values, called_form, method_form}
 use Rattle.comet_meaning.specs.Calls.{argument_form, arguments_form, own_array, own_arrays, handed, body_form, called, call_form}
 use Rattle.comet_meaning.specs.Expressions.{set_form, value_of_form, value_of_expression}
 use Rattle.comet_meaning.specs.Onward.{GoesOn}
 use Rattle.comet_meaning.proofs.GoingOn.{onward_refl, goes_then, goes_give, goes_fault, goes_if, goes_give_or, goes_unless, goes_charge, goes_at, goes_look, goes_put, goes_in_scope, goes_in_frame, goes_count_cells, goes_new_array}
 use Rattle.comet_meaning.proofs.GoingModels.{goes_close, goes_domain_of}
-use Rattle.comet_meaning.proofs.GoingParts.{LevelGoesOn, goes_value, goes_condition, goes_values, goes_unary, goes_chain, goes_compare, goes_range, goes_conditional, goes_list, goes_index, goes_cell, goes_count, goes_each_tuple}
+use Rattle.comet_meaning.proofs.GoingSystems.{goes_value_of, goes_violations, goes_assign_delta, goes_swap_delta, goes_post}
+use Rattle.comet_meaning.proofs.GoingParts.{LevelGoesOn, goes_value, goes_number, goes_condition, goes_values, goes_one_term, goes_constraint, goes_unary, goes_chain, goes_compare, goes_range, goes_conditional, goes_list, goes_index, goes_cell, goes_count, goes_each_tuple}
 
 -- functions of the language
 
@@ -114,6 +116,13 @@ goes_method_value at methods.ArraySize o v vs = goes_then (goes_count_cells v) (
 goes_method_value at methods.ReadInt o v vs = goes_next_number at v
 goes_method_value at methods.Close o v vs = goes_close at _
 goes_method_value at methods.Domain o v vs = goes_domain_of at v
+goes_method_value at methods.Violations o v vs = goes_violations at v vs
+goes_method_value at methods.SystemAssignDelta o v vs = goes_assign_delta at v vs
+goes_method_value at methods.SystemSwapDelta o v vs = goes_swap_delta at v vs
+goes_method_value at methods.ObjectiveValue o v vs = goes_value_of at v
+goes_method_value at methods.ObjectiveEvaluation o v vs = goes_value_of at v
+goes_method_value at methods.ObjectiveAssignDelta o v vs = goes_assign_delta at v vs
+goes_method_value at methods.ObjectiveSwapDelta o v vs = goes_swap_delta at v vs
 goes_method_value at m o v vs = goes_give
 
 pub goes_object_value : (l : Level) → LevelGoesOn l → (m : Method) (o : Shape) → GoesOn (object_value l m o)
@@ -121,10 +130,42 @@ unfolding object_value
 goes_object_value l h methods.Domain o = h.expr o
 goes_object_value l h m o = goes_value l h o
 
+pub goes_asked_value : (l : Level) → LevelGoesOn l → (itself : Bool) (e : Shape) → GoesOn (asked_value l itself e)
+unfolding asked_value
+goes_asked_value l h itself e = goes_if itself (h.expr e) (goes_value l h e)
+
+pub goes_asked_values : (l : Level) → LevelGoesOn l → (n : ℕ) (es : List Shape) (vs : List Value) → GoesOn (asked_values l n es vs)
+unfolding asked_values
+goes_asked_values l h n [] vs = goes_give
+goes_asked_values l h n (e ∷ es) vs = goes_then (goes_asked_value l h (nat_lt 0 n) e) (λ v. goes_asked_values l h (n - 1) es (vs ++ v ∷ []))
+
+pub goes_called_on : (l : Level) → LevelGoesOn l → (at : Place) (m : Method) (o : Shape) (es : List Shape) → GoesOn (called_form l at m o es)
+unfolding called_form
+goes_called_on l h at m o es =
+    goes_then (goes_object_value l h m o) (λ v. goes_then (goes_asked_values l h _ es []) (λ vs. goes_then (goes_charge 1 at) (λ _. goes_method_value at m o v vs)))
+
+pub goes_weight : (l : Level) → LevelGoesOn l → (ws : List Shape) → GoesOn (weight_form l ws)
+unfolding weight_form
+goes_weight l h [] = goes_give
+goes_weight l h (w ∷ ws) = goes_number l h w
+
+pub goes_post_constraint : (l : Level) → LevelGoesOn l → (at : Place) (o : Shape) (es : List Shape) → GoesOn (post_constraint l at o es)
+unfolding post_constraint
+goes_post_constraint l h at o [] = goes_give
+goes_post_constraint l h at o (c ∷ ws) =
+    goes_then (goes_value l h o) (λ v. goes_then (goes_constraint l h c) (λ t. goes_then (goes_weight l h ws) (λ weight. goes_then (goes_charge 1 at) (λ _. goes_post at t weight v))))
+
+pub goes_post_part : (l : Level) → LevelGoesOn l → (at : Place) (o : Shape) (es : List Shape) → GoesOn (post_part l at o es)
+unfolding post_part
+goes_post_part l h at o [] = goes_give
+goes_post_part l h at o (e ∷ ws) =
+    goes_then (goes_value l h o) (λ v. goes_then (goes_one_term l h e) (λ t. goes_then (goes_weight l h ws) (λ weight. goes_then (goes_charge 1 at) (λ _. goes_post at t weight v))))
+
 pub goes_method : (l : Level) → LevelGoesOn l → (at : Place) (m : Method) (o : Shape) (es : List Shape) → GoesOn (method_form l at m o es)
 unfolding method_form
-goes_method l h at m o es =
-    goes_then (goes_object_value l h m o) (λ v. goes_then (goes_values l h es []) (λ vs. goes_then (goes_charge 1 at) (λ _. goes_method_value at m o v vs)))
+goes_method l h at methods.Post o es = goes_post_constraint l h at o es
+goes_method l h at methods.PostPart o es = goes_post_part l h at o es
+goes_method l h at m o es = goes_called_on l h at m o es
 
 -- calls
 

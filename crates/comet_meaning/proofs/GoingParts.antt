@@ -16,7 +16,7 @@ use Rattle.comet_meaning.specs.Values.{Value, Variable, Variables}
 use Rattle.comet_meaning.specs.Solvers.{SolverState, has_variable}
 use Rattle.comet_meaning.specs.Outcome.{Act}
 use Rattle.comet_meaning.specs.Levels.{Level}
-use Rattle.comet_meaning.specs.Parts.{needs_close, variable_value, read, value, number, truth, bounds, condition, values, term, terms, each_term}
+use Rattle.comet_meaning.specs.Parts.{needs_close, variable_value, read, value, number, truth, bounds, condition, values, term, terms, each_term, is_moving, constraint}
 use Rattle.comet_meaning.specs.Operators.{unary_result, unary_form, compare_form, decides, linked, link_form, links_form, chain_form, range_form, conditional_form}
 use Rattle.comet_meaning.specs.Arrays.{list_form, index_form, cell_form, count_form}
 use Rattle.comet_meaning.specs.Taking.{read_each, read_array, taken_whole}
@@ -82,6 +82,10 @@ pub goes_each_term : (l : Level) → LevelGoesOn l → (es : List Shape) (ts : L
 unfolding each_term
 goes_each_term l h [] ts = goes_give
 goes_each_term l h (e ∷ es) ts = goes_then (goes_one_term l h e) (λ t. goes_each_term l h es (ts ++ t ∷ []))
+
+pub goes_constraint : (l : Level) → LevelGoesOn l → (e : Shape) → GoesOn (constraint l e)
+unfolding constraint
+goes_constraint l h e = goes_if (is_moving e) (goes_one_term l h e) (goes_then (goes_truth l h e) (λ b. goes_give))
 
 -- operators
 

@@ -28,7 +28,7 @@ use Rattle.comet_meaning.proofs.GoingOn.{onward_refl, goes_then, goes_give, goes
 use Rattle.comet_meaning.proofs.GoingParts.{LevelGoesOn, goes_value, goes_number, goes_truth, goes_condition, goes_one_term, goes_each_tuple, goes_read_each}
 use Rattle.comet_meaning.proofs.GoingModels.{goes_assign, goes_swap, goes_define}
 use Rattle.comet_meaning.proofs.GoingExpressions.{goes_expression}
-use Rattle.comet_meaning.proofs.GoingTerms.{goes_term}
+use Rattle.comet_meaning.proofs.GoingConstraints.{goes_term}
 use Rattle.comet_meaning.proofs.GoingDeclarations.{goes_scalar, goes_array, goes_object}
 use Rattle.comet_meaning.proofs.GoingVariables.{goes_variable, goes_together}
 
@@ -229,7 +229,7 @@ goes_deed l h at deeds.nothing = goes_give
 goes_deed l h at (deeds.declaring slot k e) = goes_scalar l h at slot k e
 goes_deed l h at (deeds.declaring_array slot k sizes x) = goes_array l h at slot sizes x
 goes_deed l h at (deeds.declaring_variable v) = goes_variable l h at v
-goes_deed l h at (deeds.making slot k es) = goes_object slot k
+goes_deed l h at (deeds.making slot k es) = goes_object l h at slot k es
 goes_deed l h at (deeds.writing o t e) = goes_writing l h at o t e
 goes_deed l h at (deeds.swapping a b) = goes_swapping l h at a b
 goes_deed l h at (deeds.stepping x t) = goes_stepping l h at x t

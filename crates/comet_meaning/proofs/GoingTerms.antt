@@ -17,13 +17,12 @@ use Rattle.comet_meaning.specs.Values.{Value}
 use Rattle.comet_meaning.specs.Terms.{standing}
 use Rattle.comet_meaning.specs.State.{left}
 use Rattle.comet_meaning.specs.Outcome.{Act, always}
-use Rattle.comet_meaning.specs.Levels.{Code, Level}
+use Rattle.comet_meaning.specs.Levels.{Level}
 use Rattle.comet_meaning.specs.Parts.{items, is_moving}
-use Rattle.comet_meaning.specs.TermForms.{node_form, single, unary_term, compare_term, linked_term, joined_form, operands_form, junction_form, links_term, chain_term, element_term, picked_term, index_term, grid_term, picked_cell, cell_term, list_term, Keyed, with_keyed, keyed_form, aggregated, aggregate_term, count_term, builtin_node, builtin_term, moving_term, term_of_expression}
+use Rattle.comet_meaning.specs.TermForms.{node_form, single, unary_term, compare_term, linked_term, joined_form, operands_form, junction_form, links_term, chain_term, element_term, picked_term, index_term, grid_term, picked_cell, cell_term, list_term, Keyed, with_keyed, keyed_form, aggregated, aggregate_term, count_term, builtin_node, builtin_term, moving_term}
 use Rattle.comet_meaning.specs.Onward.{GoesOn}
 use Rattle.comet_meaning.proofs.GoingOn.{onward_refl, goes_then, goes_give, goes_fault, goes_if, goes_unless, goes_charge, goes_look, goes_in_scope, goes_found_at}
 use Rattle.comet_meaning.proofs.GoingParts.{LevelGoesOn, goes_number, goes_condition, goes_one_term, goes_terms, goes_each_term, goes_each_tuple}
-use Rattle.comet_meaning.proofs.GoingExpressions.{goes_form}
 
 pub goes_standing : (v : Value) → GoesOn (standing v)
 unfolding standing
@@ -33,7 +32,7 @@ pub goes_node : (at : Place) (op : Op) (ts : List Term) → GoesOn (node_form at
 unfolding node_form
 goes_node at op ts = goes_then (goes_unless _ at _) (λ _. goes_give)
 
-goes_single : {m : Act Term} → GoesOn m → GoesOn (single m)
+pub goes_single : {m : Act Term} → GoesOn m → GoesOn (single m)
 goes_single h = goes_then h (λ t. goes_give)
 
 -- operators
@@ -168,9 +167,3 @@ goes_moving_term l h at (shapes.list es) = goes_list_term l h (items es)
 goes_moving_term l h at (shapes.aggregate a gs c body) = goes_aggregate_term l h at a (items gs) c body
 goes_moving_term l h at (shapes.builtin f es) = goes_single (goes_builtin_term l h at f (items es))
 goes_moving_term l h at form = goes_give
-
-pub goes_term : (c : Code) (l : Level) → LevelGoesOn l → (e : Shape) → GoesOn (term_of_expression c l e)
-unfolding term_of_expression
-goes_term c l h (shapes.typed start at kind moving form) =
-    goes_if moving (goes_moving_term l h at form) (goes_then (goes_form c l h at kind form) (λ v. goes_standing v))
-goes_term c l h e = goes_give

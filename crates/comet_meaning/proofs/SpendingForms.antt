@@ -1,5 +1,5 @@
 -- Pure expressions only spend fuel where the pure parts in them do.
-use Rattle.std.proofs.Common.{◌≡◌, refl, sym, ℕ, ℤ, pos, Bool, true, false, not, ◌&&◌, List, [], ◌∷◌, ◌++◌, Option, Some, None, slice_get, slice_index_or, subst}
+use Rattle.std.proofs.Common.{◌≡◌, refl, sym, ℕ, ◌-◌, nat_lt, ℤ, pos, Bool, true, false, not, ◌&&◌, List, [], ◌∷◌, ◌++◌, Option, Some, None, slice_get, slice_index_or, subst}
 use Rattle.cbl_base.specs.declared.place.Place.{Place}
 use Rattle.comet_syntax.specs.declared.tree.expressions.ChainOperator.{ChainOperator}
 use Rattle.comet_syntax.specs.declared.tree.expressions.ChainOperator.TheVariants as chains
@@ -37,11 +37,12 @@ use Rattle.comet_meaning.specs.Models.{owns, domain_in, domain_at, domain_of}
 use Rattle.comet_meaning.specs.Generators.{Bound, with_bound, bind, generated, each_tuple}
 use Rattle.comet_meaning.specs.Builtins.{builtin_value, builtin_form}
 use Rattle.comet_meaning.specs.Aggregates.{Element, with_element, element_form, aggregate_value, aggregate_form}
-use Rattle.comet_meaning.specs.Methods.{fitting_number, method_value, object_value, method_form}
+use Rattle.comet_meaning.specs.Methods.{fitting_number, method_value, object_value, asked_value, asked_values, called_form, method_form}
 use Rattle.comet_meaning.specs.Purity.{is_pure, is_local, returned_by}
 use Rattle.comet_meaning.specs.Calls.{argument_form, arguments_form, body_form, called, call_form}
 use Rattle.comet_meaning.specs.Expressions.{set_form, value_of_form, value_of_expression}
 use Rattle.comet_meaning.specs.Spending.{OnlySpends, OnlyBinds}
+use Rattle.comet_meaning.proofs.SpendingSystems.{spends_value_of, spends_violations, spends_assign_delta, spends_swap_delta}
 use Rattle.comet_meaning.proofs.Spending.{binds, spends_then, binds_then, spends_give, spends_fault, spends_if, spends_give_or, spends_unless, spends_charge, spends_at, binds_each_in, spends_look, binds_put, spends_in_scope, binds_in_frame, spends_cells, spends_variables, spends_extent, spends_count_cells, spends_cell_of, spends_found_at}
 
 pub and_left : (a b : Bool) → (a && b) ≡ true → a ≡ true
@@ -79,7 +80,7 @@ unfolding read
 spends_read at (Value.Variable x) = spends_at {f = λ s. variable_value at x.index (solver_at s x.solver)} (λ o s. refl) (λ s. spends_variable_value at x.index _)
 spends_read at v = spends_give
 
-spends_value : (k : List Bool) (l : Level) → LevelSpends k l → (e : Shape) → is_pure k e ≡ true → OnlySpends (value l e)
+pub spends_value : (k : List Bool) (l : Level) → LevelSpends k l → (e : Shape) → is_pure k e ≡ true → OnlySpends (value l e)
 unfolding value
 spends_value k l h e p = spends_then (h.expr e p) (λ v. spends_read _ v)
 
@@ -87,7 +88,7 @@ pub spends_number : (k : List Bool) (l : Level) → LevelSpends k l → (e : Sha
 unfolding number
 spends_number k l h e p = spends_then (spends_value k l h e p) (λ v. spends_give)
 
-spends_truth : (k : List Bool) (l : Level) → LevelSpends k l → (e : Shape) → is_pure k e ≡ true → OnlySpends (truth l e)
+pub spends_truth : (k : List Bool) (l : Level) → LevelSpends k l → (e : Shape) → is_pure k e ≡ true → OnlySpends (truth l e)
 unfolding truth
 spends_truth k l h e p = spends_then (spends_value k l h e p) (λ v. spends_give)
 
@@ -290,6 +291,13 @@ spends_method_value at methods.ArraySize o v vs p = spends_then (spends_count_ce
 spends_method_value at methods.ReadInt o v vs p = impure methods.ReadInt p refl
 spends_method_value at methods.Close o v vs p = impure methods.Close p refl
 spends_method_value at methods.Domain o v vs p = spends_domain_of at v
+spends_method_value at methods.Violations o v vs p = spends_violations at v vs
+spends_method_value at methods.SystemAssignDelta o v vs p = spends_assign_delta at v vs
+spends_method_value at methods.SystemSwapDelta o v vs p = spends_swap_delta at v vs
+spends_method_value at methods.ObjectiveValue o v vs p = spends_value_of at v
+spends_method_value at methods.ObjectiveEvaluation o v vs p = spends_value_of at v
+spends_method_value at methods.ObjectiveAssignDelta o v vs p = spends_assign_delta at v vs
+spends_method_value at methods.ObjectiveSwapDelta o v vs p = spends_swap_delta at v vs
 spends_method_value at m o v vs p = spends_give
 
 spends_object_value : (k : List Bool) (l : Level) → LevelSpends k l → (m : Method) (o : Shape) → is_pure k o ≡ true → OnlySpends (object_value l m o)
@@ -297,10 +305,25 @@ unfolding object_value
 spends_object_value k l h methods.Domain o p = h.expr o p
 spends_object_value k l h m o p = spends_value k l h o p
 
+spends_asked_value : (k : List Bool) (l : Level) → LevelSpends k l → (itself : Bool) (e : Shape) → is_pure k e ≡ true → OnlySpends (asked_value l itself e)
+unfolding asked_value
+spends_asked_value k l h itself e p = spends_if itself (h.expr e p) (spends_value k l h e p)
+
+spends_asked_values : (k : List Bool) (l : Level) → LevelSpends k l → (n : ℕ) (es : List Shape) (vs : List Value) → AllPure k es → OnlySpends (asked_values l n es vs)
+unfolding asked_values
+spends_asked_values k l h n [] vs p = spends_give
+spends_asked_values k l h n (e ∷ es) vs p = spends_then (spends_asked_value k l h (nat_lt 0 n) e p.0) (λ v. spends_asked_values k l h (n - 1) es (vs ++ v ∷ []) p.1)
+
+spends_called_on : (k : List Bool) (l : Level) → LevelSpends k l → (at : Place) (m : Method) (o : Shape) (es : List Shape) → not (method_row m).impure ≡ true → is_pure k o ≡ true → AllPure k es → OnlySpends (called_form l at m o es)
+unfolding called_form
+spends_called_on k l h at m o es p q r =
+    spends_then (spends_object_value k l h m o q) (λ v. spends_then (spends_asked_values k l h _ es [] r) (λ vs. spends_then (spends_charge 1 at) (λ _. spends_method_value at m o v vs p)))
+
 spends_method : (k : List Bool) (l : Level) → LevelSpends k l → (at : Place) (m : Method) (o : Shape) (es : List Shape) → not (method_row m).impure ≡ true → is_pure k o ≡ true → AllPure k es → OnlySpends (method_form l at m o es)
 unfolding method_form
-spends_method k l h at m o es p q r =
-    spends_then (spends_object_value k l h m o q) (λ v. spends_then (spends_values k l h es [] r) (λ vs. spends_then (spends_charge 1 at) (λ _. spends_method_value at m o v vs p)))
+spends_method k l h at methods.Post o es p q r = impure methods.Post p refl
+spends_method k l h at methods.PostPart o es p q r = impure methods.PostPart p refl
+spends_method k l h at m o es p q r = spends_called_on k l h at m o es p q r
 
 -- calls
 

@@ -16,7 +16,7 @@ use Rattle.comet_meaning.specs.Program.{level, code_of}
 use Rattle.comet_meaning.specs.Spending.{OnlySpends}
 use Rattle.comet_meaning.proofs.Spending.{spends_then, spends_give, spends_fault, spends_charge}
 use Rattle.comet_meaning.proofs.SpendingForms.{and_left, and_right, LevelSpends, ReturnsPure, KnowsPure, spends_returned, spends_expression}
-use Rattle.comet_meaning.proofs.SpendingTerms.{spends_term}
+use Rattle.comet_meaning.proofs.SpendingConstraints.{spends_term}
 
 -- what is pure where some functions are known to be pure is so where more are
 

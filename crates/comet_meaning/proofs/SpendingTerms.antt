@@ -17,15 +17,15 @@ use Rattle.comet_meaning.specs.Values.{Value}
 use Rattle.comet_meaning.specs.State.{State}
 use Rattle.comet_meaning.specs.Terms.{standing_of, standing}
 use Rattle.comet_meaning.specs.Outcome.{Went, Act, always}
-use Rattle.comet_meaning.specs.Levels.{Code, Level}
+use Rattle.comet_meaning.specs.Levels.{Level}
 use Rattle.comet_meaning.specs.Parts.{items, term, terms, each_term, is_moving}
 use Rattle.comet_meaning.specs.Purity.{is_pure}
-use Rattle.comet_meaning.specs.TermForms.{node_form, single, unary_term, compare_term, linked_term, joined_form, operands_form, junction_form, links_term, chain_term, element_term, picked_term, index_term, grid_term, picked_cell, cell_term, list_term, Keyed, with_keyed, keyed_form, aggregated, aggregate_term, count_term, builtin_node, builtin_term, moving_term, term_of_expression}
+use Rattle.comet_meaning.specs.TermForms.{node_form, single, unary_term, compare_term, linked_term, joined_form, operands_form, junction_form, links_term, chain_term, element_term, picked_term, index_term, grid_term, picked_cell, cell_term, list_term, Keyed, with_keyed, keyed_form, aggregated, aggregate_term, count_term, builtin_node, builtin_term, moving_term}
 use Rattle.comet_meaning.specs.Spending.{Outside, with_outside, OnlySpends}
 use Rattle.comet_meaning.proofs.Spending.{binds, spends_then, spends_give, spends_fault, spends_if, spends_unless, spends_charge, spends_look, spends_in_scope, spends_found_at}
-use Rattle.comet_meaning.proofs.SpendingForms.{and_left, and_right, LevelSpends, AllPure, items_pure, KnowsPure, spends_number, spends_condition, binds_each_tuple, spends_form}
+use Rattle.comet_meaning.proofs.SpendingForms.{and_left, and_right, LevelSpends, AllPure, items_pure, spends_number, spends_condition, binds_each_tuple}
 
-spends_standing : (v : Value) → OnlySpends (standing v)
+pub spends_standing : (v : Value) → OnlySpends (standing v)
 unfolding standing
 spends_standing v = record { from = λ s. refl; inside = λ o s. taken v o s } where
   taken : (v : Value) (o : Outside) (s : State) → Went (standing_of (with_outside o s) v) (with_outside o s) ≡ Went (standing_of s v) (with_outside o s)
@@ -34,20 +34,20 @@ spends_standing v = record { from = λ s. refl; inside = λ o s. taken v o s } w
   taken (Value.Row xs) o s = refl
   taken v o s = refl
 
-spends_node : (at : Place) (op : Op) (ts : List Term) → OnlySpends (node_form at op ts)
+pub spends_node : (at : Place) (op : Op) (ts : List Term) → OnlySpends (node_form at op ts)
 unfolding node_form
 spends_node at op ts = spends_then (spends_unless _ at _) (λ _. spends_give)
 
-spends_single : {m : Act Term} → OnlySpends m → OnlySpends (single m)
+pub spends_single : {m : Act Term} → OnlySpends m → OnlySpends (single m)
 spends_single h = spends_then h (λ t. spends_give)
 
 -- parts
 
-spends_one_term : (k : List Bool) (l : Level) → LevelSpends k l → (e : Shape) → is_pure k e ≡ true → OnlySpends (term l e)
+pub spends_one_term : (k : List Bool) (l : Level) → LevelSpends k l → (e : Shape) → is_pure k e ≡ true → OnlySpends (term l e)
 unfolding term
 spends_one_term k l h e p = spends_then (h.term e p) (λ t. spends_give)
 
-spends_terms : (k : List Bool) (l : Level) → LevelSpends k l → (e : Shape) → is_pure k e ≡ true → OnlySpends (terms l e)
+pub spends_terms : (k : List Bool) (l : Level) → LevelSpends k l → (e : Shape) → is_pure k e ≡ true → OnlySpends (terms l e)
 unfolding terms
 spends_terms k l h e p = spends_then (h.term e p) (λ t. spends_give)
 
@@ -136,7 +136,7 @@ spends_with_keyed : (at : Place) (a : Aggregate) (key : ℤ) (xs : List Keyed) (
 spends_with_keyed at aggregates.All key xs t = spends_then (spends_unless _ at _) (λ _. spends_give)
 spends_with_keyed at a key xs t = spends_give
 
-spends_keyed : (k : List Bool) (l : Level) → LevelSpends k l → (at : Place) (a : Aggregate) (c body : Shape) (key : ℤ) (xs : List Keyed) → is_pure k c ≡ true → is_pure k body ≡ true → OnlySpends (keyed_form l at a c body key xs)
+pub spends_keyed : (k : List Bool) (l : Level) → LevelSpends k l → (at : Place) (a : Aggregate) (c body : Shape) (key : ℤ) (xs : List Keyed) → is_pure k c ≡ true → is_pure k body ≡ true → OnlySpends (keyed_form l at a c body key xs)
 unfolding keyed_form
 spends_keyed k l h at a c body key xs p q =
     spends_then (spends_condition k l h c p) (λ t. spends_if t (spends_then (spends_one_term k l h body q) (λ u. spends_with_keyed at a key xs u)) spends_give)
@@ -177,7 +177,7 @@ spends_builtin_term k l h at f es p = spends_then (spends_each_term k l h es [] 
 
 -- all of them
 
-spends_moving : (k : List Bool) (l : Level) → LevelSpends k l → (at : Place) (form : Shape) → is_pure k form ≡ true → OnlySpends (moving_term l at form)
+pub spends_moving : (k : List Bool) (l : Level) → LevelSpends k l → (at : Place) (form : Shape) → is_pure k form ≡ true → OnlySpends (moving_term l at form)
 unfolding moving_term
 spends_moving k l h at (shapes.name slot) p = spends_then (spends_look slot) (λ v. spends_standing v)
 spends_moving k l h at (shapes.parentheses e) p = h.term e p
@@ -197,9 +197,3 @@ spends_moving k l h at (shapes.aggregate a gs c body) p =
     spends_aggregate_term k l h at a (items gs) c body (items_pure k gs (and_left (is_pure k gs) (is_pure k c) q)) (and_right (is_pure k gs) (is_pure k c) q) (and_right (is_pure k gs && is_pure k c) (is_pure k body) p)
 spends_moving k l h at (shapes.builtin f es) p = spends_single (spends_builtin_term k l h at f (items es) (items_pure k es p))
 spends_moving k l h at form p = spends_give
-
-pub spends_term : (c : Code) → KnowsPure c → (l : Level) → LevelSpends c.pure l → (e : Shape) → is_pure c.pure e ≡ true → OnlySpends (term_of_expression c l e)
-unfolding term_of_expression
-spends_term c r l h (shapes.typed start at kind moving form) p =
-    spends_if moving (spends_moving c.pure l h at form p) (spends_then (spends_form c r l h at kind form p) (λ v. spends_standing v))
-spends_term c r l h e p = spends_give

@@ -1,6 +1,6 @@
--- The forms that run by now. A checked program that holds any other one is refused before it runs: constraint systems,
--- objectives and their sums, as declarations or as parameters; selectors and moves; events; distributions, solutions and
--- monitors; and `parall`. What such an object is asked stands only where there is one. A rule of this project.
+-- The forms that run by now. A checked program that holds any other one is refused before it runs: selectors and moves;
+-- events; a user's constraint; distributions, solutions and monitors, as declarations or as parameters; and `parall`. What
+-- such an object is asked stands only where there is one. A rule of this project.
 use Rattle.std.specs.Prelude.{Bool, true, false, ◌&&◌, List, Option, Some, None}
 use Rattle.std.specs.List.{list_all}
 use Rattle.checked_tree.specs.declared.kind.Kind.{Kind}
@@ -30,19 +30,20 @@ is_built_method methods.Contains = true
 is_built_method methods.SetSize = true
 is_built_method methods.ArraySize = true
 is_built_method methods.Domain = true
+is_built_method methods.Post = true
+is_built_method methods.Violations = true
+is_built_method methods.SystemAssignDelta = true
+is_built_method methods.SystemSwapDelta = true
+is_built_method methods.ObjectiveAssignDelta = true
+is_built_method methods.ObjectiveSwapDelta = true
+is_built_method methods.ObjectiveValue = true
+is_built_method methods.ObjectiveEvaluation = true
+is_built_method methods.PostPart = true
 is_built_method m = false
 
 abbrev pub is_built_builtin : Builtin → Bool
-is_built_builtin builtins.Abs = true
-is_built_builtin builtins.Min = true
-is_built_builtin builtins.Max = true
-is_built_builtin builtins.Count = true
-is_built_builtin builtins.Card = true
-is_built_builtin builtins.Member = true
-is_built_builtin builtins.Union = true
-is_built_builtin builtins.Inter = true
-is_built_builtin builtins.Minus = true
-is_built_builtin f = false
+is_built_builtin builtins.User = false
+is_built_builtin f = true
 
 abbrev pub is_built_expression : Shape → Bool
 is_built_expression (shapes.more x xs) = is_built_expression x && is_built_expression xs
@@ -87,6 +88,9 @@ is_built_variable v = are_sizes v.dimensions && is_built_option is_built_part v.
 abbrev pub is_built_object : Kind → Bool
 is_built_object kinds.Input = true
 is_built_object kinds.Solver = true
+is_built_object kinds.System = true
+is_built_object kinds.Objective = true
+is_built_object kinds.Total = true
 is_built_object k = false
 
 abbrev pub is_built_shown : Shown → Bool
@@ -98,7 +102,7 @@ is_built_deed deeds.nothing = true
 is_built_deed (deeds.declaring slot k e) = is_built_option is_built_part e
 is_built_deed (deeds.declaring_array slot k ds x) = are_sizes ds && is_built_option is_started x
 is_built_deed (deeds.declaring_variable v) = is_built_variable v
-is_built_deed (deeds.making slot k es) = is_built_object k
+is_built_deed (deeds.making slot k es) = is_built_object k && list_all is_built_part es
 is_built_deed (deeds.writing o t e) = is_built_part t && is_built_part e
 is_built_deed (deeds.swapping a b) = is_built_part a && is_built_part b
 is_built_deed (deeds.stepping x t) = is_built_part t
@@ -127,7 +131,6 @@ is_built_work w = false
 -- programs
 
 abbrev pub is_built_parameter : Kind → Bool
-is_built_parameter kinds.System = false
 is_built_parameter kinds.Monitor = false
 is_built_parameter k = true
 

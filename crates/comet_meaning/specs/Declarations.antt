@@ -1,5 +1,6 @@
 -- Declarations of numbers, truth values, ranges, sets, arrays of numbers and objects. An array's dimensions are
--- evaluated first; then each cell costs a unit, and gets its first value. From the language.
+-- evaluated first; then each cell costs a unit, and gets its first value. A system and a sum are made from a solver, and
+-- an objective from a term. From the language.
 use Rattle.std.specs.Prelude.{ℕ, ◌*◌, ℤ, pos, List, [], ◌∷◌, ◌++◌, length, Option, Some, None, nat_le, nat_eq, if◌then◌else◌}
 use Rattle.cbl_base.specs.declared.place.Place.{Place}
 use Rattle.cbl_base.specs.declared.faults.Limit.TheVariants as limits
@@ -11,15 +12,16 @@ use Rattle.checked_tree.specs.declared.statements.Way.{Way}
 use Rattle.checked_tree.specs.declared.statements.Way.TheVariants as ways
 use Rattle.checked_tree.specs.Shape.{Seen, whole}
 use Rattle.checked_tree.specs.Actions.{Started, Sized}
-use Rattle.comet_meaning.specs.Values.{Value, Number, Input, Range, Bounds, size_of, as_kind, first_value}
+use Rattle.comet_meaning.specs.Values.{Value, Nothing, Number, Input, Range, Bounds, size_of, as_kind, first_value, solver_of}
 use Rattle.comet_meaning.specs.Limits.{most_cells}
 use Rattle.comet_meaning.specs.State.{Cells}
 use Rattle.comet_meaning.specs.Outcome.{Went, Act, ◌>>=◌, give, unless, charge, each_in, always}
 use Rattle.comet_meaning.specs.Cells.{put, row_of, new_array}
 use Rattle.comet_meaning.specs.Levels.{Level}
-use Rattle.comet_meaning.specs.Parts.{value, number, bounds}
+use Rattle.comet_meaning.specs.Parts.{value, number, bounds, term}
 use Rattle.comet_meaning.specs.Taking.{read_array}
 use Rattle.comet_meaning.specs.Models.{make_solver}
+use Rattle.comet_meaning.specs.Systems.{make_system, make_sum, make_objective}
 
 -- names of one value
 
@@ -115,8 +117,21 @@ array_form l at slot sizes start = do
 unfoldable pub make_input : Act Value
 make_input = λ s. Went (Input (length s.inputs)) (record s { inputs = s.inputs ++ s.data_text ∷ [] })
 
--- an object that is declared, or that a name is given by `new`
-unfoldable pub object_form : Slot → Kind → Act (Unit {0})
-object_form slot kinds.Solver = make_solver >>= put slot
-object_form slot kinds.Input = make_input >>= put slot
-object_form slot k = give tt
+-- what is made in the solver that stands among the arguments
+unfoldable pub made_in : Level → (ℕ → Act Value) → List Seen → Act Value
+made_in l make (e ∷ []) = value l (whole e) >>= λ v. make (solver_of v)
+made_in l make es = give Nothing
+
+-- an objective of the term that stands there
+unfoldable pub made_of_term : Level → Place → List Seen → Act Value
+made_of_term l at (e ∷ []) = term l (whole e) >>= make_objective at
+made_of_term l at es = give Nothing
+
+-- an object that is declared, or that a name is given by `new`; the statement is the place of a system and of an objective
+unfoldable pub object_form : Level → Place → Slot → Kind → List Seen → Act (Unit {0})
+object_form l at slot kinds.Solver es = make_solver >>= put slot
+object_form l at slot kinds.Input es = make_input >>= put slot
+object_form l at slot kinds.System es = made_in l (make_system at) es >>= put slot
+object_form l at slot kinds.Total es = made_in l (make_sum at) es >>= put slot
+object_form l at slot kinds.Objective es = made_of_term l at es >>= put slot
+object_form l at slot k es = give tt

@@ -105,7 +105,7 @@ reading = program (
 
 -- `Solver<LS> m(); var{int} x(m) := 1; var{int} y(m) := 2;`, and then more
 
-abbrev variable_with : Slot → ℕ → Slot → Option Seen → Option Started → Deed
+abbrev pub variable_with : Slot → ℕ → Slot → Option Seen → Option Started → Deed
 variable_with slot n solver domain start = deeds.declaring_variable (record {
   slot = slot;
   name = [];
@@ -119,10 +119,10 @@ variable_with slot n solver domain start = deeds.declaring_variable (record {
 abbrev starting : ℕ → ℤ → Option Started
 starting n z = Some (record { way = ways.Each; value = literal n z })
 
-abbrev x_read : ℕ → Seen
+abbrev pub x_read : ℕ → Seen
 x_read n = use_of n kinds.Variable (Global 1)
 
-abbrev y_read : ℕ → Seen
+abbrev pub y_read : ℕ → Seen
 y_read n = use_of n kinds.Variable (Global 2)
 
 abbrev pub with_two : List Work → Whole
@@ -131,7 +131,7 @@ with_two ws = program (
     statement 17 (variable_with (Global 1) 17 (Global 0) None (starting 34 (pos 1))) ∷
     statement 37 (variable_with (Global 2) 37 (Global 0) None (starting 54 (pos 2))) ∷ ws)
 
-abbrev closing : ℕ → Work
+abbrev pub closing : ℕ → Work
 closing n = statement n (deeds.doing (record { start = column n; place = column (n + 2); kind = kinds.Nothing; moving = false; form = shapes.method methods.Close (whole (use_of n kinds.Solver (Global 0))) (wholes []) }))
 
 abbrev printing_both : ℕ → Work

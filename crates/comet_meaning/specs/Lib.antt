@@ -17,11 +17,16 @@ pub mod Odometer
 pub mod Aggregates
 pub mod Data
 pub mod Models
+pub mod Members
+pub mod Systems
+pub mod Posting
 pub mod Methods
 pub mod Purity
 pub mod Calls
 pub mod Expressions
 pub mod TermForms
+pub mod ConstraintForms
+pub mod InTerms
 pub mod Writes
 pub mod Declarations
 pub mod Printing
@@ -35,3 +40,4 @@ pub mod Onward
 pub mod OneEnd
 pub mod Spending
 pub mod Examples
+pub mod SystemExamples

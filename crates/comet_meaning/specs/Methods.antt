@@ -1,6 +1,6 @@
 -- Methods: the object, the arguments from the left, a unit for the call at the method's name, and then what it does.
 -- From the language.
-use Rattle.std.specs.Prelude.{ℤ, pos, List, [], ◌∷◌, length}
+use Rattle.std.specs.Prelude.{ℕ, ◌-◌, ℤ, pos, Bool, List, [], ◌∷◌, ◌++◌, length, nat_lt, if◌then◌else◌}
 use Rattle.cbl_base.specs.Arithmetic.{exact}
 use Rattle.cbl_base.specs.Sets.{is_member, with_member, without_member}
 use Rattle.cbl_base.specs.declared.place.Place.{Place}
@@ -12,9 +12,11 @@ use Rattle.comet_meaning.specs.Values.{Value, Nothing, Number, Truth, Set, numbe
 use Rattle.comet_meaning.specs.Outcome.{Act, ◌>>=◌, give, give_or, charge}
 use Rattle.comet_meaning.specs.Cells.{count_cells, look, put}
 use Rattle.comet_meaning.specs.Levels.{Level}
-use Rattle.comet_meaning.specs.Parts.{value, values}
+use Rattle.comet_meaning.specs.Parts.{value}
 use Rattle.comet_meaning.specs.Data.{next_number}
 use Rattle.comet_meaning.specs.Models.{close, domain_of}
+use Rattle.comet_meaning.specs.Systems.{of_whole, whole_value, violations, assign_delta, swap_delta}
+use Rattle.comet_meaning.specs.Posting.{post_constraint, post_part}
 
 -- a number that an object gives must fit
 abbrev pub fitting_number : Place → ℤ → Act Value
@@ -44,6 +46,13 @@ method_value at methods.ArraySize o v vs = count_cells v >>= λ n. give (Number 
 method_value at methods.ReadInt o v vs = next_number at v
 method_value at methods.Close o v vs = close at (solver_of v)
 method_value at methods.Domain o v vs = domain_of at v
+method_value at methods.Violations o v vs = violations at v vs
+method_value at methods.SystemAssignDelta o v vs = assign_delta at v vs
+method_value at methods.SystemSwapDelta o v vs = swap_delta at v vs
+method_value at methods.ObjectiveValue o v vs = of_whole (whole_value at) v
+method_value at methods.ObjectiveEvaluation o v vs = of_whole (whole_value at) v
+method_value at methods.ObjectiveAssignDelta o v vs = assign_delta at v vs
+method_value at methods.ObjectiveSwapDelta o v vs = swap_delta at v vs
 method_value at m o v vs = give Nothing
 
 -- the object's value; of a variable whose domain is asked the variable itself
@@ -51,9 +60,32 @@ unfoldable pub object_value : Level → Method → Shape → Act Value
 object_value l methods.Domain o = l.expr o
 object_value l m o = value l o
 
-unfoldable pub method_form : Level → Place → Method → Shape → List Shape → Act Value
-method_form l at m o es = do
+-- how many arguments, from the first, are variables themselves
+abbrev pub variables_asked : Method → ℕ
+variables_asked methods.Violations = 1
+variables_asked methods.SystemAssignDelta = 1
+variables_asked methods.SystemSwapDelta = 2
+variables_asked methods.ObjectiveAssignDelta = 1
+variables_asked methods.ObjectiveSwapDelta = 2
+variables_asked m = 0
+
+-- an argument: a variable itself, and else a value
+unfoldable pub asked_value : Level → Bool → Shape → Act Value
+asked_value l itself e = if itself then l.expr e else value l e
+
+-- the arguments from the left, so many of them variables themselves, behind those before
+unfoldable pub asked_values : Level → ℕ → List Shape → List Value → Act (List Value)
+asked_values l n [] vs = give vs
+asked_values l n (e ∷ es) vs = asked_value l (nat_lt 0 n) e >>= λ v. asked_values l (n - 1) es (vs ++ v ∷ [])
+
+unfoldable pub called_form : Level → Place → Method → Shape → List Shape → Act Value
+called_form l at m o es = do
   v ← object_value l m o
-  vs ← values l es []
+  vs ← asked_values l (variables_asked m) es []
   _ ← charge 1 at
   method_value at m o v vs
+
+unfoldable pub method_form : Level → Place → Method → Shape → List Shape → Act Value
+method_form l at methods.Post o es = post_constraint l at o es
+method_form l at methods.PostPart o es = post_part l at o es
+method_form l at m o es = called_form l at m o es

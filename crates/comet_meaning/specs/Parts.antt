@@ -1,6 +1,6 @@
 -- The parts of an expression, and their values. Outside terms a variable is read as its value, where it stands: before
 -- `close` only a free variable of numbers can be read. From the language.
-use Rattle.std.specs.Prelude.{ℕ, ℤ, Bool, true, not, ◌&&◌, ◌||◌, List, [], ◌∷◌, ◌++◌, Option, Some, None, slice_index_or, if◌then◌else◌}
+use Rattle.std.specs.Prelude.{ℕ, ℤ, pos, Bool, true, not, ◌&&◌, ◌||◌, List, [], ◌∷◌, ◌++◌, Option, Some, None, slice_index_or, if◌then◌else◌}
 use Rattle.cbl_base.specs.Inputs.{is_number_kind}
 use Rattle.cbl_base.specs.declared.input.Input.{Input}
 use Rattle.cbl_base.specs.declared.place.Place.{Place}
@@ -11,6 +11,7 @@ use Rattle.comet_meaning.specs.Values.{Value, Nothing, Variable, Bounds, number_
 use Rattle.term_model.specs.Users.{no_users}
 use Rattle.term_model.specs.declared.term.Term.{Term}
 use Rattle.model_values.specs.VarOutcomes.{outcome_of_var}
+use Rattle.model_view.specs.Building.{constant}
 use Rattle.comet_meaning.specs.Terms.{TermCells, single_of, several_of}
 use Rattle.comet_meaning.specs.Solvers.{SolverState, new_solver, has_variable, is_defined, kind_in}
 use Rattle.comet_meaning.specs.State.{State}
@@ -100,3 +101,11 @@ each_term l (e ∷ es) ts = term l e >>= λ t. each_term l es (ts ++ t ∷ [])
 abbrev pub is_moving : Shape → Bool
 is_moving (shapes.typed start place kind moving form) = moving
 is_moving x = not true
+
+-- a truth value without incremental variables is a constraint, which is violated once where it is false
+abbrev pub broken : Bool → Term
+broken b = constant (if b then pos 0 else pos 1)
+
+-- a part of a constraint
+unfoldable pub constraint : Level → Shape → Act Term
+constraint l e = if is_moving e then term l e else (truth l e >>= λ b. give (broken b))

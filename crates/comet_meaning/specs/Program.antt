@@ -12,7 +12,7 @@ use Rattle.comet_meaning.specs.Levels.{Code, Level, Flow}
 use Rattle.comet_meaning.specs.Parts.{place_of}
 use Rattle.comet_meaning.specs.Purity.{pure_functions}
 use Rattle.comet_meaning.specs.Expressions.{value_of_expression}
-use Rattle.comet_meaning.specs.TermForms.{term_of_expression}
+use Rattle.comet_meaning.specs.InTerms.{term_of_expression}
 use Rattle.comet_meaning.specs.Writes.{target_of_expression}
 use Rattle.comet_meaning.specs.Loops.{tasks_form}
 use Rattle.comet_meaning.specs.Statements.{work_place, meaning_of_statement}

@@ -27,10 +27,9 @@ use Rattle.comet_meaning.specs.Terms.{InTerm, Single, Several, term_row, term_ex
 use Rattle.comet_meaning.specs.Limits.{most_cells, most_term_depth}
 use Rattle.comet_meaning.specs.Outcome.{Act, ◌>>=◌, give, fault, unless, charge, always}
 use Rattle.comet_meaning.specs.Cells.{look, at_index, at_indices, found_at, in_scope}
-use Rattle.comet_meaning.specs.Levels.{Code, Level}
+use Rattle.comet_meaning.specs.Levels.{Level}
 use Rattle.comet_meaning.specs.Parts.{items, place_of, number, condition, term, terms, each_term, is_moving}
 use Rattle.comet_meaning.specs.Generators.{each_tuple}
-use Rattle.comet_meaning.specs.Expressions.{value_of_form}
 
 -- an operation of terms, which is no deeper than a term may be
 unfoldable pub node_form : Place → Op → List Term → Act Term
@@ -252,8 +251,3 @@ moving_term l at (shapes.list es) = list_term l (items es)
 moving_term l at (shapes.aggregate a gs c body) = aggregate_term l at a (items gs) c body
 moving_term l at (shapes.builtin f es) = single (builtin_term l at f (items es))
 moving_term l at form = give (Single (constant (pos 0)))
-
-unfoldable pub term_of_expression : Code → Level → Shape → Act InTerm
-term_of_expression c l (shapes.typed start at kind moving form) =
-    if moving then moving_term l at form else (value_of_form c l at kind form >>= standing)
-term_of_expression c l e = give (Single (constant (pos 0)))

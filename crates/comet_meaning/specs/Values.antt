@@ -33,6 +33,9 @@ pub data Value : Type 0 where
   Variable : VarId → Value
   Variables : ℕ → Value
   Solver : ℕ → Value
+  -- a constraint system, and an objective or a sum of terms, by the number of its solver and its own number there
+  System : ℕ → ℕ → Value
+  Objective : ℕ → ℕ → Value
   Input : ℕ → Value
 
 -- What is asked of a value. A checked program asks it only of a value that has it; of any other the answer is

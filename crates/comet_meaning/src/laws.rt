@@ -3,7 +3,7 @@ ghost use Rattle.std.specs.Prelude.{◌≡◌, ℕ, ◌≤◌, true, List, [], c
 ghost use Rattle.cbl_base.specs.declared.place.Place.{Place};
 ghost use Rattle.checked_tree.specs.Shape.{Shape, Seen, whole};
 ghost use Rattle.checked_tree.specs.Tasks.{Coded, Whole, Work};
-ghost use Rattle.cbl_base.specs.declared.faults.RunFault.TheVariants.{AlreadyClosed, Depth, DivideByZero, NoData, NotClosed, WrongSolver};
+ghost use Rattle.cbl_base.specs.declared.faults.RunFault.TheVariants.{AlreadyClosed, Depth, DivideByZero, NoData, NotClosed, OutOfRange, WrongSolver};
 ghost use Rattle.comet_meaning.specs.Outcome.{Faulted, SpentAt, then_do, give};
 ghost use Rattle.comet_meaning.specs.Loops.{while_form, turn_form, end_or};
 ghost use Rattle.comet_meaning.specs.State.{State};
@@ -13,6 +13,7 @@ ghost use Rattle.comet_meaning.specs.OneEnd.{HasOneEnd};
 ghost use Rattle.comet_meaning.specs.Onward.{IsFront};
 ghost use Rattle.comet_meaning.specs.Spending.{IsSpent, Outside, with_outside, leaving};
 ghost use Rattle.comet_meaning.specs.Examples as examples;
+ghost use Rattle.comet_meaning.specs.SystemExamples as systems;
 
 /// From each state a program has exactly one end.
 pub fn one_end()
@@ -118,4 +119,23 @@ pub fn aggregates_over_tuples()
 /// A later operand is evaluated only where it decides.
 pub fn later_operands_wait()
     ensures { meaning examples.deciding 1 [] ≡ record { end = Done; fuel = 0; printed = codes "false\n" } }
+{}
+
+/// A system is made before its solver is closed and asked behind that, about variables of its solver. One without
+/// constraints has no violations, and no move changes that; and a sum without terms is 0.
+pub fn systems_are_asked_when_closed()
+    ensures early { (meaning systems.asking_early 100 []).end ≡ Stopped (Faulted (examples.column 94) NotClosed) }
+    ensures late { (meaning systems.declaring_late 100 []).end ≡ Stopped (Faulted (examples.column 68) AlreadyClosed) }
+    ensures another { (meaning systems.asking_of_another 100 []).end ≡ Stopped (Faulted (examples.column 136) WrongSolver) }
+    ensures nothing { meaning systems.asking_of_nothing 13 [] ≡ record { end = Done; fuel = 0; printed = codes "00000" } }
+{}
+
+/// A constraint costs a unit at its name, and then each cell of its arrays one at that array, in order of the arguments.
+/// Behind these come its lengths and its window.
+pub fn lengths_come_behind_the_charges()
+    ensures enough { meaning systems.weighing 9 [] ≡ record { end = Stopped (Faulted (examples.column 91) OutOfRange); fuel = 0; printed = [] } }
+    ensures places { (meaning systems.weighing 8 []).end ≡ Stopped (SpentAt (examples.column 106)) }
+    ensures weights { (meaning systems.weighing 7 []).end ≡ Stopped (SpentAt (examples.column 100)) }
+    ensures name { (meaning systems.weighing 5 []).end ≡ Stopped (SpentAt (examples.column 91)) }
+    ensures window { (meaning systems.without_window 100 []).end ≡ Stopped (Faulted (examples.column 91) OutOfRange) }
 {}

@@ -20,12 +20,12 @@ ghost use Rattle.run_values.specs.Views.{bounds_seen, cells_seen};
 
 use cbl_base::Place;
 use checked_tree::{Dimension, Slot, Start, Typed, Way};
+use expression_forms::expressions::{bounds_of, number_of, value_of};
 use run_state::{Out, State};
 use run_steps::cells::{Extent, cell_count, put_named};
 use run_steps::effects::{make_array, push_number, take_list};
 use run_steps::inside::Within;
 use run_values::Stop;
-use term_forms::evaluating::expressions::{bounds_of, number_of, value_of};
 
 /// An array with dimensions: these are evaluated first, and then each cell gets its number.
 #[tactic(auto, unfolding(comet_meaning::specs::Declarations::array_form))]

@@ -14,6 +14,8 @@ ghost use Rattle.run_values.specs.Views.{bounds_seen};
 use crate::variable_arrays::declare_variables;
 use cbl_base::Place;
 use checked_tree::{Kind, Slot, Start, Typed, Variable, Way};
+use expression_forms::expressions::{bounds_of, number_of, value_of};
+use expression_forms::parts::single_term;
 use run_solvers::Beginning;
 use run_state::{Out, State};
 use run_steps::declaring::{as_defined, as_free, begin_variable, begins_with, variable_kind};
@@ -21,8 +23,6 @@ use run_steps::effects::declare_value;
 use run_steps::inside::{Defining, Within};
 use run_values::values::first_value;
 use run_values::{Bounds, Stop};
-use term_forms::evaluating::expressions::{bounds_of, number_of, value_of};
-use term_forms::parts::single_term;
 use term_model::VarKind;
 
 /// A name of one value, or of an array that is copied.

@@ -5,9 +5,9 @@
 //! layers above use that each does what the meaning of the form says.
 #![tactic(auto)]
 
-pub use term_forms as defining;
-pub use term_forms::evaluating as evaluating;
+pub use expression_forms as evaluating;
 
 pub mod array_declarations;
 pub mod declarations;
+pub mod objects;
 mod variable_arrays;

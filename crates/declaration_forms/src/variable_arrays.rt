@@ -15,6 +15,7 @@ use crate::array_declarations::extents_of;
 use crate::declarations::{beginning_of, domain_of};
 use cbl_base::{Place, VarId};
 use checked_tree::{Slot, Typed, Variable, Way};
+use expression_forms::expressions::value_of;
 use run_state::{Out, State};
 use run_steps::cells::{Extent, cell_count, put_named, with_index};
 use run_steps::declaring::{
@@ -22,7 +23,6 @@ use run_steps::declaring::{
 };
 use run_steps::inside::Defining;
 use run_values::Stop;
-use term_forms::evaluating::expressions::value_of;
 use term_model::VarDecl;
 
 /// How the variables of an array are made: the place of the declaration, what each is declared as, and their numbers

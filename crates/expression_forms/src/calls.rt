@@ -1,21 +1,19 @@
-//! Calls of functions and of methods.
+//! Calls of functions.
 ghost use Rattle.std.specs.Prelude.{◌≡◌, ℕ, List, [], Option, Some, map};
 ghost use Rattle.checked_tree.specs.Tasks.{function_of};
 ghost use Rattle.comet_meaning.specs.Calls as calls;
-ghost use Rattle.comet_meaning.specs.Methods.{method_form, object_value};
 ghost use Rattle.comet_meaning.specs.Program.{level};
 ghost use Rattle.run_steps.specs.Does.{Does};
 ghost use Rattle.run_steps.specs.Views.{code_seen, part, row};
 ghost use Rattle.run_state.specs.Views.{state_seen};
 ghost use Rattle.run_values.specs.Views.{value_seen};
 
-use crate::expressions::{value_as, value_of, values_of};
+use crate::expressions::value_as;
 use cbl_base::Place;
-use checked_tree::{Function, Kind, Method, Typed};
+use checked_tree::{Function, Kind, Typed};
 use run_state::{Out, State};
 use run_steps::code::{Code, function_at, given, is_handed_itself, is_pure, parameter_at};
 use run_steps::inside::Within;
-use run_steps::operands::call_on;
 use run_values::{Stop, Value};
 use std::mem;
 
@@ -118,41 +116,4 @@ fn execute_body<O: Out, W: Within<O>>(
     let flow = inside.execute(s, out, &callee.body)?;
     s.frame = frame;
     Ok(given(s.alloc, callee.result, flow))
-}
-
-/// A call of a method: the object, the arguments, a unit for the call, and then what it does.
-#[tactic(auto, unfolding(comet_meaning::specs::Methods::method_form))]
-pub fn evaluate_method<O: Out, W: Within<O>>(
-    s: &mut State,
-    out: &mut O,
-    inside: &W,
-    at: Place,
-    method: Method,
-    object: &Typed,
-    arguments: &[Typed],
-) -> Result<Value, Stop>
-    requires ready { W.is_ready inside.now }
-    ensures did { Does value_seen result (state_seen s.new (O.taken out.new)) (method_form (level (W.code inside.now) (W.depth inside.now)) at method (part object.now) (row arguments.now) (state_seen s.old (O.taken out.old))) }
-{
-    let value = object_value(s, out, inside, method, object)?;
-    let values = values_of(s, out, inside, arguments);
-    call_on(s, at, method, object, &value, values)
-}
-
-/// The object of a method: a variable whose domain is asked itself, and else a value.
-#[tactic(auto, unfolding(comet_meaning::specs::Methods::object_value))]
-fn object_value<O: Out, W: Within<O>>(
-    s: &mut State,
-    out: &mut O,
-    inside: &W,
-    method: Method,
-    object: &Typed,
-) -> Result<Value, Stop>
-    requires ready { W.is_ready inside.now }
-    ensures did { Does value_seen result (state_seen s.new (O.taken out.new)) (object_value (level (W.code inside.now) (W.depth inside.now)) method (part object.now) (state_seen s.old (O.taken out.old))) }
-{
-    match method {
-        Method::Domain => inside.evaluate(s, out, object),
-        _ => value_of(s, out, inside, object),
-    }
 }

@@ -12,7 +12,8 @@ ghost use Rattle.run_values.specs.Views.{bounds_seen, value_seen};
 
 use crate::aggregates::evaluate_aggregate;
 use crate::arrays::{evaluate_builtin, evaluate_cell, evaluate_index, evaluate_list, evaluate_set};
-use crate::calls::{evaluate_call, evaluate_method};
+use crate::calls::evaluate_call;
+use crate::methods::evaluate_method;
 use crate::operators::{
     evaluate_chain, evaluate_compare, evaluate_conditional, evaluate_range, evaluate_unary,
 };
@@ -20,14 +21,14 @@ use cbl_base::Place;
 use checked_tree::{Form, Kind, Typed};
 use run_state::{Out, State};
 use run_steps::code::Code;
-use run_steps::inside::Within;
+use run_steps::inside::{Defining, Within};
 use run_steps::operands::{as_bounds, as_held, as_number, as_truth, read_part};
 use run_steps::plain::{plain_name, plain_number, plain_truth, plain_value};
 use run_values::{Bounds, Stop, Value};
 
 /// The value of a form of an expression of this kind at this place.
 #[tactic(auto, unfolding(checked_tree::specs::Shape::shape_of, comet_meaning::specs::Expressions::value_of_form))]
-pub fn evaluate_form<O: Out, W: Within<O>>(
+pub fn evaluate_form<O: Out, W: Defining<O>>(
     s: &mut State,
     out: &mut O,
     inside: &W,
@@ -37,6 +38,7 @@ pub fn evaluate_form<O: Out, W: Within<O>>(
     form: &Form,
 ) -> Result<Value, Stop>
     requires ready { W.is_ready inside.now }
+    requires defines { W.can_define inside.now }
     requires same_code { W.code inside.now ≡ code_seen code.now }
     ensures did { Does value_seen result (state_seen s.new (O.taken out.new)) (value_of_form (W.code inside.now) (level (W.code inside.now) (W.depth inside.now)) at kind (shape_of form.now) (state_seen s.old (O.taken out.old))) }
 {

@@ -9,5 +9,8 @@ pub mod aggregates;
 pub mod arrays;
 pub mod calls;
 pub mod expressions;
+mod methods;
 pub mod operators;
+pub mod parts;
+mod posting;
 pub mod tuples;

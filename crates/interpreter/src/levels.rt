@@ -1,6 +1,7 @@
 //! One level of a run: a part is executed by its form, with room for one part fewer inside it.
 ghost use Rattle.std.specs.Prelude.{◌≡◌, ℕ, List, map};
 ghost use Rattle.checked_tree.specs.Tasks.{work_of};
+ghost use Rattle.comet_meaning.specs.InTerms.{is_constraint};
 ghost use Rattle.comet_meaning.specs.Limits.{most_depth};
 ghost use Rattle.comet_meaning.specs.Loops.{tasks_form};
 ghost use Rattle.comet_meaning.specs.Program.{level};
@@ -12,12 +13,13 @@ ghost use Rattle.run_steps.specs.Views.{code_seen, flow_seen, part};
 ghost use Rattle.run_values.specs.Views.{value_seen};
 
 use cbl_base::RunFault;
-use checked_tree::{Task, Typed};
+use checked_tree::{Kind, Task, Typed};
+use constraint_forms::constraints::constraint_form;
+use constraint_forms::defining::terms::{constant_term, moving_term};
 use run_state::{InTerm, Out, State, Target};
 use run_steps::code::{Code, Flow};
 use run_steps::inside::Inside;
 use run_values::{Stop, Value};
-use statement_forms::defining::terms::{constant_term, moving_term};
 use statement_forms::evaluating::expressions::evaluate_form;
 use statement_forms::statements::{execute_act, execute_all};
 use statement_forms::targets::target_of_form;
@@ -47,12 +49,15 @@ pub fn evaluate<O: Out>(
     let statement = |s: &mut State, out: &mut O, t: &Task| -> Result<Flow, Stop>
         ensures did { Does flow_seen result (state_seen s.new (O.taken out.new)) ((level (code_seen code.entry.now) room).stmt (work_of t.now) (state_seen s.old (O.taken out.old))) }
     { execute(s, out, code, room, t) };
+    let term = |s: &mut State, out: &mut O, e: &Typed| -> Result<InTerm, Stop>
+        ensures did { Does in_term_seen result (state_seen s.new (O.taken out.new)) ((level (code_seen code.entry.now) room).term (part e.now) (state_seen s.old (O.taken out.old))) }
+    { define(s, out, code, room, e) };
     let inside = Inside {
         code,
         room,
         evaluate: value,
         execute: statement,
-        define: (),
+        define: term,
         locate: (),
     };
     evaluate_form(s, out, &inside, code, e.place, e.kind, &e.form)
@@ -127,7 +132,11 @@ fn define<O: Out>(
         locate: (),
     };
     if e.moving {
-        moving_term(s, out, &inside, e.place, &e.form)
+        if is_constraint(e.kind) {
+            constraint_form(s, out, &inside, e.place, &e.form)
+        } else {
+            moving_term(s, out, &inside, e.place, &e.form)
+        }
     } else {
         constant_term(s, out, &inside, code, e.place, e.kind, &e.form)
     }
@@ -170,6 +179,13 @@ fn execute<O: Out>(
         locate: target,
     };
     execute_act(s, out, &inside, t.place, &t.act)
+}
+
+/// Whether an expression of this kind is a constraint.
+fn is_constraint(kind: Kind) -> bool
+    ensures { result ≡ is_constraint kind }
+{
+    matches!(kind, Kind::Constraint)
 }
 
 /// What statements do in order, from this state on, with room for 1000 parts inside each other. The state and what was

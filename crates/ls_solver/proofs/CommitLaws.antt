@@ -8,15 +8,15 @@ use Rattle.cbl_base.specs.declared.input.Input.{Input}
 use Rattle.cbl_base.specs.declared.place.Place.{Place}
 use Rattle.ls_events.specs.declared.change.VarChange.{VarChange}
 use Rattle.ls_solver.specs.Committing.{Commits, Fails, after_moves, commit_refusal, committed}
-use Rattle.ls_solver.specs.Kept.{AreFresh, IsKept}
-use Rattle.ls_solver.specs.KeptChanges.{change_in}
-use Rattle.ls_solver.specs.State.{SolverState}
-use Rattle.ls_solver.specs.Telling.{TellsChanges}
-use Rattle.ls_solver.specs.declared.committing.Told.{Told}
+use Rattle.solver_models.specs.Kept.{AreFresh}
+use Rattle.solver_models.specs.KeptChanges.{change_in}
+use Rattle.solver_models.specs.State.{SolverState}
+use Rattle.solver_models.specs.Telling.{TellsChanges}
+use Rattle.solver_models.specs.declared.telling.Told.{Told}
 use Rattle.ls_solver.specs.declared.fault.SolverFault.{SolverFault}
 use Rattle.ls_solver.specs.declared.fault.SolverFault.TheVariants.{At, NoMemory}
-use Rattle.ls_solver.proofs.ChangeLaws.{changes_are}
-use Rattle.model_values.specs.Fresh.{fresh_of}
+use Rattle.solver_models.proofs.ChangeLaws.{changes_are}
+use Rattle.model_values.specs.Fresh.{fresh_of, seen_values}
 use Rattle.term_model.specs.Users.{no_users}
 use Rattle.term_model.specs.declared.model.Model.{Model}
 
@@ -59,7 +59,7 @@ module _ (number : ℕ) (M : Model) (a after : List ℤ) (closed usable : Bool) 
 
 -- what was told, of the lists themselves
 pub told_of : (number : ℕ) (M : Model) (after' after : List ℤ) (before' before : List Input) (told : Told) → after' ≡ after → before' ≡ before → TellsChanges number M after' before' (Ok told) →
-    (is_ok (fresh_of no_users M after) ≡ true) × AreFresh M after told.values.items × (told.changes.items ≡ filter_map (change_in number before told.values.items) (range_with_len 0 (length before)))
+    (fresh_of no_users M after ≡ Ok (seen_values told.values)) × (told.changes.items ≡ filter_map (change_in number before told.values.vars.items) (range_with_len 0 (length before)))
 told_of number M after' after before' before told e f h =
     let at_after = subst (λ b. TellsChanges number M b before' (Ok told)) e h in
     subst (λ vs. TellsChanges number M after vs (Ok told)) f at_after

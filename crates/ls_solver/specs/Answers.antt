@@ -1,7 +1,9 @@
 -- A call answers the refusal that its state and arguments call for, where they call for one, and else it doesn't
 -- refuse; where memory ran out it may answer that instead. A rule of this project.
-use Rattle.std.specs.Prelude.{◌≡◌, Option, Some, None, Result, Ok, Err}
+use Rattle.std.specs.Prelude.{◌≡◌, ℤ, Option, Some, None, Result, Ok, Err}
 use Rattle.cbl_base.specs.declared.faults.RunFault.{RunFault}
+use Rattle.model_values.specs.declared.asked.AskStop.{AskStop}
+use Rattle.model_values.specs.declared.asked.AskStop.TheVariants as asked
 use Rattle.ls_solver.specs.declared.fault.SolverFault.{SolverFault}
 use Rattle.ls_solver.specs.declared.fault.SolverFault.TheVariants.{Run, At, Cyclic, NoMemory}
 
@@ -25,3 +27,11 @@ IsOnlyRefusal refusal NoMemory = ⊥
 abbrev pub Tells : {A : Type 0} → Option RunFault → Result A SolverFault → Type 0
 Tells refusal (Ok answer) = refusal ≡ None
 Tells refusal (Err fault) = IsOnlyRefusal refusal fault
+
+-- the answer to a question is this reply; where memory ran out it may be that instead
+abbrev pub IsReply : Result ℤ AskStop → Result ℤ SolverFault → Type 0
+IsReply reply (Ok number) = reply ≡ Ok number
+IsReply reply (Err (Run fault)) = reply ≡ Err (asked.Run fault)
+IsReply reply (Err (At place fault)) = reply ≡ Err (asked.Fault place fault)
+IsReply reply (Err (Cyclic cycle)) = ⊥
+IsReply reply (Err NoMemory) = Unit {0}

@@ -2,8 +2,8 @@
 use Rattle.std.specs.Prelude.{Option, None, if◌then◌else◌}
 use Rattle.cbl_base.specs.Inputs.{InputKind}
 use Rattle.cbl_base.specs.declared.ids.VarId.{VarId}
-use Rattle.ls_solver.specs.Ids.{is_own}
-use Rattle.ls_solver.specs.State.{SolverState}
+use Rattle.solver_models.specs.Ids.{is_own}
+use Rattle.solver_models.specs.State.{SolverState}
 use Rattle.term_model.specs.Kinds.{kinds_in}
 
 abbrev pub own_kind : SolverState → VarId → Option InputKind

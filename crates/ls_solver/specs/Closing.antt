@@ -4,9 +4,9 @@
 use Rattle.std.specs.Prelude.{◌≡◌, true, false, List, map, Result, Ok, Err, is_ok}
 use Rattle.cbl_base.specs.declared.faults.RunFault.TheVariants.{AlreadyClosed}
 use Rattle.cbl_base.specs.declared.ids.VarId.{VarId}
-use Rattle.ls_solver.specs.Ids.{id_at}
-use Rattle.ls_solver.specs.NamedCycle.{IsNamedCycle}
-use Rattle.ls_solver.specs.State.{SolverState}
+use Rattle.solver_models.specs.Ids.{id_at}
+use Rattle.solver_models.specs.NamedCycle.{IsNamedCycle}
+use Rattle.solver_models.specs.State.{SolverState}
 use Rattle.ls_solver.specs.declared.fault.SolverFault.{SolverFault}
 use Rattle.ls_solver.specs.declared.fault.SolverFault.TheVariants.{Run, At, Cyclic, NoMemory}
 use Rattle.model_values.specs.Fresh.{fresh_of}

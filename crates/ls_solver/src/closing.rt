@@ -4,12 +4,11 @@ ghost use Rattle.ls_solver.specs.Closing.{Closes};
 ghost use Rattle.term_model.specs.Definitions.{IsAcyclic};
 ghost use Rattle.term_model.specs.Wellformed.{HasDefinedSets};
 
-use crate::cycle::cycle_of;
-use crate::evaluating::evaluate;
 use crate::fault::SolverFault;
 use crate::solver::Solver;
 use cbl_base::{NoMemory, RunFault};
-use model_values::ModelStop;
+use model_values::{ModelStop, fresh};
+use solver_models::cycle_of;
 
 impl Solver {
     /// Closes the solver, and evaluates all. Refused with `AlreadyClosed`. `Cyclic` comes exactly where variables depend
@@ -44,7 +43,7 @@ impl Solver {
         requires acyclic { IsAcyclic self.old.model }
         ensures { Closes self.old self.new result }
     {
-        match evaluate(self.alloc, &self.model, &self.assignment) {
+        match fresh(self.alloc, &self.model, &self.assignment) {
             Ok(values) => {
                 self.values = values;
                 self.closed = true;

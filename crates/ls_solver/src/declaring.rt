@@ -1,64 +1,17 @@
 //! New variables.
-ghost use Rattle.std.specs.Prelude.{◌≡◌, true, [], ◌∷◌, ◌++◌, false, pos, length, IfOk, OnOk, OnErr};
+ghost use Rattle.std.specs.Prelude.{◌≡◌, true, None, pos, length, IfOk, OnOk, OnErr};
 ghost use Rattle.ls_solver.specs.Answers.{Answers};
-ghost use Rattle.ls_solver.specs.Declaring.{Declares, GetsVariable, variable_refusal};
-ghost use Rattle.ls_solver.specs.Ids.{id_at};
-ghost use Rattle.ls_solver.specs.State.{IsSameModel, IsUnchanged};
+ghost use Rattle.solver_models.specs.Declaring.{Declares, variable_refusal};
+ghost use Rattle.solver_models.specs.Ids.{id_at};
+ghost use Rattle.solver_models.specs.State.{IsUnchanged};
 ghost use Rattle.term_model.specs.declared.model.VarKind.TheVariants.{Number, Set};
 
 use crate::fault::SolverFault;
 use crate::solver::Solver;
 use cbl_base::limits::MAX_VARIABLES;
 use cbl_base::{Limit, NoMemory, RunFault, VarId};
-use term_model::{Model, VarDecl, VarKind};
-
-/// Puts a variable behind the others of a model.
-fn push_declaration(model: &mut Model, decl: VarDecl) -> Result<(), NoMemory>
-    ensures ok { OnOk result (GetsVariable model.old model.new decl) }
-    ensures err { OnErr result (IsSameModel model.old model.new) }
-{
-    model.vars.push(decl)?;
-    Ok(())
-}
-
-/// Puts a number and a mark behind the others.
-fn push_start(assignment: &mut Vec<i64>, marks: &mut Vec<bool>, start: i64) -> Result<(), NoMemory>
-    ensures assigned { OnOk result (assignment.new.items ≡ assignment.old.items ++ start ∷ []) }
-    ensures marked { OnOk result (marks.new.items ≡ marks.old.items ++ false ∷ []) }
-    ensures same_assignment { OnErr result (assignment.new.items ≡ assignment.old.items) }
-    ensures same_marks { OnErr result (marks.new.items ≡ marks.old.items) }
-{
-    assignment.push(start)?;
-    if marks.push(false).is_err() {
-        let _start = assignment.pop();
-        return Err(NoMemory);
-    }
-    Ok(())
-}
-
-/// Puts a variable with its number and its mark behind the others. With `NoMemory` all is as before.
-fn push_variable(
-    model: &mut Model,
-    assignment: &mut Vec<i64>,
-    marks: &mut Vec<bool>,
-    decl: VarDecl,
-    start: i64,
-) -> Result<(), NoMemory>
-    ensures declared { OnOk result (GetsVariable model.old model.new decl) }
-    ensures assigned { OnOk result (assignment.new.items ≡ assignment.old.items ++ start ∷ []) }
-    ensures marked { OnOk result (marks.new.items ≡ marks.old.items ++ false ∷ []) }
-    ensures same_model { OnErr result (IsSameModel model.old model.new) }
-    ensures same_assignment { OnErr result (assignment.new.items ≡ assignment.old.items) }
-    ensures same_marks { OnErr result (marks.new.items ≡ marks.old.items) }
-{
-    push_start(assignment, marks, start)?;
-    if push_declaration(model, decl).is_err() {
-        let _start = assignment.pop();
-        let _mark = marks.pop();
-        return Err(NoMemory);
-    }
-    Ok(())
-}
+use solver_models::push_variable;
+use term_model::{VarDecl, VarKind};
 
 impl Solver {
     /// Why there can't be one more variable.

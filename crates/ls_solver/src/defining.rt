@@ -1,98 +1,21 @@
 //! Definitions of variables.
-ghost use Rattle.std.specs.Prelude.{◌≡◌, true, None, [], ◌∷◌, ◌++◌, ◌<◌, ◌^◌, false, List, length, slice_set, IfOk, OnOk, OnErr};
+ghost use Rattle.std.specs.Prelude.{◌≡◌, true, false, None, [], OnOk, OnErr};
 ghost use Rattle.ls_solver.specs.Answers.{Answers};
-ghost use Rattle.ls_solver.specs.Defining.{Defines, GetsDefinition, are_too_many, define_refusal, distinct_with, early_refusal, is_own_definition, is_too_deep, size_refusal};
-ghost use Rattle.ls_solver.specs.Kept.{IsCounted, mark_at};
-ghost use Rattle.ls_solver.specs.State.{IsSameModel, IsUnchanged};
+ghost use Rattle.solver_models.specs.Defining.{Defines, define_refusal, distinct_with, early_refusal, is_own_definition, is_too_deep, size_refusal};
+ghost use Rattle.solver_models.specs.State.{IsUnchanged};
 ghost use Rattle.term_count.specs.Counting.{Counts};
 ghost use Rattle.term_model.specs.Kinds.{kind_of_term, kinds_in};
 ghost use Rattle.term_model.specs.Naming.{users_of};
-ghost use Rattle.term_model.specs.Subterms.{distinct_subterms, once, subterms_posted};
-ghost use Rattle.term_model.specs.declared.model.Posted.{Posted};
+ghost use Rattle.term_model.specs.Subterms.{distinct_subterms};
 
 use crate::fault::SolverFault;
-use crate::ids::{defines_given, is_within};
 use crate::solver::Solver;
 use cbl_base::limits::{MAX_TERM_DEPTH, MAX_TERM_NODES};
 use cbl_base::{Limit, NoMemory, RunFault, VarId};
-use std::alloc::Global;
+use solver_models::{counted_with, defines_given, is_within, mark, mark_at, push_definition};
 use std::mem;
 use term_count::Subterms;
-use term_model::{Definition, Model, Posted, Term, term_posted};
-
-/// Whether a variable has a mark.
-pub(crate) fn mark_at(marks: &[bool], index: u32) -> bool
-    ensures { result ≡ mark_at marks.now index }
-{
-    marks.get(index as usize).copied().unwrap_or(false)
-}
-
-/// Adds the term of what was posted.
-fn add_posted(
-    alloc: Global,
-    counted: &mut Subterms,
-    model: &Model,
-    posted: Posted,
-) -> Result<(), NoMemory>
-    ensures { OnOk result ((so_far : List Posted) → Counts counted.old (once (subterms_posted model.now so_far)) → Counts counted.new (once (subterms_posted model.now (so_far ++ posted ∷ [])))) }
-{
-    match term_posted(model, posted) {
-        Some(term) => counted.add(alloc, term),
-        None => Ok(()),
-    }
-}
-
-/// The distinct subterms of a model.
-fn counted_model(alloc: Global, model: &Model) -> Result<Subterms, NoMemory>
-    ensures { IfOk result (λ counted. Counts counted (distinct_subterms model.now)) }
-{
-    let mut counted = Subterms::new(alloc);
-    for turn in 0..model.posted.len() {
-        add_posted(alloc, &mut counted, model, model.posted[turn])?;
-    }
-    Ok(counted)
-}
-
-/// The distinct subterms of a model that were counted, or that are counted now.
-fn counted_or(alloc: Global, kept: Option<Subterms>, model: &Model) -> Result<Subterms, NoMemory>
-    requires { IsCounted kept model.now }
-    ensures { IfOk result (λ counted. Counts counted (distinct_subterms model.now)) }
-{
-    match kept {
-        Some(counted) => Ok(counted),
-        None => counted_model(alloc, model),
-    }
-}
-
-/// The distinct subterms of a model with a term.
-fn counted_with(
-    alloc: Global,
-    kept: Option<Subterms>,
-    model: &Model,
-    term: &Term,
-) -> Result<Subterms, NoMemory>
-    requires { IsCounted kept model.now }
-    ensures { IfOk result (λ counted. Counts counted (distinct_with (distinct_subterms model.now) term.now)) }
-{
-    let mut counted = counted_or(alloc, kept, model)?;
-    counted.add(alloc, term)?;
-    Ok(counted)
-}
-
-/// Puts a definition behind the others, and posts it last. With `NoMemory` all is as before.
-fn push_definition(model: &mut Model, definition: Definition) -> Result<(), NoMemory>
-    requires { length model.old.defs.items < 2 ^ 32 }
-    ensures ok { OnOk result (GetsDefinition model.old model.new definition) }
-    ensures err { OnErr result (IsSameModel model.old model.new) }
-{
-    let number = model.defs.len() as u32;
-    model.posted.push(Posted::Define(number))?;
-    if model.defs.push(definition).is_err() {
-        let _posted = model.posted.pop();
-        return Err(NoMemory);
-    }
-    Ok(())
-}
+use term_model::{Definition, Term};
 
 impl Solver {
     /// Why a variable can't have a definition, whatever the size of its term.
@@ -199,14 +122,5 @@ impl Solver {
             }
             Err(NoMemory) => Err(SolverFault::NoMemory),
         }
-    }
-}
-
-/// Marks a variable.
-fn mark(marks: &mut Vec<bool>, place: usize)
-    ensures { marks.new.items ≡ slice_set marks.old.items place true }
-{
-    if place < marks.len() {
-        marks[place] = true;
     }
 }

@@ -2,24 +2,28 @@
 //!
 //! It knows nothing of programs, statements or handlers. The layers above use that a solver is seen as its model, its
 //! assignment, and whether it is closed and usable; that each call makes of these exactly what it says, or refuses
-//! exactly where and as it says; that what is read of a variable is its fresh value; and that a commit tells the
-//! variables whose fresh values differ, in order of declaration.
+//! exactly where and as it says; that what is read of a variable, a system or an objective is its fresh value; that a
+//! delta, and a variable's violations, are what the definitions say of the asked system or objective alone; and that a
+//! commit tells the variables whose fresh values differ, in order of declaration.
 //!
-//! Each commit of a closed solver evaluates the whole model. What is read is kept, and wants no memory.
+//! Each commit of a closed solver evaluates the whole model, and each delta twice what is asked. What is read is kept, and
+//! wants no memory.
 #![tactic(auto)]
 
+mod adding;
 mod asking;
-mod changes;
 mod closing;
 mod committing;
-mod cycle;
 mod declaring;
 mod defining;
-mod evaluating;
 mod fault;
-mod ids;
 mod reading;
+mod replying;
 mod solver;
+mod totals;
+mod trial;
 
 pub use fault::SolverFault;
 pub use solver::Solver;
+pub use solver_models::{ObjectiveId, SystemId, TotalId};
+pub use trial::Trial;

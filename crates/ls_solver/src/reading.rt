@@ -1,48 +1,17 @@
-//! What can be read of a solver. None of it wants memory.
-ghost use Rattle.std.specs.Prelude.{◌≡◌, ◌<◌, ◌&&◌, ℤ, List, true, false, Some, None, length, slice_get, IfOk};
+//! What can be read of a solver's variables. None of it wants memory.
+ghost use Rattle.std.specs.Prelude.{◌≡◌, ◌&&◌, true, Some, None, slice_get, IfOk};
 ghost use Rattle.std.specs.Option.{option_map};
 ghost use Rattle.cbl_base.specs.Inputs.{number_kind, set_kind};
 ghost use Rattle.cbl_base.specs.declared.input.Input.TheVariants.{Int, Set};
 ghost use Rattle.ls_solver.specs.Answers.{Tells};
-ghost use Rattle.ls_solver.specs.Ids.{has_definition, is_own};
-ghost use Rattle.ls_solver.specs.Reading.{domain_refusal, fresh_value, set_refusal, value_refusal};
+ghost use Rattle.solver_models.specs.Ids.{has_definition, is_own};
+ghost use Rattle.solver_models.specs.Reading.{domain_refusal, fresh_value, set_refusal, value_refusal};
 ghost use Rattle.term_model.specs.Kinds.{kinds_in};
 
-use crate::defining::mark_at;
 use crate::fault::SolverFault;
-use crate::ids::is_given;
 use crate::solver::Solver;
-use cbl_base::{Input, IntSet, RunFault, VarId};
-
-/// The number at a place.
-fn number_in(values: &[Input], index: u32) -> i64
-    requires { (z : ℤ) × (slice_get values.now index ≡ Some (Int z)) }
-    ensures { slice_get values.now index ≡ Some (Int result) }
-{
-    match &values[index as usize] {
-        Input::Int(number) => *number,
-        Input::Set(_) => unreachable!(),
-    }
-}
-
-/// The set at a place.
-fn set_in(values: &[Input], index: u32) -> &IntSet
-    requires { (s : List ℤ) × (slice_get values.now index ≡ Some (Set s)) }
-    ensures { slice_get values.now index ≡ Some (Set result.now) }
-{
-    match &values[index as usize] {
-        Input::Set(set) => set,
-        Input::Int(_) => unreachable!(),
-    }
-}
-
-/// The number at a place of the assignment.
-fn start_in(assignment: &[i64], index: u32) -> i64
-    requires { index < length assignment.now }
-    ensures { slice_get assignment.now index ≡ Some result }
-{
-    assignment[index as usize]
-}
+use cbl_base::{IntSet, RunFault, VarId};
+use solver_models::{is_given, mark_at, number_at, number_in, set_in};
 
 impl Solver {
     /// Whether a variable is this solver's.
@@ -53,7 +22,7 @@ impl Solver {
     }
 
     /// Whether a variable is this solver's and has a definition.
-    #[tactic(auto, using(crate::proofs::MarkLaws::marked_is))]
+    #[tactic(auto, using(solver_models::proofs::MarkLaws::marked_is))]
     pub fn defines(&self, x: VarId) -> bool
         ensures { result ≡ (is_own self.now x && has_definition self.now.model x.index) }
     {
@@ -95,9 +64,9 @@ impl Solver {
         ensures { fresh_value self.now x.index ≡ Some (Int result) }
     {
         if self.closed {
-            number_in(&self.values, x.index)
+            number_in(&self.values.vars, x.index)
         } else {
-            start_in(&self.assignment, x.index)
+            number_at(&self.assignment, x.index)
         }
     }
 
@@ -124,7 +93,7 @@ impl Solver {
     {
         match self.set_refusal(x) {
             Some(fault) => Err(SolverFault::Run(fault)),
-            None => Ok(set_in(&self.values, x.index)),
+            None => Ok(set_in(&self.values.vars, x.index)),
         }
     }
 

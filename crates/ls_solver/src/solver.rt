@@ -1,9 +1,9 @@
 //! The solver, and what it keeps.
 ghost use Rattle.std.specs.Prelude.{◌≡◌, ◌<◌, ◌^◌, [], length};
-ghost use Rattle.ls_solver.specs.State.{IsNew};
+ghost use Rattle.solver_models.specs.State.{IsNew};
 ghost use Rattle.term_model.specs.Wellformed.{IsWellFormed};
 
-use cbl_base::Input;
+use model_values::Values;
 use std::alloc::Global;
 use std::marker::Model;
 use term_count::Subterms;
@@ -20,14 +20,14 @@ pub struct Solver {
     pub(crate) marks: Vec<bool>,
     /// The distinct subterms of the model; none where a count was broken off.
     pub(crate) terms: Option<Subterms>,
-    /// The value of each variable of a closed solver.
-    pub(crate) values: Vec<Input>,
+    /// The values of all variables, systems and objectives of a closed solver.
+    pub(crate) values: Values,
     pub(crate) closed: bool,
     pub(crate) usable: bool,
 }
 
 impl Model for Solver {
-    ghost use Rattle.ls_solver.specs.State.{SolverState};
+    ghost use Rattle.solver_models.specs.State.{SolverState};
 
     ghost Value = { SolverState };
 
@@ -36,11 +36,12 @@ impl Model for Solver {
 
     ghost coded = { Prim.hlevel (codes, terms_seen.the_row.coded) };
 
-    ghost use Rattle.ls_solver.specs.Kept.{IsKept};
+    ghost use Rattle.model_values.specs.Fresh.{seen_values};
+    ghost use Rattle.solver_models.specs.Kept.{IsKept};
 
     ghost view = { λ a. record { number = a.number; model = a.model; assignment = a.assignment.items; closed = a.closed; usable = a.usable } };
 
-    ghost invariant = { λ a. IsKept a.model a.assignment.items a.marks.items a.terms a.values.items a.closed a.usable };
+    ghost invariant = { λ a. IsKept a.model a.assignment.items a.marks.items a.terms (seen_values a.values) a.closed a.usable };
 }
 
 /// A model of nothing.
@@ -60,9 +61,18 @@ fn empty_model(alloc: Global) -> term_model::Model
     }
 }
 
+/// The values of nothing.
+fn no_values(alloc: Global) -> Values {
+    Values {
+        vars: Vec::new(alloc),
+        systems: Vec::new(alloc),
+        objectives: Vec::new(alloc),
+    }
+}
+
 impl Solver {
     /// A solver without variables, which is open. Its ids carry its number.
-    #[tactic(auto, using(crate::proofs::KeptLaws::empty_kept))]
+    #[tactic(auto, using(solver_models::proofs::KeptLaws::empty_kept))]
     pub fn new(alloc: Global, number: u32) -> Solver
         ensures { IsNew number result }
     {
@@ -73,7 +83,7 @@ impl Solver {
             assignment: Vec::new(alloc),
             marks: Vec::new(alloc),
             terms: None,
-            values: Vec::new(alloc),
+            values: no_values(alloc),
             closed: false,
             usable: true,
         }

@@ -1,11 +1,12 @@
 //! Models that are built and asked, with the values that the language's description gives.
 use cbl_base::{NoMemory, Place, RunFault, VarId};
 use cbl_operations::Op;
-use model_values::{AskStop, ModelStop, Move, NoUsers, Whole, delta, fresh, variable_violations};
+use model_values::{AskStop, ModelStop, Move, NoUsers, Whole, delta, fresh};
 use std::alloc::Global;
 use std::process::Abort;
 use std::test::*;
 use term_model::{Definition, Member, Model, Posted, Term, Total, VarDecl, VarKind, is_usable};
+use violation_shares::variable_violations;
 
 fn at(col: u32) -> Place {
     Place { line: 1, col }

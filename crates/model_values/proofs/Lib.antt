@@ -13,4 +13,3 @@ pub mod FreshLaws
 pub mod DeltaLaws
 pub mod ClosedLaws
 pub mod MarkLaws
-pub mod ShareLaws

@@ -11,5 +11,4 @@ pub mod Reach
 pub mod Settling
 pub mod Support
 pub mod VarOutcomes
-pub mod VariableViolations
 pub mod Wholes

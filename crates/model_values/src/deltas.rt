@@ -31,7 +31,7 @@ pub enum Move {
 /// What a system or an objective comes to that was declared at this place, where it is known what the variables
 /// come to.
 #[tactic(auto, using(crate::proofs::PartLaws::whole_some, crate::proofs::PartLaws::whole_none))]
-pub(crate) fn whole_outcome<U: UserValues>(
+pub fn whole_outcome<U: UserValues>(
     tables: &Tables<'_, U>,
     setting: &Setting<'_, U>,
     whole: Whole,
@@ -54,7 +54,7 @@ pub(crate) fn whole_outcome<U: UserValues>(
 }
 
 /// The same under an assignment.
-pub(crate) fn outcome_in<U: UserValues>(
+pub fn outcome_in<U: UserValues>(
     alloc: Global,
     model: &Model,
     assignment: &[i64],

@@ -16,30 +16,30 @@ use std::alloc::Global;
 use term_model::{Model, Term};
 
 /// What a term comes to: its value, or none.
-pub(crate) type Outcome = Option<Input>;
+pub type Outcome = Option<Input>;
 
 /// What a term is evaluated in: what computes the users' constraints, the model, and what its variables come to
 /// as far as that is known.
 #[derive(Drop)]
-pub(crate) struct Setting<'a, U> {
-    pub(crate) alloc: Global,
-    pub(crate) users: &'a U,
-    pub(crate) model: &'a Model,
-    pub(crate) cells: &'a [Option<Outcome>],
+pub struct Setting<'a, U> {
+    pub alloc: Global,
+    pub users: &'a U,
+    pub model: &'a Model,
+    pub cells: &'a [Option<Outcome>],
 }
 
 /// A subterm that fails, and its failure.
 #[derive(Clone, Copy)]
-pub(crate) struct Failing<'a> {
-    pub(crate) term: &'a Term,
-    pub(crate) failure: Failure,
+pub struct Failing<'a> {
+    pub term: &'a Term,
+    pub failure: Failure,
 }
 
 /// The values of several terms, where all have one.
-pub(crate) type Gathered = Option<Vec<Input>>;
+pub type Gathered = Option<Vec<Input>>;
 
 /// The values so far and one more, where all have one.
-pub(crate) fn gather(so_far: Gathered, outcome: Outcome) -> Result<Gathered, NoMemory>
+pub fn gather(so_far: Gathered, outcome: Outcome) -> Result<Gathered, NoMemory>
     ensures { IfOk result (λ r. listed r ≡ gather (listed so_far) outcome) }
 {
     match (so_far, outcome) {
@@ -54,14 +54,14 @@ pub(crate) fn gather(so_far: Gathered, outcome: Outcome) -> Result<Gathered, NoM
 
 /// The same set again.
 #[tactic(auto, using(crate::proofs::SetCopies::same_members))]
-pub(crate) fn copied_set(alloc: Global, set: &IntSet) -> Result<IntSet, NoMemory>
+pub fn copied_set(alloc: Global, set: &IntSet) -> Result<IntSet, NoMemory>
     ensures { IfOk result (λ s. s ≡ set.now) }
 {
     IntSet::from_slice(alloc, set.as_slice())
 }
 
 /// The same value again.
-pub(crate) fn copied(alloc: Global, input: &Input) -> Result<Input, NoMemory>
+pub fn copied(alloc: Global, input: &Input) -> Result<Input, NoMemory>
     ensures { IfOk result (λ x. x ≡ input.now) }
 {
     match input {
@@ -71,7 +71,7 @@ pub(crate) fn copied(alloc: Global, input: &Input) -> Result<Input, NoMemory>
 }
 
 /// The value in a cell again, where one is known.
-pub(crate) fn copied_outcome(alloc: Global, cell: &Option<Outcome>) -> Result<Outcome, NoMemory>
+pub fn copied_outcome(alloc: Global, cell: &Option<Outcome>) -> Result<Outcome, NoMemory>
     ensures { IfOk result (λ o. o ≡ known (Some cell.now)) }
 {
     match cell {
@@ -82,11 +82,7 @@ pub(crate) fn copied_outcome(alloc: Global, cell: &Option<Outcome>) -> Result<Ou
 }
 
 /// What a variable comes to, where it is known.
-pub(crate) fn outcome_at(
-    alloc: Global,
-    cells: &[Option<Outcome>],
-    index: u32,
-) -> Result<Outcome, NoMemory>
+pub fn outcome_at(alloc: Global, cells: &[Option<Outcome>], index: u32) -> Result<Outcome, NoMemory>
     ensures { IfOk result (λ o. o ≡ env_of cells.now index) }
 {
     match cells.get(index as usize) {
@@ -97,7 +93,7 @@ pub(crate) fn outcome_at(
 
 /// What a term comes to. Its subterms that fail are put behind those in the list, in post-order.
 #[tactic(auto, using(crate::proofs::Layers::inputs_of_term, crate::proofs::Layers::kind_of_outcome, crate::proofs::Kinded::kinds_gather))]
-pub(crate) fn evaluate<'a, U: UserValues>(
+pub fn evaluate<'a, U: UserValues>(
     setting: &Setting<'_, U>,
     term: &'a Term,
     failing: &mut Vec<Failing<'a>>,
@@ -136,7 +132,7 @@ pub(crate) fn evaluate<'a, U: UserValues>(
 }
 
 /// What a term comes to.
-pub(crate) fn term_outcome<U: UserValues>(
+pub fn term_outcome<U: UserValues>(
     setting: &Setting<'_, U>,
     term: &Term,
 ) -> Result<Outcome, NoMemory>

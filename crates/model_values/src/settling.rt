@@ -38,13 +38,13 @@ fn are_known(cells: &[Option<Outcome>], indices: &[u32]) -> bool
 /// What the outcomes of a model's variables are computed from: who computes the users' constraints, the model,
 /// the assignment, and for each variable its definition and the variables that this names.
 #[derive(Drop)]
-pub(crate) struct Tables<'a, U> {
-    pub(crate) alloc: Global,
-    pub(crate) users: &'a U,
-    pub(crate) model: &'a Model,
-    pub(crate) assignment: &'a [i64],
-    pub(crate) definitions: Vec<Option<u32>>,
-    pub(crate) named: Vec<Vec<u32>>,
+pub struct Tables<'a, U> {
+    pub alloc: Global,
+    pub users: &'a U,
+    pub model: &'a Model,
+    pub assignment: &'a [i64],
+    pub definitions: Vec<Option<u32>>,
+    pub named: Vec<Vec<u32>>,
 }
 
 /// What a free variable comes to: the number that the assignment gives it.
@@ -211,7 +211,7 @@ fn none_known(alloc: Global, count: usize) -> Result<Vec<Option<Outcome>>, NoMem
 }
 
 /// The tables of a model and an assignment.
-pub(crate) fn tables_of<'a, U>(
+pub fn tables_of<'a, U>(
     alloc: Global,
     users: &'a U,
     model: &'a Model,
@@ -235,9 +235,7 @@ pub(crate) fn tables_of<'a, U>(
 /// What all variables come to. The first pass goes in an order that puts each variable behind those that
 /// it depends on, so that no other is needed.
 #[tactic(auto, using(crate::proofs::Settled::right_start, crate::proofs::Settled::settled_some))]
-pub(crate) fn outcomes_of<U: UserValues>(
-    tables: &Tables<'_, U>,
-) -> Result<Vec<Option<Outcome>>, NoMemory>
+pub fn outcomes_of<U: UserValues>(tables: &Tables<'_, U>) -> Result<Vec<Option<Outcome>>, NoMemory>
     requires well_formed { IsWellFormed tables.now.model.now }
     requires sets { HasDefinedSets tables.now.model.now }
     requires acyclic { IsAcyclic tables.now.model.now }

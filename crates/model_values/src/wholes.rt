@@ -24,7 +24,7 @@ pub enum Whole {
 }
 
 /// Where a system or an objective was declared.
-pub(crate) fn place_of(model: &Model, whole: Whole) -> Place
+pub fn place_of(model: &Model, whole: Whole) -> Place
     requires { IsOf model.now whole }
     ensures { result ≡ place_of model.now whole }
 {
@@ -35,7 +35,7 @@ pub(crate) fn place_of(model: &Model, whole: Whole) -> Place
 }
 
 /// The member that was posted, where it is one of the system or objective.
-pub(crate) fn member_in(model: &Model, whole: Whole, posted: Posted) -> Option<&Member>
+pub fn member_in(model: &Model, whole: Whole, posted: Posted) -> Option<&Member>
     ensures { option_map (λ m. m.now) result ≡ member_in model.now whole posted }
 {
     let (totals, number, member) = match (whole, posted) {
@@ -52,13 +52,13 @@ pub(crate) fn member_in(model: &Model, whole: Whole, posted: Posted) -> Option<&
 
 /// The numbers of members so far, where all have one, and their weights.
 #[derive(Drop)]
-pub(crate) struct PartsHeld {
-    pub(crate) numbers: Option<Vec<i64>>,
-    pub(crate) weights: Vec<i64>,
+pub struct PartsHeld {
+    pub numbers: Option<Vec<i64>>,
+    pub weights: Vec<i64>,
 }
 
 /// No parts.
-pub(crate) fn no_parts(alloc: Global) -> PartsHeld
+pub fn no_parts(alloc: Global) -> PartsHeld
     ensures parts { seen result ≡ no_parts }
     ensures weighed { HasWeights (listed_numbers result.numbers) result.weights.items }
 {
@@ -84,7 +84,7 @@ fn gather_number(so_far: Option<Vec<i64>>, outcome: Outcome) -> Result<Option<Ve
 
 /// The parts so far and what was posted, where it is one of them.
 #[tactic(auto, using(crate::proofs::PartLaws::member_kinded, crate::proofs::PartLaws::part_added, crate::proofs::PartLaws::part_weighed))]
-pub(crate) fn add_posted<U: UserValues>(
+pub fn add_posted<U: UserValues>(
     setting: &Setting<'_, U>,
     whole: Whole,
     parts: PartsHeld,
@@ -121,14 +121,10 @@ fn parts_of<U: UserValues>(setting: &Setting<'_, U>, whole: Whole) -> Result<Par
 }
 
 /// A total, or its failure at the place where it was declared.
-pub(crate) type Sum = Result<i64, Failure>;
+pub type Sum = Result<i64, Failure>;
 
 /// The total of the parts of a system or an objective that was declared at this place, where all have a number.
-pub(crate) fn sum_of(
-    alloc: Global,
-    place: Place,
-    parts: &PartsHeld,
-) -> Result<Option<Sum>, NoMemory>
+pub fn sum_of(alloc: Global, place: Place, parts: &PartsHeld) -> Result<Option<Sum>, NoMemory>
     requires { HasWeights (listed_numbers parts.now.numbers) parts.now.weights.items }
     ensures { IfOk result (λ o. o ≡ sum_of place (listed_numbers parts.now.numbers) parts.now.weights.items) }
 {
@@ -145,7 +141,7 @@ pub(crate) fn sum_of(
 
 /// The total of a system or an objective that was declared at this place, where its members have values.
 #[tactic(auto, using(crate::proofs::PartLaws::sum_from))]
-pub(crate) fn sum_in<U: UserValues>(
+pub fn sum_in<U: UserValues>(
     setting: &Setting<'_, U>,
     whole: Whole,
     place: Place,

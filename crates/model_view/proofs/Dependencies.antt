@@ -97,7 +97,7 @@ are_items M i d h = by_test (nat_lt_or (length M.vars.items) i) where
 
 -- a plain twin has the same
 
-same_named : (defs : List Definition) (d : Option ℕ) → named_by (map plain_definition defs) d ≡ named_by defs d
+pub same_named : (defs : List Definition) (d : Option ℕ) → named_by (map plain_definition defs) d ≡ named_by defs d
 same_named defs None = refl
 same_named defs (Some d) = ap vars_named (same_term_of defs d) ∙ by_case (term_of defs d) where
   by_case : (x : Option Term) → vars_named (option_map plain_term x) ≡ vars_named x

@@ -37,7 +37,7 @@ use Rattle.model_view.proofs.PlainSubterms.{same_subterms, map_append, once_plai
 
 -- the lists of a plain model
 
-mapped_items : {X Y : Type 0} (f : X → Y) (v : Vec X Global) → (vec_of (map f v.items)).items ≡ map f v.items
+pub mapped_items : {X Y : Type 0} (f : X → Y) (v : Vec X Global) → (vec_of (map f v.items)).items ≡ map f v.items
 mapped_items f v = items_of_vec v (map f v.items) (length_map f v.items)
 
 pub plain_vars : (M : Model) → (plain_model M).vars.items ≡ M.vars.items
@@ -49,7 +49,7 @@ plain_defs M = mapped_items plain_definition M.defs
 pub plain_posted : (M : Model) → (plain_model M).posted.items ≡ M.posted.items
 plain_posted M = items_of_vec M.posted M.posted.items refl
 
-plain_totals : (M : Model) (side : Side) → totals_by (plain_model M) side ≡ map plain_total (totals_by M side)
+pub plain_totals : (M : Model) (side : Side) → totals_by (plain_model M) side ≡ map plain_total (totals_by M side)
 plain_totals M Systems = mapped_items plain_total M.systems
 plain_totals M Objectives = mapped_items plain_total M.objectives
 
@@ -101,7 +101,7 @@ by_number : (b : Bool) (x y : Option Member) → x ≡ option_map plain_member y
 by_number true x y e = e
 by_number false x y e = refl
 
-same_member_in : (M : Model) (whole : Whole) (p : Posted) → member_in (plain_model M) whole p ≡ option_map plain_member (member_in M whole p)
+pub same_member_in : (M : Model) (whole : Whole) (p : Posted) → member_in (plain_model M) whole p ≡ option_map plain_member (member_in M whole p)
 same_member_in M (System s) (Constrain system member) = by_number (nat_eq system s) _ _ (in_total M Systems s member)
 same_member_in M (Objective o) (Part objective member) = by_number (nat_eq objective o) _ _ (in_total M Objectives o member)
 same_member_in M (System s) (Define d) = refl
@@ -124,7 +124,7 @@ below_posted : (x : Option Term) → subterms_where (option_map plain_term x) �
 below_posted None = refl
 below_posted (Some t) = same_subterms t
 
-joined_posted : (M : Model) (ps : List Posted) → subterms_posted (plain_model M) ps ≡ map plain_term (subterms_posted M ps)
+pub joined_posted : (M : Model) (ps : List Posted) → subterms_posted (plain_model M) ps ≡ map plain_term (subterms_posted M ps)
 joined_posted M [] = refl
 joined_posted M (p ∷ ps) =
     ap (λ x. subterms_where x ++ subterms_posted (plain_model M) ps) (same_posted M p)
@@ -178,7 +178,7 @@ failure_same users env (Term-F.Node op args place) =
 same_failure : (users : ℕ → NumberRule) (env : ℕ → Outcome) (t : Term) → failure_of users env (plain_term t) ≡ failure_of users env t
 same_failure users env t = ap (failure_at users env) (plain_out t) ∙ failure_same users env (out-Term t)
 
-first_same : (users : ℕ → NumberRule) (env : ℕ → Outcome) (ts : List Term) → first_failure users env (map plain_term ts) ≡ first_failure users env ts
+pub first_same : (users : ℕ → NumberRule) (env : ℕ → Outcome) (ts : List Term) → first_failure users env (map plain_term ts) ≡ first_failure users env ts
 first_same users env [] = refl
 first_same users env (t ∷ ts) =
     ap (λ b. option_and_then (failure_of users env) (if b then Some (plain_term t) else find (fails users env) (map plain_term ts))) (ap is_some (same_failure users env t))
@@ -199,7 +199,7 @@ parts_same users env M whole parts (p ∷ ps) =
     ap (λ x. fold (add_posted users env (plain_model M) whole) x ps) (ap (with_part users env parts) (same_member_in M whole p) ∙ part_same users env parts (member_in M whole p))
     ∙ parts_same users env M whole (add_posted users env M whole parts p) ps
 
-sum_same : (users : ℕ → NumberRule) (M : Model) (env : ℕ → Outcome) (whole : Whole) (place : Place) → sum_in users (plain_model M) env whole place ≡ sum_in users M env whole place
+pub sum_same : (users : ℕ → NumberRule) (M : Model) (env : ℕ → Outcome) (whole : Whole) (place : Place) → sum_in users (plain_model M) env whole place ≡ sum_in users M env whole place
 sum_same users M env whole place =
     ap (λ ps. sum_of place (parts_in users env (plain_model M) whole ps).numbers (parts_in users env (plain_model M) whole ps).weights) (plain_posted M)
     ∙ ap (λ parts. sum_of place parts.numbers parts.weights) (parts_same users env M whole no_parts M.posted.items)

@@ -87,7 +87,7 @@ same_subterms = ind-Term IsSameBelow (λ x y is. subst (λ z. IsSameBelow (roll-
 
 -- distinct ones
 
-any_plain : (t : Term) (ts : List Term) → list_any (same_term (plain_term t)) (map plain_term ts) ≡ list_any (same_term t) ts
+pub any_plain : (t : Term) (ts : List Term) → list_any (same_term (plain_term t)) (map plain_term ts) ≡ list_any (same_term t) ts
 any_plain t [] = refl
 any_plain t (u ∷ us) = ap (λ b. b || list_any (same_term (plain_term t)) (map plain_term us)) (same_both t u) ∙ ap (λ b. same_term t u || b) (any_plain t us)
 

@@ -1,4 +1,5 @@
 pub mod Four
 pub mod GoingOn
+pub mod Tops
 pub mod Trees
 pub mod Undone

@@ -14,7 +14,7 @@ pub use raising::{
     link, name_operand, raise, raise_name, raise_to_comparison, raise_to_conjunction,
     raise_to_range, raise_to_total, suffix,
 };
-pub use stacks::{Stacks, put, put_before, take, take_behind};
+pub use stacks::{Stacks, put, put_before, put_first, put_made, take, take_behind};
 pub use tails::{
     Behind, Branches, Compared, DimensionRest, IntRest, NamedRest, NewValue, Pair, PairRest,
     ParameterType, UpTo, VariableRest, WriteRest,

@@ -3,7 +3,7 @@ ghost use Rattle.std.specs.Prelude.{◌≡◌, IfOk, map, reverse};
 ghost use Rattle.comet_syntax.specs.Written.Expressions.{written, written_link, written_suffix, chain, postfix_by};
 ghost use Rattle.parse_stacks.specs.Raised.{linked, with_suffixes, compared_with, ranged, branched, called_by, named_operand, total_of, range_level, comparison_level, conjunction_level, raised};
 
-use crate::boxes::beside;
+use crate::boxes::{beside, beside_two, box_three, box_two};
 use crate::tails::{Behind, Branches, Compared, UpTo};
 use cbl_base::NoMemory;
 use comet_syntax::tree::{Argument, Expression, Link, Name, Suffix};
@@ -72,8 +72,7 @@ fn compare(
     match behind {
         None => Ok(left),
         Some(behind) => {
-            let left = Box::new(alloc, left)?;
-            let right = Box::new(alloc, behind.right)?;
+            let (left, right) = box_two(alloc, left, behind.right)?;
             Ok(Expression::Comparison {
                 left,
                 comparison: behind.comparison,
@@ -91,8 +90,7 @@ fn range(alloc: Global, low: Expression, behind: Option<UpTo>) -> Result<Express
     match behind {
         None => Ok(low),
         Some(behind) => {
-            let low = Box::new(alloc, low)?;
-            let high = Box::new(alloc, behind.high)?;
+            let (low, high) = box_two(alloc, low, behind.high)?;
             Ok(Expression::Range {
                 low,
                 place: behind.place,
@@ -109,9 +107,7 @@ fn branch(alloc: Global, test: Expression, behind: Option<Branches>) -> Result<E
     match behind {
         None => Ok(test),
         Some(behind) => {
-            let test = Box::new(alloc, test)?;
-            let then = Box::new(alloc, behind.then)?;
-            let otherwise = Box::new(alloc, behind.otherwise)?;
+            let (test, then, otherwise) = box_three(alloc, test, behind.then, behind.otherwise)?;
             Ok(Expression::Conditional {
                 test,
                 then,
@@ -130,7 +126,7 @@ pub fn raise_to_total(
 ) -> Result<Expression, NoMemory>
     ensures { IfOk result (λ e. written e ≡ total_of (written operand) product total) }
 {
-    let operand = link(alloc, operand, product)?;
+    let (operand, total) = beside(link(alloc, operand, product), total)?;
     let all = link(alloc, operand, total)?;
     Ok(all)
 }
@@ -145,7 +141,7 @@ pub fn raise_to_range(
 ) -> Result<Expression, NoMemory>
     ensures { IfOk result (λ e. written e ≡ range_level (written operand) product total up_to) }
 {
-    let low = raise_to_total(alloc, operand, product, total)?;
+    let (low, up_to) = beside(raise_to_total(alloc, operand, product, total), up_to)?;
     let all = range(alloc, low, up_to)?;
     Ok(all)
 }
@@ -161,7 +157,8 @@ pub fn raise_to_comparison(
 ) -> Result<Expression, NoMemory>
     ensures { IfOk result (λ e. written e ≡ comparison_level (written operand) product total up_to compared) }
 {
-    let left = raise_to_range(alloc, operand, product, total, up_to)?;
+    let left = raise_to_range(alloc, operand, product, total, up_to);
+    let (left, compared) = beside(left, compared)?;
     let all = compare(alloc, left, compared)?;
     Ok(all)
 }
@@ -178,7 +175,8 @@ pub fn raise_to_conjunction(
 ) -> Result<Expression, NoMemory>
     ensures { IfOk result (λ e. written e ≡ conjunction_level (written operand) product total up_to compared conjunction) }
 {
-    let first = raise_to_comparison(alloc, operand, product, total, up_to, compared)?;
+    let first = raise_to_comparison(alloc, operand, product, total, up_to, compared);
+    let (first, conjunction) = beside(first, conjunction)?;
     let all = link(alloc, first, conjunction)?;
     Ok(all)
 }
@@ -195,9 +193,10 @@ pub fn raise(alloc: Global, operand: Expression, behind: Behind) -> Result<Expre
         behind.up_to,
         behind.compared,
         behind.conjunction,
-    )?;
-    let test = link(alloc, first, behind.disjunction)?;
-    let all = branch(alloc, test, behind.branches)?;
+    );
+    let (first, disjunction, branches) = beside_two(first, behind.disjunction, behind.branches)?;
+    let (test, branches) = beside(link(alloc, first, disjunction), branches)?;
+    let all = branch(alloc, test, branches)?;
     Ok(all)
 }
 
@@ -223,7 +222,7 @@ pub fn name_operand(
 ) -> Result<Expression, NoMemory>
     ensures { IfOk result (λ e. written e ≡ named_operand name called suffixes) }
 {
-    let primary = call(alloc, name, called)?;
+    let (primary, suffixes) = beside(call(alloc, name, called), suffixes)?;
     let all = suffix(alloc, primary, suffixes)?;
     Ok(all)
 }

@@ -1,5 +1,5 @@
 //! The values of what a listing says, by their types: a stack for each, with the top at its end.
-ghost use Rattle.std.specs.Prelude.{◌≡◌, ◌<◌, ◌∷◌, length, reverse, IfOk};
+ghost use Rattle.std.specs.Prelude.{◌≡◌, ◌<◌, ◌∷◌, List, Vec, length, reverse, IfOk, Ok};
 ghost use Rattle.parse_stacks.specs.Values.{empty_stacks, state};
 
 use crate::tails::{
@@ -145,6 +145,14 @@ pub fn put<T: Drop>(stack: &mut Vec<T>, value: T) -> Result<(), NoMemory>
     Ok(())
 }
 
+/// Puts what was made on top of a stack.
+pub fn put_made<T: Drop>(stack: &mut Vec<T>, made: Result<T, NoMemory>) -> Result<(), NoMemory>
+    ensures { IfOk result (λ _. (value : T) × (made ≡ Ok value) × (reverse stack.new.items ≡ value ∷ reverse stack.old.items)) }
+{
+    let value = made?;
+    put(stack, value)
+}
+
 /// A list, whose last member stands first, with one more before all.
 pub fn put_before<T: Drop>(all: Vec<T>, first: T) -> Result<Vec<T>, NoMemory>
     ensures { IfOk result (λ more. reverse more.items ≡ first ∷ reverse all.items) }
@@ -152,6 +160,16 @@ pub fn put_before<T: Drop>(all: Vec<T>, first: T) -> Result<Vec<T>, NoMemory>
     let mut more = all;
     put(&mut more, first)?;
     Ok(more)
+}
+
+/// Puts one more before all members of the list on top of a stack, whose last member stands first.
+pub fn put_first<T: Drop>(lists: &mut Vec<Vec<T>>, first: T) -> Result<(), NoMemory>
+    requires { 0 < length lists.old.items }
+    ensures { IfOk result (λ _. (more : Vec T Global) × (others : List (Vec T Global)) × (reverse lists.old.items ≡ more ∷ others)
+        × (all : Vec T Global) × (reverse all.items ≡ first ∷ reverse more.items) × (reverse lists.new.items ≡ all ∷ others)) }
+{
+    let more = take(lists);
+    put_made(lists, put_before(more, first))
 }
 
 /// Takes what stands behind an operand, level by level: the four topmost lists of links, and the tops of the other

@@ -49,7 +49,21 @@ fn is_built_variable(variable: &Variable) -> bool
 fn is_built_object(kind: Kind) -> bool
     ensures { result ≡ built.is_built_object kind }
 {
-    matches!(kind, Kind::Input | Kind::Solver)
+    matches!(
+        kind,
+        Kind::Input | Kind::Solver | Kind::System | Kind::Objective | Kind::Total
+    )
+}
+
+fn are_built_arguments(arguments: &[Typed]) -> bool
+    ensures { result ≡ list_all built.is_built_part (map seen arguments.now) }
+{
+    for argument in arguments {
+        if !is_built_part(argument) {
+            return false;
+        }
+    }
+    true
 }
 
 fn are_built_shown(printed: &[Printed]) -> bool
@@ -86,7 +100,11 @@ pub(crate) fn is_built_action(action: &Action) -> bool
             ..
         } => are_built_dimensions(dimensions) && is_built_start(start),
         Action::DeclareVariable(variable) => is_built_variable(variable),
-        Action::Make { kind, .. } => is_built_object(*kind),
+        Action::Make {
+            kind,
+            arguments,
+            ..
+        } => is_built_object(*kind) && are_built_arguments(arguments),
         Action::Write { target, value, .. } => is_built_part(target) && is_built_part(value),
         Action::Swap { left, right } => is_built_part(left) && is_built_part(right),
         Action::Step { target, .. } => is_built_part(target),

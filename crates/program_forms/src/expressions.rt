@@ -21,24 +21,22 @@ fn is_built_method(method: Method) -> bool
             | Method::SetSize
             | Method::ArraySize
             | Method::Domain
+            | Method::Post
+            | Method::Violations
+            | Method::SystemAssignDelta
+            | Method::SystemSwapDelta
+            | Method::ObjectiveAssignDelta
+            | Method::ObjectiveSwapDelta
+            | Method::ObjectiveValue
+            | Method::ObjectiveEvaluation
+            | Method::PostPart
     )
 }
 
 fn is_built_builtin(builtin: Builtin) -> bool
     ensures { result ≡ built.is_built_builtin builtin }
 {
-    matches!(
-        builtin,
-        Builtin::Abs
-            | Builtin::Min
-            | Builtin::Max
-            | Builtin::Count
-            | Builtin::Card
-            | Builtin::Member
-            | Builtin::Union
-            | Builtin::Inter
-            | Builtin::Minus
-    )
+    !matches!(builtin, Builtin::User)
 }
 
 /// Whether it holds only forms that run by now.

@@ -10,7 +10,7 @@ use checked_tree::{Checked, Function, Kind, Task};
 fn is_built_parameter(kind: Kind) -> bool
     ensures { result ≡ built.is_built_parameter kind }
 {
-    !matches!(kind, Kind::System | Kind::Monitor)
+    !matches!(kind, Kind::Monitor)
 }
 
 fn are_built_parameters(kinds: &[Kind]) -> bool

@@ -1,2 +1,3 @@
 pub mod MethodStops
+pub mod SystemLaws
 pub mod WithLaws

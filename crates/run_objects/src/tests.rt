@@ -73,7 +73,7 @@ fn doubled(rt: &HostRuntime) -> Result<State, Fail> {
     let alloc = rt.alloc();
     let mut s = State::new(alloc, 100, Vec::new(alloc));
     let solver = Value::Solver(0);
-    let made = make_object(&mut s, Slot::Global(0), Kind::Solver);
+    let made = make_solver(&mut s);
     let x = new_variable(
         &mut s,
         AT,
@@ -85,7 +85,7 @@ fn doubled(rt: &HostRuntime) -> Result<State, Fail> {
     let both = vec![in alloc; Built::variable(X), Built::variable(X)]?;
     let double = Built::node(AT, Op::Add, both);
     match (made, x, double) {
-        (Ok(()), Ok(_), Ok(double)) => {
+        (Ok(_), Ok(_), Ok(double)) => {
             let name = Text::from_slice(alloc, b"double")?;
             match new_variable(&mut s, AT, &solver, TEN, name, Beginning::Defined(double)) {
                 Ok(_) => Ok(s),
@@ -149,10 +149,7 @@ fn methods_give(rt: HostRuntime) -> Result<(), Fail> {
         assert_eq!(rt; number(inserted), Ok(0));
     }
     assert_eq!(rt; size(&mut s, &set, slot), Ok(1));
-    assert_eq!(rt;
-        ended(make_object(&mut s, Slot::Global(0), Kind::Input)),
-        End::On
-    );
+    assert_eq!(rt; number(s.make_input()), Ok(0));
     let input = Value::Input(0);
     let first = method(&mut s, AT, Method::ReadInt, &set, &input, &[]);
     assert_eq!(rt; number(first), Ok(-12));

@@ -27,7 +27,7 @@ pub tested : {A : Type 0} (b : Bool) (at : Place) (f : RunFault) (x : A) (k : �
 tested true at f x k act made s e = e
 tested false at f x k act made s e = refl
 
-tested_not : {A : Type 0} (b : Bool) (at : Place) (f : RunFault) (x : A) (k : ℕ) (act : Unit {0} → Act A) (made : Made) (s : State) → act tt s ≡ changed x k made s → (unless (not b) at f >>= act) s ≡ changed x k (if b then refused at f else made) s
+pub tested_not : {A : Type 0} (b : Bool) (at : Place) (f : RunFault) (x : A) (k : ℕ) (act : Unit {0} → Act A) (made : Made) (s : State) → act tt s ≡ changed x k made s → (unless (not b) at f >>= act) s ≡ changed x k (if b then refused at f else made) s
 tested_not true at f x k act made s e = refl
 tested_not false at f x k act made s e = e
 
@@ -36,7 +36,7 @@ given : {A : Type 0} (x : A) (k : ℕ) (made : Made) (s : State) → (changed {A
 given x k (Ok m) s = refl
 given x k (Err h) s = refl
 
-then_given : {A : Type 0} (act : Act (Unit {0})) (x : A) (k : ℕ) (made : Made) (s : State) → act s ≡ changed {A = Unit {0}} tt k made s → (act >>= λ _. give x) s ≡ changed x k made s
+pub then_given : {A : Type 0} (act : Act (Unit {0})) (x : A) (k : ℕ) (made : Made) (s : State) → act s ≡ changed {A = Unit {0}} tt k made s → (act >>= λ _. give x) s ≡ changed x k made s
 then_given act x k made s e = ap (λ o. then_do o (λ _. give x)) e ∙ given x k made s
 
 -- evaluating

@@ -105,8 +105,15 @@ early_constant S x t u constant e =
     both false b h = let c : false ≡ true = h in cc
 
 -- ---- the size
-le_from : (a n : ℕ) → a ≤ n → not (nat_le a n) ≡ false
+pub le_from : (a n : ℕ) → a ≤ n → not (nat_le a n) ≡ false
 le_from a n le = ap not (le-leb a n le)
+
+pub room_seen : (S : solvers.SolverState) (names : List (List ℕ)) (waiting : Option (List (Option ℤ))) (u : Term) → has_room (solver_seen S names waiting) (plain_term u) ≡ nat_le (length (distinct_with (distinct_subterms S.model) u)) MAX_TERM_NODES
+room_seen S names waiting u =
+    ap (λ (ts : List Term). nat_le (length (fold with_subterm ts (subterms (plain_term u)))) MAX_TERM_NODES) (same_distinct S.model)
+    ∙ ap (λ (us : List Term). nat_le (length (fold with_subterm (map plain_term (distinct_subterms S.model)) us)) MAX_TERM_NODES) (same_subterms u)
+    ∙ ap (λ (ts : List Term). nat_le (length ts) MAX_TERM_NODES) (fold_plain (distinct_subterms S.model) (subterms u))
+    ∙ ap (λ n. nat_le n MAX_TERM_NODES) (length_map plain_term (distinct_with (distinct_subterms S.model) u))
 
 module _ (S T : solvers.SolverState) (names : List (List ℕ)) (waiting : Option (List (Option ℤ))) (at : Place) (x : VarId) (u : Term) (free : early_refusal S x u ≡ None) (shallow : depth_of u ≤ MAX_TERM_DEPTH) where
   abbrev held : SolverState
@@ -115,19 +122,12 @@ module _ (S T : solvers.SolverState) (names : List (List ℕ)) (waiting : Option
   abbrev many : Bool
   many = are_too_many (distinct_with (distinct_subterms S.model) u)
 
-  room_seen : has_room held (plain_term u) ≡ nat_le (length (distinct_with (distinct_subterms S.model) u)) MAX_TERM_NODES
-  room_seen =
-      ap (λ (ts : List Term). nat_le (length (fold with_subterm ts (subterms (plain_term u)))) MAX_TERM_NODES) (same_distinct S.model)
-      ∙ ap (λ (us : List Term). nat_le (length (fold with_subterm (map plain_term (distinct_subterms S.model)) us)) MAX_TERM_NODES) (same_subterms u)
-      ∙ ap (λ (ts : List Term). nat_le (length ts) MAX_TERM_NODES) (fold_plain (distinct_subterms S.model) (subterms u))
-      ∙ ap (λ n. nat_le n MAX_TERM_NODES) (length_map plain_term (distinct_with (distinct_subterms S.model) u))
-
   refusal_is : define_refusal S x u ≡ (if many then Some (TooMany TermNodes) else None)
   refusal_is =
       ap (λ o. first_refusal o (size_refusal S.model u)) free ∙ ap (λ b. if b || many then Some (TooMany TermNodes) else None) (le_from (depth_of u) MAX_TERM_DEPTH shallow)
 
   sized_by : (b : Bool) → nat_le (length (distinct_with (distinct_subterms S.model) u)) MAX_TERM_NODES ≡ b → sized_one at x (plain_term u) held ≡ (if b then Ok (record held { model = with_definition held.model x (plain_term u) }) else refused at (TooMany TermNodes))
-  sized_by b e = ap (λ r. if r then Ok (record held { model = with_definition held.model x (plain_term u) }) else refused at (TooMany TermNodes)) (room_seen ∙ e)
+  sized_by b e = ap (λ r. if r then Ok (record held { model = with_definition held.model x (plain_term u) }) else refused at (TooMany TermNodes)) (room_seen S names waiting u ∙ e)
 
   after_seen : Defines S T (record { var = x; term = u }) → solver_seen T names waiting ≡ record held { model = with_definition held.model x (plain_term u) }
   after_seen d =

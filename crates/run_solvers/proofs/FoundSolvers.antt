@@ -169,7 +169,7 @@ makes_so m (Ok x) meant h = tt
 makes_so m (Err stop) meant h = ends_so stop meant h
 
 -- what is made without a cycle
-abbrev IsNoCycle : Made → Type 0
+abbrev pub IsNoCycle : Made → Type 0
 IsNoCycle (Ok m) = Unit {0}
 IsNoCycle (Err (Faulted place f)) = Unit {0}
 IsNoCycle (Err (SpentAt place)) = ⊥
@@ -186,7 +186,7 @@ pub no_cycle_so : {X : Type 0} (m : SolverState) (r : Result X Stop) (meant : Ma
 no_cycle_so m (Ok x) meant none h = tt
 no_cycle_so m (Err stop) meant none h = faults_so stop meant none h
 
-either : (b : Bool) (made other : Made) → IsNoCycle made → IsNoCycle other → IsNoCycle (if b then made else other)
+pub either : (b : Bool) (made other : Made) → IsNoCycle made → IsNoCycle other → IsNoCycle (if b then made else other)
 either true made other h k = h
 either false made other h k = k
 

@@ -1,21 +1,28 @@
 -- What each act on a solver makes of it, or how it halts the run. The solver is asked first whether it is closed, then
 -- whether the ids are its own, then whether the variables have definitions, and a closed solver is evaluated as it
 -- changes. From the language.
-use Rattle.std.specs.Prelude.{ℕ, ℤ, ◌&&◌, ◌||◌, List, [], ◌∷◌, Option, Some, None, Result, Ok, Err, is_some, nat_lt, slice_set, if◌then◌else◌}
+use Rattle.std.specs.Prelude.{ℕ, ℤ, pos, ◌&&◌, ◌||◌, List, [], ◌∷◌, length, Option, Some, None, Result, Ok, Err, int_le, is_some, nat_lt, slice_set, if◌then◌else◌}
 use Rattle.cbl_base.specs.declared.ids.VarId.{VarId}
 use Rattle.cbl_base.specs.declared.place.Place.{Place}
 use Rattle.cbl_base.specs.declared.faults.Limit.TheVariants.{TermNodes, Variables}
 use Rattle.cbl_base.specs.declared.faults.RunFault.{RunFault}
-use Rattle.cbl_base.specs.declared.faults.RunFault.TheVariants.{AlreadyClosed, DefinedVariable, NotClosed, TooMany, WrongSolver}
+use Rattle.cbl_base.specs.declared.faults.RunFault.TheVariants.{AlreadyClosed, DefinedVariable, NotClosed, OutOfRange, TooMany, WrongSolver}
 use Rattle.term_model.specs.declared.model.VarDecl.{VarDecl}
+use Rattle.term_model.specs.declared.model.Model.{Model}
+use Rattle.term_model.specs.declared.posting.Side.{Side}
+use Rattle.term_model.specs.declared.posting.Side.TheVariants.{Systems, Objectives}
 use Rattle.term_model.specs.declared.term.Term.{Term}
 use Rattle.model_values.specs.Fresh.{Fresh}
 use Rattle.model_values.specs.declared.failure.Failure.{Failure}
+use Rattle.model_values.specs.declared.wholes.Whole.{Whole}
+use Rattle.model_values.specs.declared.wholes.Whole.TheVariants.{Objective}
 use Rattle.model_view.specs.Variables.{all_variables}
+use Rattle.comet_meaning.specs.Members.{with_system, with_objective}
 use Rattle.comet_meaning.specs.Solvers.{SolverState, variable_count, is_defined, fresh_values, cycle_in, names_in}
 use Rattle.comet_meaning.specs.Limits.{most_variables}
 use Rattle.comet_meaning.specs.Outcome.{Halt, Faulted, Cyclic, Went, Act, halt}
 use Rattle.comet_meaning.specs.Models.{closed_now, after_moves, owns, exchanged, term_for, has_room, defined_by}
+use Rattle.comet_meaning.specs.Systems.{has_whole, number_for, posted_in}
 use Rattle.comet_meaning.specs.Variables.{Beginning, free, defined, first_number, with_variable, next_variable}
 
 abbrev pub Made : Type 0
@@ -87,6 +94,31 @@ added_one at k d name b m =
     if m.closed then refused at AlreadyClosed
     else (if nat_lt (variable_count m) most_variables then begun_one at (next_variable k m) b (with_variable m d name (first_number b))
     else refused at (TooMany Variables))
+
+-- a new system, or a new objective
+
+abbrev pub with_total : Model → Side → Place → Model
+with_total M Systems at = with_system M at
+with_total M Objectives at = with_objective M at
+
+abbrev pub total_one : Place → Side → SolverState → Made
+total_one at side m = if m.closed then refused at AlreadyClosed else Ok (record m { model = with_total m.model side at })
+
+-- one more member of a system or an objective
+abbrev pub posted_one : Place → ℕ → Whole → Term → ℤ → SolverState → Made
+posted_one at k w t weight m =
+    if m.closed then refused at AlreadyClosed
+    else (if has_whole m w && all_variables (owns k m) t
+    then (if int_le (pos 0) weight
+    then (if has_room m (number_for m t) then Ok (posted_in m w t weight) else refused at (TooMany TermNodes))
+    else refused at OutOfRange)
+    else refused at WrongSolver)
+
+-- a new objective of one term
+abbrev pub objective_one : Place → ℕ → Term → SolverState → Made
+objective_one at k t m =
+    if m.closed then refused at AlreadyClosed
+    else posted_one at k (Objective (length m.model.objectives.items)) t (pos 1) (record m { model = with_total m.model Objectives at })
 
 -- `with`: the outermost one on a closed solver makes what is assigned in it wait
 

@@ -6,5 +6,6 @@ pub mod Opening
 pub mod Refusals
 pub mod Refused
 pub mod Stopping
+pub mod Totals
 pub mod Views
 pub mod Waiting

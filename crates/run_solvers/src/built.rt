@@ -2,6 +2,7 @@
 ghost use Rattle.std.specs.Prelude.{◌≡◌, ◌++◌, ◌∷◌, List, [], max, IfErr, IfOk, OnOk};
 ghost use Rattle.std.specs.Bool.{OnFalse};
 ghost use Rattle.comet_meaning.specs.State.{State};
+ghost use Rattle.comet_meaning.specs.Systems.{first_variable};
 ghost use Rattle.comet_meaning.specs.TermForms.{node_form};
 ghost use Rattle.model_view.specs.Building as building;
 ghost use Rattle.model_view.specs.Plain.{plain_term};
@@ -10,6 +11,7 @@ ghost use Rattle.run_values.specs.Did.{Did, IsFaultOrMemory};
 ghost use Rattle.term_model.specs.Naming.{user_number};
 ghost use Rattle.term_model.specs.declared.term.Term.{Term as Tree};
 
+use crate::firsts::first_variable;
 use cbl_base::limits::MAX_TERM_DEPTH;
 use cbl_base::{IntSet, Limit, NoMemory, Place, RunFault, VarId};
 use cbl_operations::Op;
@@ -85,6 +87,13 @@ impl Built {
             Ok(row) => node_over(at, op, row),
             Err(NoMemory) => Err(Stop::NoMemory),
         }
+    }
+
+    /// The first variable in it, in the order of the operations' arguments.
+    pub(crate) fn first_variable(&self) -> Option<VarId>
+        ensures { result ≡ first_variable self.now }
+    {
+        first_variable(&self.term)
     }
 
     /// The term itself.

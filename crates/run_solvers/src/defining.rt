@@ -196,7 +196,7 @@ impl Held {
 }
 
 /// Whether a kind is the wanted one; where none is wanted, a number is.
-fn are_same(wanted: Option<VarKind>, kind: Option<VarKind>) -> bool
+pub(crate) fn are_same(wanted: Option<VarKind>, kind: Option<VarKind>) -> bool
     ensures { result ≡ same_kind (kind_or_number (option_map kind_of_var wanted)) (option_map kind_of_var kind) }
 {
     match (wanted, kind) {
@@ -208,7 +208,7 @@ fn are_same(wanted: Option<VarKind>, kind: Option<VarKind>) -> bool
 }
 
 /// The term of a kind that stands for one of another kind.
-fn nothing_of(alloc: Global, kind: Option<VarKind>) -> Term
+pub(crate) fn nothing_of(alloc: Global, kind: Option<VarKind>) -> Term
     ensures seen { plain_term result ≡ nothing_of (kind_or_number (option_map kind_of_var kind)) }
     ensures shallow { IsShallow result }
 {

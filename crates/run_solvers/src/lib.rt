@@ -4,16 +4,20 @@
 //! the solvers are seen as the meaning of programs has them, and that each act does of them what the meaning says.
 #![tactic(auto)]
 
+mod asking;
 mod beginning;
 mod built;
 mod changing;
 mod closing;
 mod defining;
+mod firsts;
 mod held;
 pub mod laws;
+mod objects;
 mod reading;
 mod refusals;
 mod solvers;
+mod totals;
 mod waiting;
 
 pub use beginning::Beginning;

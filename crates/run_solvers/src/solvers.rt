@@ -26,7 +26,7 @@ use term_model::VarDecl;
 /// programs has them. After a stop the run is over, and the solver that stopped is emptied.
 #[derive(Drop)]
 pub struct Solvers {
-    held: Vec<Held>,
+    pub(crate) held: Vec<Held>,
 }
 
 impl Model for Solvers {

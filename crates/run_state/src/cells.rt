@@ -85,6 +85,22 @@ impl State {
         Ok(Value::Variables(number))
     }
 
+    /// A copy of the cells of an array of numbers, and none of what is no such array. `NoMemory` where there is none for
+    /// it; there is no other stop.
+    #[tactic(auto, unfolding(comet_meaning::specs::Cells::cells))]
+    pub fn copied_cells(&self, array: &Value) -> Result<Cells, Stop>
+        ensures did { (printed : List ℕ) → Did cells_seen result (state_seen self.now printed) (meaning.cells (value_seen array.now) (state_seen self.now printed)) }
+        ensures memory { IfErr result (λ stop. stop ≡ NoMemory) }
+    {
+        let extent = self.numbers_extent(array);
+        let numbers = Vec::from_slice(self.alloc, self.numbers(array))?;
+        Ok(Cells {
+            rows: extent.rows,
+            columns: extent.columns,
+            numbers,
+        })
+    }
+
     /// The bounds of an array's indices; what is no array has no cell.
     pub(crate) fn extent(&self, array: &Value) -> Extent
         ensures { (printed : List ℕ) → extent_seen result ≡ extent_of (state_seen self.now printed) (value_seen array.now) }

@@ -52,6 +52,8 @@ impl State {
             Value::Nothing => print_plain(out, self.alloc, value),
             Value::Variable(_) => print_plain(out, self.alloc, value),
             Value::Solver(_) => print_plain(out, self.alloc, value),
+            Value::System { .. } => print_plain(out, self.alloc, value),
+            Value::Objective { .. } => print_plain(out, self.alloc, value),
             Value::Input(_) => print_plain(out, self.alloc, value),
         }
     }

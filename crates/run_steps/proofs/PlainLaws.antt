@@ -61,6 +61,8 @@ read_plain at (meant.Row xs) s p = elim p [ ]
 read_plain at (meant.Variable x) s p = elim p [ ]
 read_plain at (meant.Variables n) s p = elim p [ ]
 read_plain at (meant.Solver n) s p = elim p [ ]
+read_plain at (meant.System n k) s p = elim p [ ]
+read_plain at (meant.Objective n k) s p = elim p [ ]
 read_plain at (meant.Input n) s p = elim p [ ]
 
 value_plain : (c : Code) (room : ℕ) (e : Shape) (s : State) (v : Value) → (level c room).expr e s ≡ Went v s → IsPlain v → value (level c room) e s ≡ Went v s

@@ -17,6 +17,7 @@ use Rattle.comet_meaning.specs.Declarations.{Dimension, array_of}
 use Rattle.comet_meaning.specs.Methods.{method_value}
 use Rattle.comet_meaning.specs.Parts.{value}
 use Rattle.comet_meaning.specs.Outcome.{Act, ◌>>=◌, charge, give, unless}
+use Rattle.comet_meaning.specs.Systems.{post}
 use Rattle.comet_meaning.specs.Terms.{InTerm, standing}
 use Rattle.comet_meaning.specs.Values.{Bounds, Value, Variable, as_kind, number_of}
 use Rattle.comet_meaning.specs.Variables.{Beginning, cell_name, declared, listed_cell, next_cell, variable_in, variable_kind, variables_with}
@@ -24,6 +25,7 @@ use Rattle.comet_meaning.specs.Levels.{Flow, Level, Next, Target}
 use Rattle.comet_meaning.specs.Writes.{changed, old_value, stepped}
 use Rattle.run_state.specs.Acts.{copied_into, numbers_read}
 use Rattle.term_model.specs.declared.model.VarDecl.{VarDecl}
+use Rattle.term_model.specs.declared.term.Term.{Term}
 use Rattle.run_steps.specs.Copies.{is_array}
 
 -- the next statement follows
@@ -41,6 +43,10 @@ called_builtin at f vs = charge 1 at >>= λ _. builtin_value at f vs
 -- a method, of its object and its arguments
 abbrev pub called_method : Place → Method → Shape → Value → List Value → Act Value
 called_method at m o v vs = charge 1 at >>= λ _. method_value at m o v vs
+
+-- what is posted to an object, with its weight
+abbrev pub posted_with : Place → Value → Term → ℤ → Act Value
+posted_with at v t z = charge 1 at >>= λ _. post at t z v
 
 -- what a name stands for in a term
 abbrev pub named_term : Slot → Act InTerm

@@ -2,11 +2,14 @@
 //! the run passes on.
 ghost use Rattle.std.specs.Prelude.{◌≡◌, ℕ, ℤ, List, [], ◌∷◌, ◌++◌, ◌+ℤ◌, ◌-ℤ◌, Some, map};
 ghost use Rattle.comet_meaning.specs.Cells.{put};
+ghost use Rattle.comet_meaning.specs.Declarations.{make_input};
 ghost use Rattle.comet_meaning.specs.Levels as levels;
+ghost use Rattle.comet_meaning.specs.Models.{make_solver};
 ghost use Rattle.comet_meaning.specs.Outcome.{give};
 ghost use Rattle.comet_meaning.specs.State as states;
+ghost use Rattle.comet_meaning.specs.Systems.{make_objective, make_sum, make_system};
 ghost use Rattle.comet_meaning.specs.Values as values;
-ghost use Rattle.comet_meaning.specs.Values.{as_kind, number_of};
+ghost use Rattle.comet_meaning.specs.Values.{as_kind, number_of, solver_of};
 ghost use Rattle.comet_meaning.specs.Writes as writes;
 ghost use Rattle.run_state.specs.Acts.{listed, shown};
 ghost use Rattle.run_state.specs.Targets.{target_seen};
@@ -25,7 +28,10 @@ use crate::leaves::is_array;
 use cbl_base::{Place, VarId};
 use checked_tree::{Kind, Slot};
 use comet_syntax::tree::Step;
-use run_objects::{added, define, stepped, subtracted, swap, write};
+use run_objects::{
+    added, define, make_objective, make_solver, make_sum, make_system, stepped, subtracted, swap,
+    write,
+};
 use run_solvers::Built;
 use run_state::{Out, State, Target};
 use run_values::values::as_kind;
@@ -304,5 +310,59 @@ pub fn swap_part(
     match right {
         Err(stop) => Err(stop),
         Ok(right) => swap_at(s, at, left, &right),
+    }
+}
+
+/// A new solver.
+pub fn solver_made(s: &mut State) -> Result<Value, Stop>
+    ensures did { (printed : List ℕ) → Does value_seen result (state_seen s.new printed) (make_solver (state_seen s.old printed)) }
+{
+    make_solver(s)
+}
+
+/// A new input.
+pub fn input_made(s: &mut State) -> Result<Value, Stop>
+    ensures did { (printed : List ℕ) → Does value_seen result (state_seen s.new printed) (make_input (state_seen s.old printed)) }
+{
+    s.make_input()
+}
+
+/// A new constraint system of a solver.
+pub fn system_made(s: &mut State, at: Place, solver: Result<Value, Stop>) -> Result<Value, Stop>
+    ensures did { (printed : List ℕ) → Follows value_seen value_seen solver result (state_seen s.old printed) (state_seen s.new printed) (λ v. make_system at (solver_of v)) }
+{
+    match solver {
+        Err(stop) => Err(stop),
+        Ok(solver) => make_system(s, at, &solver),
+    }
+}
+
+/// A new sum of terms in a solver.
+pub fn sum_made(s: &mut State, at: Place, solver: Result<Value, Stop>) -> Result<Value, Stop>
+    ensures did { (printed : List ℕ) → Follows value_seen value_seen solver result (state_seen s.old printed) (state_seen s.new printed) (λ v. make_sum at (solver_of v)) }
+{
+    match solver {
+        Err(stop) => Err(stop),
+        Ok(solver) => make_sum(s, at, &solver),
+    }
+}
+
+/// A new objective of a term.
+pub fn objective_made(s: &mut State, at: Place, term: Result<Built, Stop>) -> Result<Value, Stop>
+    ensures did { (printed : List ℕ) → Follows (λ t. t) value_seen term result (state_seen s.old printed) (state_seen s.new printed) (make_objective at) }
+{
+    match term {
+        Err(stop) => Err(stop),
+        Ok(term) => make_objective(s, at, term),
+    }
+}
+
+/// A name gets what was made.
+pub fn put_made(s: &mut State, slot: Slot, made: Result<Value, Stop>) -> Result<(), Stop>
+    ensures did { (printed : List ℕ) → Follows value_seen (λ _. tt) made result (state_seen s.old printed) (state_seen s.new printed) (put slot) }
+{
+    match made {
+        Err(stop) => Err(stop),
+        Ok(made) => s.put(slot, made),
     }
 }

@@ -3,19 +3,13 @@ ghost use Rattle.std.specs.Prelude.{◌≡◌, option_map};
 ghost use Rattle.std.specs.Option.{option_copied};
 ghost use Rattle.checked_tree.specs.Actions.{deed_of};
 ghost use Rattle.checked_tree.specs.Shape.{seen};
-ghost use Rattle.comet_meaning.specs.Declarations.{object_form};
 ghost use Rattle.comet_meaning.specs.Parts as parts;
-ghost use Rattle.run_state.specs.Views.{state_seen};
 ghost use Rattle.run_steps.specs.Copies.{is_array};
-ghost use Rattle.run_steps.specs.Does.{Does};
 ghost use Rattle.run_steps.specs.Returns.{returned_by};
 ghost use Rattle.run_steps.specs.Views.{part};
 
 use cbl_base::Place;
-use checked_tree::{Action, Form, Kind, Slot, Typed};
-use run_objects::make_object;
-use run_state::{Out, State};
-use run_values::Stop;
+use checked_tree::{Action, Form, Kind, Typed};
 
 /// Where a variable is read: at its name or its index, also in parentheses.
 #[tactic(auto, unfolding(checked_tree::specs::Shape::shape_of))]
@@ -54,16 +48,4 @@ pub fn is_array(kind: Kind) -> bool
     ensures { result ≡ is_array kind }
 {
     matches!(kind, Kind::Array)
-}
-
-/// An object that is declared, or that a name is given by `new`.
-pub fn declare_object<O: Out>(
-    s: &mut State,
-    out: &mut O,
-    slot: Slot,
-    kind: Kind,
-) -> Result<(), Stop>
-    ensures did { Does (λ _. tt) result (state_seen s.new (O.taken out.new)) (object_form slot kind (state_seen s.old (O.taken out.old))) }
-{
-    make_object(s, slot, kind)
 }

@@ -14,7 +14,7 @@ ghost use Rattle.run_state.specs.Targets.{target_seen};
 ghost use Rattle.run_state.specs.Views.{state_seen};
 ghost use Rattle.run_steps.specs.Does.{Does};
 ghost use Rattle.run_steps.specs.Following.{Follows};
-ghost use Rattle.run_steps.specs.Operands.{called_builtin, called_method, named_term};
+ghost use Rattle.run_steps.specs.Operands.{called_builtin, called_method, named_term, posted_with};
 ghost use Rattle.run_steps.specs.Views.{part};
 ghost use Rattle.run_values.specs.Views.{bounds_seen, value_seen};
 
@@ -22,7 +22,7 @@ use crate::leaves::read_place;
 use cbl_base::Place;
 use checked_tree::{Builtin, Kind, Link, Method, Slot, Typed};
 use comet_syntax::tree::UnaryOperator;
-use run_objects::method as call_method;
+use run_objects::{method as call_method, post};
 use run_solvers::Built;
 use run_state::{InTerm, State, Target, TermCells};
 use run_values::builtins::builtin;
@@ -222,6 +222,57 @@ pub fn call_on(
             s.charge(1, at)?;
             call_method(s, at, method, object, value, &values)
         }
+    }
+}
+
+/// `post`: a unit for the call, and then the term with its weight comes to the object, which gives no value.
+pub fn post_with(
+    s: &mut State,
+    at: Place,
+    object: &Value,
+    term: Built,
+    weight: Result<i64, Stop>,
+) -> Result<Value, Stop>
+    ensures did { (printed : List ℕ) → Follows (λ z. z) value_seen weight result (state_seen s.old printed) (state_seen s.new printed) (posted_with at (value_seen object.now) term) }
+{
+    match weight {
+        Err(stop) => Err(stop),
+        Ok(weight) => post_behind(s, at, object, term, weight),
+    }
+}
+
+/// The same of the weight.
+fn post_behind(
+    s: &mut State,
+    at: Place,
+    object: &Value,
+    term: Built,
+    weight: i64,
+) -> Result<Value, Stop>
+    ensures did { (printed : List ℕ) → Does value_seen result (state_seen s.new printed) (posted_with at (value_seen object.now) term weight (state_seen s.old printed)) }
+{
+    s.charge(1, at)?;
+    post(s, at, object, term, weight)
+}
+
+/// A truth value as a constraint, which is violated once where it is false.
+pub fn as_broken(truth: Result<bool, Stop>) -> Result<Built, Stop>
+    ensures did { (s : states.State) → Follows (λ b. b) (λ t. t) truth result s s (λ b. give (parts.broken b)) }
+{
+    match truth {
+        Err(stop) => Err(stop),
+        Ok(truth) => Ok(broken(truth)),
+    }
+}
+
+/// The constraint that a truth value is.
+fn broken(truth: bool) -> Built
+    ensures { result ≡ parts.broken truth }
+{
+    if truth {
+        Built::constant(0)
+    } else {
+        Built::constant(1)
     }
 }
 

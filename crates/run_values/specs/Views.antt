@@ -9,7 +9,7 @@ use Rattle.run_values.specs.declared.values.Cells.{Cells}
 use Rattle.run_values.specs.declared.values.Extent.{Extent}
 use Rattle.run_values.specs.declared.values.Value.{Value}
 use Rattle.run_values.specs.declared.values.VariableCells.{VariableCells}
-use Rattle.run_values.specs.declared.values.Value.TheVariants.{Nothing, Number, Truth, Range, Set, Array, Row, Variable, Variables, Solver, Input}
+use Rattle.run_values.specs.declared.values.Value.TheVariants.{Nothing, Number, Truth, Range, Set, Array, Row, Variable, Variables, Solver, System, Objective, Input}
 
 abbrev pub bounds_seen : Bounds → values.Bounds
 bounds_seen b = record { low = b.low; up = b.up }
@@ -25,6 +25,8 @@ value_seen (Row xs) = values.Row xs.items
 value_seen (Variable x) = values.Variable x
 value_seen (Variables n) = values.Variables n
 value_seen (Solver m) = values.Solver m
+value_seen (System m k) = values.System m k
+value_seen (Objective m k) = values.Objective m k
 value_seen (Input k) = values.Input k
 
 abbrev pub cells_seen : Cells → states.Cells

@@ -42,6 +42,10 @@ pub enum Value {
     /// An array of variables.
     Variables(usize),
     Solver(usize),
+    /// A constraint system: the number of its solver, and its own number there.
+    System { solver: u32, index: u32 },
+    /// An objective or a sum of terms, likewise.
+    Objective { solver: u32, index: u32 },
     Input(usize),
 }
 
@@ -89,6 +93,14 @@ impl Value {
             Value::Variable(variable) => Ok(Value::Variable(*variable)),
             Value::Variables(array) => Ok(Value::Variables(*array)),
             Value::Solver(solver) => Ok(Value::Solver(*solver)),
+            Value::System { solver, index } => Ok(Value::System {
+                solver: *solver,
+                index: *index,
+            }),
+            Value::Objective { solver, index } => Ok(Value::Objective {
+                solver: *solver,
+                index: *index,
+            }),
             Value::Input(input) => Ok(Value::Input(*input)),
         }
     }

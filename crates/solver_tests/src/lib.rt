@@ -5,3 +5,5 @@
 
 #[cfg(test)]
 mod solver;
+#[cfg(test)]
+mod totals;

@@ -9,7 +9,7 @@ mod for_all;
 mod loops;
 mod printing;
 
-pub use declaration_forms::{defining as defining, evaluating as evaluating};
+pub use declaration_forms::evaluating as evaluating;
 
 pub mod statements;
 pub mod targets;

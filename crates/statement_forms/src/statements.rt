@@ -21,11 +21,12 @@ use checked_tree::{Act, Action, Task, Typed};
 use declaration_forms::array_declarations::declare_array;
 use declaration_forms::declarations::{declare, declare_variable};
 use declaration_forms::evaluating::expressions::{truth_of, value_of};
+use declaration_forms::objects::declare_object;
 use run_state::{Out, State};
 use run_steps::code::Flow;
 use run_steps::effects::{as_done, as_next, as_returned};
 use run_steps::inside::{Around, Within};
-use run_steps::leaves::{declare_object, returned};
+use run_steps::leaves::returned;
 use run_values::Stop;
 
 /// How many statements and expressions may be executed inside each other.
@@ -194,7 +195,11 @@ pub(crate) fn perform<O: Out, W: Around<O>>(
             start,
         } => declare_array(s, out, inside, at, *slot, dimensions, start),
         Action::DeclareVariable(variable) => { declare_variable(s, out, inside, at, variable) }
-        Action::Make { slot, kind, .. } => declare_object(s, out, *slot, *kind),
+        Action::Make {
+            slot,
+            kind,
+            arguments,
+        } => declare_object(s, out, inside, at, *slot, *kind, arguments),
         Action::Write {
             target,
             operator,

@@ -6,11 +6,13 @@ ghost use Rattle.run_steps.specs.Views.{code_seen, part};
 ghost use Rattle.run_state.specs.Views.{state_seen};
 ghost use Rattle.stmt_expr.specs.Evaluation.{Evaluates, answer_seen};
 
-use cbl_base::{Fuel, Place, RunFault};
+use cbl_base::{Fuel, Place, RunFault, Steps};
 use checked_tree::Typed;
 use interpreter::{Code, evaluate};
+use ls_solver::Trial;
 use run_state::{Bytes, State};
 use run_values::{Stop, Value};
+use std::sync::ledger::Ledger;
 
 /// Why an expression has no value.
 #[derive(Clone, Copy, PartialEq, Eq, Debug)]
@@ -25,13 +27,16 @@ pub enum EvalStop {
 /// The value of a pure expression in a state, whose own fuel isn't looked at; of a variable the variable itself. A value
 /// that names an array, a variable or an object names that of this state. `room` tells how many parts may be executed
 /// inside each other. The value, or the fault or the end of the fuel with its place, and the fuel that is left are those
-/// of the expression's meaning. With `NoMemory` nothing is told of the fuel.
-pub fn eval(
+/// of the expression's meaning. With `NoMemory` nothing is told of the fuel. Deltas are tried out in `trial`, which holds
+/// nothing yet, and `steps` counts nothing yet.
+pub fn eval<L: Ledger>(
     s: &State,
     code: &Code<'_>,
     room: u32,
     e: &Typed,
     fuel: &mut Fuel,
+    _trial: &mut Trial,
+    _steps: &mut Steps<L>,
 ) -> Result<Value, EvalStop>
     requires known { (code_seen code.now).pure ≡ pure_functions (code_seen code.now).functions }
     requires pure { is_pure (code_seen code.now).pure (part e.now) ≡ true }

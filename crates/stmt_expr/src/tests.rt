@@ -1,13 +1,18 @@
 //! Expressions with values that were worked out by hand.
+ghost use Rattle.std.specs.Prelude.{◌≡◌, ◌<◌};
+
 use super::*;
-use cbl_base::{Fuel, Place, RunFault};
+use cbl_base::{Fuel, Place, RunFault, Steps};
 use checked_tree::{Form, Generator, Kind, Link, Slot, Typed};
 use comet_syntax::tree::{Aggregate, ChainOperator};
 use interpreter::Code;
+use ls_solver::Solver;
 use program_forms::is_pure;
 use run_state::State;
 use run_values::{Cells, Stop, Value};
 use std::alloc::{AllocError, Global};
+use std::marker::Brand;
+use std::sync::ledger::{Blank, Ledger};
 use std::test::*;
 
 /// Where the whole expression stands, and where an operator in it does.
@@ -87,6 +92,20 @@ fn state(alloc: Global) -> Result<State, Stop> {
 
 /// The number that a pure expression without calls gives, and the fuel that is left.
 fn given(s: &State, room: u32, e: &Typed, fuel: u64) -> (Result<i64, EvalStop>, u64) {
+    given_by::<Brand>(Blank::new(1), s, room, e, fuel)
+}
+
+fn given_by<L: Ledger>(
+    blank: Blank,
+    s: &State,
+    room: u32,
+    e: &Typed,
+    fuel: u64,
+) -> (Result<i64, EvalStop>, u64)
+    requires name { blank.name ≡ L.name }
+    requires parts { blank.parts ≡ L.parts }
+    requires some { 0 < L.parts }
+{
     let Ok(code) = Code::new(s.alloc, &[], &[]) else {
         return (Err(EvalStop::NoMemory), 0);
     };
@@ -94,7 +113,9 @@ fn given(s: &State, room: u32, e: &Typed, fuel: u64) -> (Result<i64, EvalStop>, 
         return (Err(EvalStop::NoMemory), 0);
     }
     let mut left = Fuel { left: fuel };
-    let answer = match eval(s, &code, room, e, &mut left) {
+    let mut trial = Solver::new(s.alloc, 0).trial();
+    let mut steps = Steps::<L>::new(blank);
+    let answer = match eval(s, &code, room, e, &mut left, &mut trial, &mut steps) {
         Ok(value) => Ok(value.number()),
         Err(stop) => Err(stop),
     };

@@ -12,11 +12,11 @@ ghost use Rattle.run_steps.specs.Views.{generators_seen, part, part_or_none};
 ghost use Rattle.term_forms.specs.Bodies.{body_seen};
 
 use crate::bodies::{Body, aggregated, push_body};
-use crate::parts::single_term;
 use cbl_base::Place;
 use checked_tree::{Generator, Typed};
 use comet_syntax::tree::Aggregate;
 use expression_forms::expressions::{truth_of, value_of};
+use expression_forms::parts::single_term;
 use expression_forms::tuples::next_tuple;
 use run_state::{InTerm, Out, State};
 use run_steps::inside::{Defining, Within};
@@ -45,7 +45,7 @@ pub fn aggregate_term<O: Out, W: Defining<O>>(
 }
 
 /// The bodies of the tuples that pass the condition, in order.
-fn bodies_of<O: Out, W: Defining<O>>(
+pub fn bodies_of<O: Out, W: Defining<O>>(
     s: &mut State,
     out: &mut O,
     inside: &W,

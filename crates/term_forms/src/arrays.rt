@@ -8,10 +8,11 @@ ghost use Rattle.run_steps.specs.Does.{Does};
 ghost use Rattle.run_steps.specs.Views.{part, row};
 
 use crate::nodes::{as_row, element_with, grid_with, pick, pick_twice};
-use crate::parts::{single_term, term_cells, terms_of};
+use crate::parts::{term_cells, terms_of};
 use cbl_base::Place;
 use checked_tree::Typed;
 use expression_forms::expressions::number_of;
+use expression_forms::parts::single_term;
 use run_solvers::Built;
 use run_state::{InTerm, Out, State};
 use run_steps::inside::Defining;

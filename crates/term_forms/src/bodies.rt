@@ -83,7 +83,7 @@ pub fn aggregated(
 }
 
 /// The terms of bodies. `NoMemory` where there is none for them; there is no other stop.
-fn terms_in(alloc: Global, bodies: Vec<Body>) -> Result<Vec<Built>, Stop>
+pub fn terms_in(alloc: Global, bodies: Vec<Body>) -> Result<Vec<Built>, Stop>
     ensures terms { IfOk result (λ terms. terms.items ≡ body_terms bodies.items) }
     ensures memory { IfErr result (λ stop. stop ≡ NoMemory) }
 {

@@ -9,9 +9,10 @@ ghost use Rattle.run_steps.specs.Views.{part, row};
 ghost use Rattle.term_forms.specs.Steps.{plain_call};
 
 use crate::nodes::{call_with, count_with};
-use crate::parts::{single_term, term_cells, terms_of};
+use crate::parts::{term_cells, terms_of};
 use cbl_base::Place;
 use checked_tree::{Builtin, Typed};
+use expression_forms::parts::single_term;
 use run_solvers::Built;
 use run_state::{Out, State};
 use run_steps::inside::Defining;

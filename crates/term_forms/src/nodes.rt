@@ -33,7 +33,7 @@ pub fn node_of(at: Place, op: Op, terms: Vec<Built>) -> Result<Built, Stop>
 }
 
 /// The same of one term.
-fn node_of_one(alloc: Global, at: Place, op: Op, term: Built) -> Result<Built, Stop>
+pub fn node_of_one(alloc: Global, at: Place, op: Op, term: Built) -> Result<Built, Stop>
     ensures did { (s : states.State) → Does (λ t. t) result s (node_form at op (term ∷ []) s) }
 {
     let mut terms = Vec::new(alloc);
@@ -42,7 +42,13 @@ fn node_of_one(alloc: Global, at: Place, op: Op, term: Built) -> Result<Built, S
 }
 
 /// The same of two.
-fn node_of_two(alloc: Global, at: Place, op: Op, first: Built, second: Built) -> Result<Built, Stop>
+pub fn node_of_two(
+    alloc: Global,
+    at: Place,
+    op: Op,
+    first: Built,
+    second: Built,
+) -> Result<Built, Stop>
     ensures did { (s : states.State) → Does (λ t. t) result s (node_form at op (first ∷ second ∷ []) s) }
 {
     let mut terms = Vec::new(alloc);

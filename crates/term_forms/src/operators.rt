@@ -7,10 +7,10 @@ ghost use Rattle.run_steps.specs.Does.{Does};
 ghost use Rattle.run_steps.specs.Views.{links_seen, part};
 
 use crate::nodes::{compare_with, join_all, join_with, unary_of};
-use crate::parts::single_term;
 use cbl_base::Place;
 use checked_tree::{Link, Typed};
 use comet_syntax::tree::{ChainOperator, Comparison, UnaryOperator};
+use expression_forms::parts::single_term;
 use run_solvers::Built;
 use run_state::{Out, State};
 use run_steps::inside::Defining;

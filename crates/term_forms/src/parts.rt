@@ -8,25 +8,12 @@ ghost use Rattle.run_steps.specs.Does.{Does};
 ghost use Rattle.run_steps.specs.Views.{part, row};
 
 use checked_tree::Typed;
+use expression_forms::parts::single_term;
 use run_solvers::Built;
 use run_state::{Out, State, TermCells};
 use run_steps::inside::Defining;
-use run_steps::operands::{as_several, as_single};
+use run_steps::operands::as_several;
 use run_values::Stop;
-
-/// What a part stands for, as one term.
-#[tactic(auto, unfolding(comet_meaning::specs::Parts::term))]
-pub fn single_term<O: Out, W: Defining<O>>(
-    s: &mut State,
-    out: &mut O,
-    inside: &W,
-    e: &Typed,
-) -> Result<Built, Stop>
-    requires defines { W.can_define inside.now }
-    ensures did { Does (λ t. t) result (state_seen s.new (O.taken out.new)) (parts.term (level (W.code inside.now) (W.depth inside.now)) (part e.now) (state_seen s.old (O.taken out.old))) }
-{
-    as_single(inside.define(s, out, e))
-}
 
 /// What a part stands for, as an array of terms.
 #[tactic(auto, unfolding(comet_meaning::specs::Parts::terms))]

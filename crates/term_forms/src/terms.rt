@@ -22,12 +22,12 @@ use expression_forms::expressions::evaluate_form;
 use run_solvers::Built;
 use run_state::{InTerm, Out, State};
 use run_steps::code::Code;
-use run_steps::inside::{Defining, Within};
+use run_steps::inside::Defining;
 use run_steps::operands::{as_standing, name_term};
 use run_values::Stop;
 
 /// What an expression without incremental variables stands for: its value now.
-pub fn constant_term<O: Out, W: Within<O>>(
+pub fn constant_term<O: Out, W: Defining<O>>(
     s: &mut State,
     out: &mut O,
     inside: &W,
@@ -37,6 +37,7 @@ pub fn constant_term<O: Out, W: Within<O>>(
     form: &Form,
 ) -> Result<InTerm, Stop>
     requires ready { W.is_ready inside.now }
+    requires defines { W.can_define inside.now }
     requires same_code { W.code inside.now ≡ code_seen code.now }
     ensures did { Does in_term_seen result (state_seen s.new (O.taken out.new)) (constant_form (W.code inside.now) (level (W.code inside.now) (W.depth inside.now)) at kind (shape_of form.now) (state_seen s.old (O.taken out.old))) }
 {
@@ -95,7 +96,7 @@ pub fn moving_term<O: Out, W: Defining<O>>(
 }
 
 /// The term of 0.
-fn zero() -> InTerm
+pub fn zero() -> InTerm
     ensures { in_term_seen result ≡ Single (constant (pos 0)) }
 {
     InTerm::Single(Built::constant(0))

@@ -1,5 +1,5 @@
 -- What statements are: their heads, then the statements in them. From the language.
-use Rattle.std.specs.Prelude.{true, ◌-◌, List, [], ◌∷◌, ◌++◌, length, Option, Some, None, option_map, if◌then◌else◌}
+use Rattle.std.specs.Prelude.{true, List, [], ◌∷◌, ◌++◌, length, Option, Some, None, option_map}
 use Rattle.cbl_base.specs.declared.place.Place.{Place}
 use Rattle.comet_syntax.specs.declared.tree.expressions.Name.{Name}
 use Rattle.comet_syntax.specs.declared.tree.expressions.Extreme.{Extreme}

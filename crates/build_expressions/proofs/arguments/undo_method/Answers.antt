@@ -2,7 +2,17 @@ use Rattle.std.specs.Prelude.{◌∷◌, map, reverse, refl}
 use Rattle.std.proofs.Common.{ap, ◌∙◌}
 use Rattle.std.proofs.lemmas.Result.{IfOk-weaker}
 use Rattle.comet_syntax.specs.Written.Expressions.{written_suffix}
+use Rattle.parse_stacks.proofs.Tops.{has_one}
 use Rattle.build_expressions.proofs.arguments.undo_method.Goals as goal
 
+pub take-name-requires : goal.take-name-requires
+take-name-requires c = has_one _ c.requires.2
+
+pub take-listed-requires : goal.take-listed-requires
+take-listed-requires c = has_one _ c.requires.3.2
+
+pub put_first-requires : goal.put_first-requires
+put_first-requires c = has_one _ c.requires.3.3.2
+
 pub returns : goal.returns
-returns c = IfOk-weaker c.put.result _ _ (λ _ e. (_, _, c.take-name.ensures, (_, _, c.take-listed.ensures, (_, _, c.take-more.ensures, (_, ap (map written_suffix) c.in_ok-all.ensures ∙ ap (λ z. z ∷ map written_suffix (reverse c.take-more.result.items)) c.make_method-next.ensures, (e, refl)))))) c.put.ensures
+returns c = IfOk-weaker c.put_first.result _ _ (λ _ e. (_, _, c.take-name.ensures, (_, _, c.take-listed.ensures, (e.0, _, e.2, (_, ap (map written_suffix) e.4 ∙ ap (λ z. z ∷ map written_suffix (reverse e.0.items)) c.make_method-next.ensures, (e.5, refl)))))) c.put_first.ensures

@@ -1,6 +1,10 @@
 use Rattle.std.specs.Prelude.{refl}
 use Rattle.std.proofs.lemmas.Result.{IfOk-weaker}
+use Rattle.parse_stacks.proofs.Tops.{has_one}
 use Rattle.build_expressions.proofs.operands.undo_truth.Goals as goal
+
+pub take-place-requires : goal.take-place-requires
+take-place-requires c = has_one _ c.requires.2
 
 pub returns : goal.returns
 returns c = IfOk-weaker c.put.result _ _ (λ _ e. (c.take-place.result, _, c.take-place.ensures, (c.make_truth-made.result, c.make_truth-made.ensures, (e, refl)))) c.put.ensures

@@ -4,7 +4,23 @@ use Rattle.std.proofs.lemmas.Result.{IfOk-weaker}
 use Rattle.comet_syntax.specs.Written.Expressions.{written}
 use Rattle.parse_stacks.specs.declared.tails.PairRest.TheVariants as rests
 use Rattle.parse_stacks.specs.Raised.{linked}
+use Rattle.parse_stacks.proofs.Tops.{has_one, has_two, has_more}
 use Rattle.build_expressions.proofs.pairs.undo_pair_over.Goals as goal
+
+pub take-domain-requires : goal.take-domain-requires
+take-domain-requires c = has_one _ c.requires.2
+
+pub take-operand-requires : goal.take-operand-requires
+take-operand-requires c = has_more c.args.stacks.now.expressions.items c.take-domain.new.stack.items 0 c.take-domain.ensures (has_two c.args.stacks.now.expressions.items c.requires.2 c.requires.3.3.3.2)
+
+pub take-product-requires : goal.take-product-requires
+take-product-requires c = has_one _ c.requires.3.3.3.3.2
+
+pub take-more-requires : goal.take-more-requires
+take-more-requires c = has_one _ c.requires.3.2
+
+pub take-condition-requires : goal.take-condition-requires
+take-condition-requires c = has_one _ c.requires.3.3.2
 
 pub returns : goal.returns
 returns c =

@@ -1,7 +1,11 @@
 use Rattle.std.specs.Prelude.{refl}
 use Rattle.std.proofs.lemmas.Result.{IfOk-weaker}
 use Rattle.parse_stacks.specs.declared.tails.NamedRest.TheVariants as named_rests
+use Rattle.parse_stacks.proofs.Tops.{has_one}
 use Rattle.build_simples.proofs.simples.undo_set.Goals as goal
+
+pub take-value-requires : goal.take-value-requires
+take-value-requires c = has_one _ c.requires.2
 
 pub returns : goal.returns
 returns c = IfOk-weaker c.put.result _ _ (λ _ e. (c.take-value.result, _, c.take-value.ensures, (named_rests.Set c.take-value.result, refl, (e, refl)))) c.put.ensures

@@ -1,6 +1,6 @@
 use Rattle.std.specs.Prelude.{refl}
 use Rattle.std.proofs.lemmas.Result.{IfOk-weaker}
-use Rattle.build_statements.proofs.Tops.{has_one}
+use Rattle.parse_stacks.proofs.Tops.{has_one, of_ok}
 use Rattle.build_statements.proofs.statements.undo_if.Goals as goal
 
 pub take-place-requires : goal.take-place-requires
@@ -16,4 +16,4 @@ pub take-otherwise-requires : goal.take-otherwise-requires
 take-otherwise-requires c = has_one _ c.requires.3.3.3.2
 
 pub returns : goal.returns
-returns c = IfOk-weaker c.put.result _ _ (λ _ e. (c.take-place.result, _, c.take-place.ensures, (c.take-test.result, _, c.take-test.ensures, (c.take-then.result, _, c.take-then.ensures, (c.take-otherwise.result, _, c.take-otherwise.ensures, (c.in_ok-made.made, c.in_ok-made.ensures, (e, refl))))))) c.put.ensures
+returns c = IfOk-weaker c.put_made.result _ _ (λ _ e. (c.take-place.result, _, c.take-place.ensures, (c.take-test.result, _, c.take-test.ensures, (c.take-then.result, _, c.take-then.ensures, (c.take-otherwise.result, _, c.take-otherwise.ensures, (e.0, (of_ok _ e.1 c.make_if-made.ensures), (e.2, refl))))))) c.put_made.ensures

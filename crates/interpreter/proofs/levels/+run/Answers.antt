@@ -1,4 +1,4 @@
-use Rattle.std.proofs.Common.{sym, subst, refl}
+use Rattle.std.proofs.Common.{◌∙◌, sym, subst, refl}
 use Rattle.comet_meaning.specs.Expressions.{value_of_expression}
 use Rattle.comet_meaning.specs.Writes.{target_of_expression}
 use Rattle.run_steps.proofs.Stops.{stopped_then}
@@ -7,7 +7,7 @@ use Rattle.std.proofs.lemmas.Result.{err_from_is_err_and}
 use Rattle.comet_meaning.proofs.GoingOn.{goes_charge}
 use Rattle.comet_meaning.proofs.GoingStatements.{goes_level, goes_meaning_of_form}
 use Rattle.run_steps.specs.Does.{Does}
-use Rattle.run_steps.proofs.Levels.{expr_at_zero, expr_as, term_at_zero, term_moves, term_stays, target_at_zero, target_as}
+use Rattle.run_steps.proofs.Levels.{expr_at_zero, expr_as, term_at_zero, term_constrains, term_moves, term_stays, target_at_zero, target_as}
 use Rattle.interpreter.proofs.levels.+run.Goals as goal
 
 pub evaluate-returns-then-room-eq0 : goal.evaluate-returns-then-room-eq0
@@ -27,8 +27,11 @@ locate-returns g t c = record { did = subst (Does _ _ _) (sym (target_as _ _ _ _
 pub define-returns-then-room-eq0 : goal.define-returns-then-room-eq0
 define-returns-then-room-eq0 g t c = record { did = term_at_zero _ _ _ _ c.if-room-eq0.true }
 
-pub define-returns-then-e : goal.define-returns-then-e
-define-returns-then-e g t c = record { did = subst (Does _ _ _) (sym (term_moves _ _ _ _ c.if-room-eq0.false c.if-e.true)) c.moving_term.ensures.did }
+pub define-returns-then-is_constraint : goal.define-returns-then-is_constraint
+define-returns-then-is_constraint g t c = record { did = subst (Does _ _ _) (sym (term_constrains _ _ _ _ c.if-room-eq0.false c.if-e.true (sym c.is_constraint.ensures ∙ c.if-is_constraint.true))) c.constraint_form.ensures.did }
+
+pub define-returns-else-is_constraint : goal.define-returns-else-is_constraint
+define-returns-else-is_constraint g t c = record { did = subst (Does _ _ _) (sym (term_moves _ _ _ _ c.if-room-eq0.false c.if-e.true (sym c.is_constraint.ensures ∙ c.if-is_constraint.false))) c.moving_term.ensures.did }
 
 pub define-returns-else-e : goal.define-returns-else-e
 define-returns-else-e g t c = record { did = subst (Does _ _ _) (sym (term_stays _ _ _ _ c.if-room-eq0.false c.if-e.false)) c.constant_term.ensures.did }

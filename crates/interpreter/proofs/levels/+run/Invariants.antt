@@ -12,6 +12,9 @@ decreases-evaluate-value g l = 2 * l.room + 1
 abbrev pub decreases-evaluate-statement : goal.decreases-evaluate-statement
 decreases-evaluate-statement g l = 2 * l.room + 1
 
+abbrev pub decreases-evaluate-term : goal.decreases-evaluate-term
+decreases-evaluate-term g l = 2 * l.room + 1
+
 abbrev pub decreases-locate : goal.decreases-locate
 decreases-locate g l = 2 * l.room
 

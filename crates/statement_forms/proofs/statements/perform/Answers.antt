@@ -16,7 +16,7 @@ returns-in-DeclareVariable g c = record { did = rw (c.in-DeclareVariable.is, ←
 
 pub returns-in-Make : goal.returns-in-Make
 unfolding deed_form deed_of
-returns-in-Make g c = record { did = rw c.in-Make.is c.declare_object.ensures.did }
+returns-in-Make g c = record { did = rw (c.in-Make.is, ← c.deref-in-Make.ensures.value) c.declare_object.ensures.did }
 
 pub returns-in-Write : goal.returns-in-Write
 unfolding deed_form deed_of

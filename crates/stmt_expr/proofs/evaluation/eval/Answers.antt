@@ -6,7 +6,7 @@ use Rattle.stmt_expr.proofs.Apart.{spends_known, apart, evaluated_apart}
 use Rattle.stmt_expr.proofs.evaluation.eval.Goals as goal
 
 pub returns : goal.returns
-returns c = λ printed.
+returns g c = λ printed.
     let s = state_seen c.args.s.now printed in
     let begins : (xs : List ℕ) → xs ≡ [] → state_seen c.in-Ok.copy xs ≡ apart c.args.fuel.now.left s =
     λ xs none. subst (λ ys. state_seen c.in-Ok.copy ys ≡ apart c.args.fuel.now.left s) (sym none) (c.in-Ok.ensures.same []) in

@@ -1,7 +1,7 @@
 use Rattle.std.proofs.Common.{List, ap, ◌∙◌, refl, subst, sym, ℕ}
 use Rattle.ls_solver.specs.Closing.{AreAt}
-use Rattle.ls_solver.specs.NamedCycle.{IsNamedCycle}
-use Rattle.ls_solver.specs.State.{SolverState}
+use Rattle.solver_models.specs.NamedCycle.{IsNamedCycle}
+use Rattle.solver_models.specs.State.{SolverState}
 use Rattle.ls_solver.proofs.solver.Solver.close.Goals as goal
 
 pub returns-in-Ok-Some : goal.returns-in-Ok-Some

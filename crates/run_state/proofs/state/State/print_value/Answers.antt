@@ -32,6 +32,14 @@ pub returns-in-Solver-clause-did : goal.returns-in-Solver-clause-did
 unfolding value_text
 returns-in-Solver-clause-did g c = rw c.in-Solver.is (rw c.in-Solver.is at (c.print_plain-in-Solver.ensures.did (state_seen c.args.self.now (g.O.Out.taken c.args.out.now)) refl))
 
+pub returns-in-System-clause-did : goal.returns-in-System-clause-did
+unfolding value_text
+returns-in-System-clause-did g c = rw c.in-System.is (rw c.in-System.is at (c.print_plain-in-System.ensures.did (state_seen c.args.self.now (g.O.Out.taken c.args.out.now)) refl))
+
+pub returns-in-Objective-clause-did : goal.returns-in-Objective-clause-did
+unfolding value_text
+returns-in-Objective-clause-did g c = rw c.in-Objective.is (rw c.in-Objective.is at (c.print_plain-in-Objective.ensures.did (state_seen c.args.self.now (g.O.Out.taken c.args.out.now)) refl))
+
 pub returns-in-Input-clause-did : goal.returns-in-Input-clause-did
 unfolding value_text
 returns-in-Input-clause-did g c = rw c.in-Input.is (rw c.in-Input.is at (c.print_plain-in-Input.ensures.did (state_seen c.args.self.now (g.O.Out.taken c.args.out.now)) refl))

@@ -1,0 +1,4 @@
+pub mod MemberRows
+pub mod JoinLaws
+pub mod CallLaws
+pub mod TestLaws

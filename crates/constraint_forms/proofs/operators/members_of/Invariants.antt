@@ -1,0 +1,12 @@
+use Rattle.std.proofs.Common.{[], ◌∷◌}
+use Rattle.checked_tree.specs.Shape.{shape_of_link}
+use Rattle.comet_meaning.specs.ConstraintForms.{members_form}
+use Rattle.comet_meaning.specs.Program.{level}
+use Rattle.run_state.specs.Views.{state_seen}
+use Rattle.run_steps.specs.Views.{links_seen}
+use Rattle.constraint_forms.proofs.MemberRows.{MembersLeft}
+use Rattle.constraint_forms.proofs.operators.members_of.Given as goal
+
+-- the members that are left, from here, give what all give
+abbrev pub invariant-loop-link : goal.invariant-loop-link
+invariant-loop-link g l = MembersLeft (level (g.W.Within.code l.inside) (g.W.Within.depth l.inside)) shape_of_link l.links l.link-index l.terms.items (state_seen l.s (g.O.Out.taken l.out)) (members_form (level (g.W.Within.code l.inside) (g.W.Within.depth l.inside)) (links_seen l.links) (l.fn.first ∷ []) (state_seen l.fn.s (g.O.Out.taken l.fn.out)))

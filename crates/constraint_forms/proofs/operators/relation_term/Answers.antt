@@ -1,0 +1,15 @@
+use Rattle.comet_meaning.specs.ConstraintForms.{relation_form}
+use Rattle.comet_meaning.proofs.GoingOn.{goes_then}
+use Rattle.comet_meaning.proofs.GoingParts.{goes_one_term}
+use Rattle.comet_meaning.proofs.GoingStatements.{goes_level}
+use Rattle.comet_meaning.proofs.GoingTerms.{goes_node}
+use Rattle.run_steps.proofs.Exits.{after, call_exit}
+use Rattle.constraint_forms.proofs.operators.relation_term.Goals as goal
+
+pub returns-in_err-left : goal.returns-in_err-left
+unfolding relation_form
+returns-in_err-left g c = record { did = call_exit _ _ _ _ _ _ c.from_residual.ensures.1 c.in_err-left.ensures.did (λ t. goes_then (goes_one_term _ (goes_level _ _) _) (λ u. goes_node _ _ _)) }
+
+pub returns : goal.returns
+unfolding relation_form
+returns g c = record { did = after _ _ _ _ c.in_ok-left.ensures.did (c.relate_with.ensures.did _ _ c.single_term-right.ensures.did) }

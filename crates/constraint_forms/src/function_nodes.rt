@@ -1,0 +1,297 @@
+//! Constraint functions that have their arguments: a unit for the call, then the cells of each array, and then what must
+//! hold of the arguments.
+ghost use Rattle.std.specs.Prelude.{◌≡◌, ◌&&◌, ℕ, List, IfErr, IfOk, pos, int_le};
+ghost use Rattle.cbl_operations.specs.declared.op.Op.TheVariants as ops;
+ghost use Rattle.comet_meaning.specs.ConstraintForms.{bounded_op};
+ghost use Rattle.comet_meaning.specs.State as states;
+ghost use Rattle.constraint_forms.specs.Steps.{all_different_node, bounded_node, even_node, knapsack_node, multi_knapsack_node, sequence_node, window_node};
+ghost use Rattle.run_state.specs.InTerms.{term_cells_seen};
+ghost use Rattle.run_state.specs.Views.{state_seen};
+ghost use Rattle.run_steps.specs.Does.{Does};
+ghost use Rattle.run_steps.specs.Following.{Follows};
+ghost use Rattle.run_values.specs.Views.{cells_seen};
+ghost use Rattle.run_values.specs.declared.stop.Stop.TheVariants.{NoMemory};
+
+use cbl_base::{IntSet, Numbers, Place, RunFault};
+use cbl_operations::Op;
+use checked_tree::Builtin;
+use run_solvers::Built;
+use run_state::{State, TermCells};
+use run_values::{Cells, Stop};
+use std::alloc::Global;
+use term_forms::nodes::node_of;
+
+/// `alldifferent`, of the cells, which are charged at the second place.
+fn all_different_of(s: &mut State, at: Place, place: Place, cells: TermCells) -> Result<Built, Stop>
+    ensures did { (printed : List ℕ) → Does (λ t. t) result (state_seen s.new printed) (all_different_node at place (term_cells_seen cells) (state_seen s.old printed)) }
+{
+    s.charge(1, at)?;
+    let count = cells.terms.len();
+    s.charge(count as u64, place)?;
+    node_of(at, Op::AllDifferent, cells.terms)
+}
+
+/// The same with the array's answer.
+pub(crate) fn all_different_with(
+    s: &mut State,
+    at: Place,
+    place: Place,
+    cells: Result<TermCells, Stop>,
+) -> Result<Built, Stop>
+    ensures did { (printed : List ℕ) → Follows term_cells_seen (λ t. t) cells result (state_seen s.old printed) (state_seen s.new printed) (all_different_node at place) }
+{
+    match cells {
+        Err(stop) => Err(stop),
+        Ok(cells) => all_different_of(s, at, place, cells),
+    }
+}
+
+/// The numbers of an array. `NoMemory` where there is none for them; there is no other stop.
+fn numbers_of(alloc: Global, cells: &Cells) -> Result<Numbers, Stop>
+    ensures numbers { IfOk result (λ numbers. numbers ≡ (cells_seen cells.now).numbers) }
+    ensures memory { IfErr result (λ stop. stop ≡ NoMemory) }
+{
+    let numbers = Numbers::from_slice(alloc, &cells.numbers)?;
+    Ok(numbers)
+}
+
+/// The operation of `atmost`, of `atleast` and of `exactly`. `NoMemory` where there is none for it; there is no other
+/// stop.
+fn bounded_operation(alloc: Global, function: Builtin, cells: &Cells) -> Result<Op, Stop>
+    ensures operation { IfOk result (λ op. op ≡ bounded_op function (cells_seen cells.now).rows.low (cells_seen cells.now).numbers) }
+    ensures memory { IfErr result (λ stop. stop ≡ NoMemory) }
+{
+    let bounds = numbers_of(alloc, cells)?;
+    let low = cells.rows.low;
+    match function {
+        Builtin::AtMost => Ok(Op::AtMost { low, bounds }),
+        Builtin::AtLeast => Ok(Op::AtLeast { low, bounds }),
+        _ => Ok(Op::Exactly { low, bounds }),
+    }
+}
+
+/// `atmost`, `atleast` and `exactly`, of the bounds, which are charged at the second place, and the cells, which are
+/// charged at the third.
+fn bounded_of(
+    s: &mut State,
+    at: Place,
+    function: Builtin,
+    place: Place,
+    bounds: &Cells,
+    other: Place,
+    cells: TermCells,
+) -> Result<Built, Stop>
+    ensures did { (printed : List ℕ) → Does (λ t. t) result (state_seen s.new printed) (bounded_node at function place (cells_seen bounds.now) other (term_cells_seen cells) (state_seen s.old printed)) }
+{
+    s.charge(1, at)?;
+    let bound_count = bounds.len();
+    s.charge(bound_count as u64, place)?;
+    let count = cells.terms.len();
+    s.charge(count as u64, other)?;
+    let op = bounded_operation(s.alloc, function, bounds)?;
+    node_of(at, op, cells.terms)
+}
+
+/// The same with the cells' answer.
+pub(crate) fn bounded_with(
+    s: &mut State,
+    at: Place,
+    function: Builtin,
+    place: Place,
+    bounds: &Cells,
+    other: Place,
+    cells: Result<TermCells, Stop>,
+) -> Result<Built, Stop>
+    ensures did { (printed : List ℕ) → Follows term_cells_seen (λ t. t) cells result (state_seen s.old printed) (state_seen s.new printed) (bounded_node at function place (cells_seen bounds.now) other) }
+{
+    match cells {
+        Err(stop) => Err(stop),
+        Ok(cells) => bounded_of(s, at, function, place, bounds, other, cells),
+    }
+}
+
+/// An operation of as many terms as an array has cells. `OutOfRange` at the place exactly where there are more or fewer.
+fn even_of(at: Place, count: usize, op: Op, terms: Vec<Built>) -> Result<Built, Stop>
+    ensures did { (s : states.State) → Does (λ t. t) result s (even_node at count op terms.items s) }
+{
+    let others = terms.len();
+    if count != others {
+        return Err(Stop::Fault(at, RunFault::OutOfRange));
+    }
+    node_of(at, op, terms)
+}
+
+/// The operation of `knapsack`. `NoMemory` where there is none for it; there is no other stop.
+fn knapsack_operation(alloc: Global, weights: &Cells, capacity: i64) -> Result<Op, Stop>
+    ensures operation { IfOk result (λ op. op ≡ ops.Knapsack (cells_seen weights.now).numbers capacity) }
+    ensures memory { IfErr result (λ stop. stop ≡ NoMemory) }
+{
+    let weights = numbers_of(alloc, weights)?;
+    Ok(Op::Knapsack { weights, capacity })
+}
+
+/// `knapsack`, of the weights, which are charged at the second place, the cells, which are charged at the third, and the
+/// capacity.
+fn knapsack_of(
+    s: &mut State,
+    at: Place,
+    place: Place,
+    weights: &Cells,
+    other: Place,
+    cells: TermCells,
+    capacity: i64,
+) -> Result<Built, Stop>
+    ensures did { (printed : List ℕ) → Does (λ t. t) result (state_seen s.new printed) (knapsack_node at place (cells_seen weights.now) other (term_cells_seen cells) capacity (state_seen s.old printed)) }
+{
+    s.charge(1, at)?;
+    let weight_count = weights.len();
+    s.charge(weight_count as u64, place)?;
+    let count = cells.terms.len();
+    s.charge(count as u64, other)?;
+    let op = knapsack_operation(s.alloc, weights, capacity)?;
+    even_of(at, weight_count, op, cells.terms)
+}
+
+/// The same with the capacity's answer.
+pub(crate) fn knapsack_with(
+    s: &mut State,
+    at: Place,
+    place: Place,
+    weights: &Cells,
+    other: Place,
+    cells: TermCells,
+    capacity: Result<i64, Stop>,
+) -> Result<Built, Stop>
+    ensures did { (printed : List ℕ) → Follows (λ z. z) (λ t. t) capacity result (state_seen s.old printed) (state_seen s.new printed) (knapsack_node at place (cells_seen weights.now) other (term_cells_seen cells)) }
+{
+    match capacity {
+        Err(stop) => Err(stop),
+        Ok(capacity) => knapsack_of(s, at, place, weights, other, cells, capacity),
+    }
+}
+
+/// The operation of `multiknapsack`. `NoMemory` where there is none for it; there is no other stop.
+fn multi_knapsack_operation(alloc: Global, sizes: &Cells, capacities: &Cells) -> Result<Op, Stop>
+    ensures operation { IfOk result (λ op. op ≡ ops.MultiKnapsack (cells_seen sizes.now).numbers (cells_seen capacities.now).rows.low (cells_seen capacities.now).numbers) }
+    ensures memory { IfErr result (λ stop. stop ≡ NoMemory) }
+{
+    let low = capacities.rows.low;
+    let sizes = numbers_of(alloc, sizes)?;
+    let capacities = numbers_of(alloc, capacities)?;
+    Ok(Op::MultiKnapsack {
+        sizes,
+        low,
+        capacities,
+    })
+}
+
+/// `multiknapsack`, of the cells, which are charged at the second place, the sizes, which are charged at the third, and
+/// the capacities, which are charged at the last.
+fn multi_knapsack_of(
+    s: &mut State,
+    at: Place,
+    place: Place,
+    cells: TermCells,
+    other: Place,
+    sizes: &Cells,
+    last: Place,
+    capacities: &Cells,
+) -> Result<Built, Stop>
+    ensures did { (printed : List ℕ) → Does (λ t. t) result (state_seen s.new printed) (multi_knapsack_node at place (term_cells_seen cells) other (cells_seen sizes.now) last (cells_seen capacities.now) (state_seen s.old printed)) }
+{
+    s.charge(1, at)?;
+    let count = cells.terms.len();
+    s.charge(count as u64, place)?;
+    let size_count = sizes.len();
+    s.charge(size_count as u64, other)?;
+    let capacity_count = capacities.len();
+    s.charge(capacity_count as u64, last)?;
+    let op = multi_knapsack_operation(s.alloc, sizes, capacities)?;
+    even_of(at, size_count, op, cells.terms)
+}
+
+/// The same with the capacities' answer.
+pub(crate) fn multi_knapsack_with(
+    s: &mut State,
+    at: Place,
+    place: Place,
+    cells: TermCells,
+    other: Place,
+    sizes: &Cells,
+    last: Place,
+    capacities: Result<Cells, Stop>,
+) -> Result<Built, Stop>
+    ensures did { (printed : List ℕ) → Follows cells_seen (λ t. t) capacities result (state_seen s.old printed) (state_seen s.new printed) (multi_knapsack_node at place (term_cells_seen cells) other (cells_seen sizes.now) last) }
+{
+    match capacities {
+        Err(stop) => Err(stop),
+        Ok(capacities) => {
+            multi_knapsack_of(s, at, place, cells, other, sizes, last, &capacities)
+        }
+    }
+}
+
+/// Whether so many of a set in so many places in a row are numbers that a sequence may have.
+fn is_window(most: i64, window: i64) -> bool
+    ensures { result ≡ (int_le (pos 0) most && int_le (pos 1) window) }
+{
+    0 <= most && 1 <= window
+}
+
+/// How many of a set there may be, and in how many places in a row. `OutOfRange` at the place exactly where the first
+/// number is below 0 or the second below 1.
+fn window_of(
+    at: Place,
+    members: IntSet,
+    most: i64,
+    window: i64,
+    terms: Vec<Built>,
+) -> Result<Built, Stop>
+    ensures did { (s : states.State) → Does (λ t. t) result s (window_node at members most window terms.items s) }
+{
+    if !is_window(most, window) {
+        return Err(Stop::Fault(at, RunFault::OutOfRange));
+    }
+    let op = Op::Sequence {
+        values: members,
+        most,
+        window,
+    };
+    node_of(at, op, terms)
+}
+
+/// `sequence`, of the cells, which are charged at the second place, the set and both numbers.
+fn sequence_of(
+    s: &mut State,
+    at: Place,
+    place: Place,
+    cells: TermCells,
+    members: IntSet,
+    most: i64,
+    window: i64,
+) -> Result<Built, Stop>
+    ensures did { (printed : List ℕ) → Does (λ t. t) result (state_seen s.new printed) (sequence_node at place (term_cells_seen cells) members most window (state_seen s.old printed)) }
+{
+    s.charge(1, at)?;
+    let count = cells.terms.len();
+    s.charge(count as u64, place)?;
+    window_of(at, members, most, window, cells.terms)
+}
+
+/// The same with the last number's answer.
+pub(crate) fn sequence_with(
+    s: &mut State,
+    at: Place,
+    place: Place,
+    cells: TermCells,
+    members: IntSet,
+    most: i64,
+    window: Result<i64, Stop>,
+) -> Result<Built, Stop>
+    ensures did { (printed : List ℕ) → Follows (λ z. z) (λ t. t) window result (state_seen s.old printed) (state_seen s.new printed) (sequence_node at place (term_cells_seen cells) members most) }
+{
+    match window {
+        Err(stop) => Err(stop),
+        Ok(window) => sequence_of(s, at, place, cells, members, most, window),
+    }
+}

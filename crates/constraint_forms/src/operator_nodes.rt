@@ -1,0 +1,123 @@
+//! Constraints made of others, and relations, that have their operands.
+ghost use Rattle.std.specs.Prelude.{◌≡◌, List, map};
+ghost use Rattle.comet_meaning.specs.ConstraintForms.{combination_op, joining_op};
+ghost use Rattle.comet_meaning.specs.State as states;
+ghost use Rattle.comet_meaning.specs.TermForms.{bodies_of, node_form};
+ghost use Rattle.constraint_forms.specs.Steps.{negated, related};
+ghost use Rattle.run_steps.specs.Does.{Does};
+ghost use Rattle.run_steps.specs.Following.{Follows};
+ghost use Rattle.term_forms.specs.Bodies.{body_seen};
+
+use cbl_base::Place;
+use cbl_operations::Op;
+use comet_syntax::tree::{Aggregate, ChainOperator, Comparison};
+use run_solvers::Built;
+use run_values::Stop;
+use std::alloc::Global;
+use term_forms::bodies::{Body, terms_in};
+use term_forms::nodes::{node_of, node_of_one, node_of_two};
+
+/// `a == b` and its like, of both terms: `>` and `>=` are `<` and `<=` of the sides exchanged.
+fn relation_of(
+    alloc: Global,
+    at: Place,
+    comparison: Comparison,
+    left: Built,
+    right: Built,
+) -> Result<Built, Stop>
+    ensures did { (s : states.State) → Does (λ t. t) result s (related at comparison left right s) }
+{
+    match comparison {
+        Comparison::Equal => node_of_two(alloc, at, Op::ViolEq, left, right),
+        Comparison::NotEqual => node_of_two(alloc, at, Op::ViolNe, left, right),
+        Comparison::Less => node_of_two(alloc, at, Op::ViolLt, left, right),
+        Comparison::LessEqual => node_of_two(alloc, at, Op::ViolLe, left, right),
+        Comparison::Greater => node_of_two(alloc, at, Op::ViolLt, right, left),
+        Comparison::GreaterEqual => node_of_two(alloc, at, Op::ViolLe, right, left),
+    }
+}
+
+/// The same with the right one's answer.
+pub(crate) fn relate_with(
+    alloc: Global,
+    at: Place,
+    comparison: Comparison,
+    left: Built,
+    right: Result<Built, Stop>,
+) -> Result<Built, Stop>
+    ensures did { (s : states.State) → Follows (λ t. t) (λ t. t) right result s s (related at comparison left) }
+{
+    match right {
+        Err(stop) => Err(stop),
+        Ok(right) => relation_of(alloc, at, comparison, left, right),
+    }
+}
+
+/// `!c`, of the constraint's term.
+pub(crate) fn negate(alloc: Global, at: Place, operand: Result<Built, Stop>) -> Result<Built, Stop>
+    ensures did { (s : states.State) → Follows (λ t. t) (λ t. t) operand result s s (negated at) }
+{
+    match operand {
+        Err(stop) => Err(stop),
+        Ok(operand) => node_of_one(alloc, at, Op::NotHeld, operand),
+    }
+}
+
+/// The operation of a chain of constraints.
+fn combination_operation(operator: ChainOperator) -> Op
+    ensures { result ≡ combination_op operator }
+{
+    match operator {
+        ChainOperator::Or => Op::AnyOf,
+        ChainOperator::And => Op::AllOf,
+        ChainOperator::Add => Op::AllOf,
+        ChainOperator::Subtract => Op::AllOf,
+        ChainOperator::Multiply => Op::AllOf,
+        ChainOperator::Divide => Op::AllOf,
+        ChainOperator::Remainder => Op::AllOf,
+    }
+}
+
+/// A chain of constraints is one operation of all members.
+pub(crate) fn combine(
+    at: Place,
+    operator: ChainOperator,
+    members: Result<Vec<Built>, Stop>,
+) -> Result<Built, Stop>
+    ensures did { (s : states.State) → Follows (λ terms. terms.items) (λ t. t) members result s s (node_form at (combination_op operator)) }
+{
+    match members {
+        Err(stop) => Err(stop),
+        Ok(members) => node_of(at, combination_operation(operator), members),
+    }
+}
+
+/// The operation of an aggregate of constraints.
+fn joining_operation(aggregate: Aggregate) -> Op
+    ensures { result ≡ joining_op aggregate }
+{
+    match aggregate {
+        Aggregate::Or => Op::AnyOf,
+        Aggregate::And => Op::AllOf,
+        Aggregate::Sum => Op::AllOf,
+        Aggregate::Min => Op::AllOf,
+        Aggregate::Max => Op::AllOf,
+        Aggregate::All => Op::AllOf,
+        Aggregate::SetOf => Op::AllOf,
+        Aggregate::ArgMin => Op::AllOf,
+        Aggregate::ArgMax => Op::AllOf,
+    }
+}
+
+/// An aggregate of constraints is one operation of the bodies.
+pub(crate) fn join(
+    alloc: Global,
+    at: Place,
+    aggregate: Aggregate,
+    bodies: Vec<Body>,
+) -> Result<Built, Stop>
+    ensures did { (s : states.State) → Does (λ t. t) result s (node_form at (joining_op aggregate) (bodies_of (map body_seen bodies.items)) s) }
+{
+    let terms = terms_in(alloc, bodies)?;
+    node_of(at, joining_operation(aggregate), terms)
+}

@@ -1,0 +1,118 @@
+//! Objects that are declared, or that a name is given by `new`.
+ghost use Rattle.std.specs.Prelude.{◌≡◌, ℕ, List, map};
+ghost use Rattle.checked_tree.specs.Shape.{seen};
+ghost use Rattle.comet_meaning.specs.Declarations as declarations;
+ghost use Rattle.comet_meaning.specs.Declarations.{object_form};
+ghost use Rattle.comet_meaning.specs.Program.{level};
+ghost use Rattle.comet_meaning.specs.Systems.{make_sum, make_system};
+ghost use Rattle.run_steps.specs.Does.{Does};
+ghost use Rattle.run_state.specs.Views.{state_seen};
+ghost use Rattle.run_values.specs.Views.{value_seen};
+
+use cbl_base::Place;
+use checked_tree::{Kind, Slot, Typed};
+use expression_forms::expressions::value_of;
+use expression_forms::parts::single_term;
+use run_state::{Out, State};
+use run_steps::effects::{
+    input_made, objective_made, put_made, solver_made, sum_made, system_made,
+};
+use run_steps::inside::{Defining, Within};
+use run_values::{Stop, Value};
+
+/// A name gets a new object of this kind: a system and a sum are made in the solver that stands among the arguments, and
+/// an objective of the term there. Where it is no object nothing is done.
+pub fn declare_object<O: Out, W: Defining<O>>(
+    s: &mut State,
+    out: &mut O,
+    inside: &W,
+    at: Place,
+    slot: Slot,
+    kind: Kind,
+    arguments: &[Typed],
+) -> Result<(), Stop>
+    requires ready { W.is_ready inside.now }
+    requires defines { W.can_define inside.now }
+    ensures did { Does (λ _. tt) result (state_seen s.new (O.taken out.new)) (object_form (level (W.code inside.now) (W.depth inside.now)) at slot kind (map seen arguments.now) (state_seen s.old (O.taken out.old))) }
+{
+    match kind {
+        Kind::Solver => {
+            let made = solver_made(s);
+            put_made(s, slot, made)
+        }
+        Kind::Input => {
+            let made = input_made(s);
+            put_made(s, slot, made)
+        }
+        Kind::System => {
+            let made = new_system(s, out, inside, at, arguments);
+            put_made(s, slot, made)
+        }
+        Kind::Total => {
+            let made = new_sum(s, out, inside, at, arguments);
+            put_made(s, slot, made)
+        }
+        Kind::Objective => {
+            let made = new_objective(s, out, inside, at, arguments);
+            put_made(s, slot, made)
+        }
+        _ => Ok(()),
+    }
+}
+
+/// A system in the solver that stands among the arguments.
+#[tactic(auto, unfolding(comet_meaning::specs::Declarations::made_in))]
+fn new_system<O: Out, W: Within<O>>(
+    s: &mut State,
+    out: &mut O,
+    inside: &W,
+    at: Place,
+    arguments: &[Typed],
+) -> Result<Value, Stop>
+    requires ready { W.is_ready inside.now }
+    ensures did { Does value_seen result (state_seen s.new (O.taken out.new)) (declarations.made_in (level (W.code inside.now) (W.depth inside.now)) (make_system at) (map seen arguments.now) (state_seen s.old (O.taken out.old))) }
+{
+    if arguments.len() != 1 {
+        return Ok(Value::Nothing);
+    }
+    let solver = value_of(s, out, inside, &arguments[0]);
+    system_made(s, at, solver)
+}
+
+/// A sum in the solver that stands among the arguments.
+#[tactic(auto, unfolding(comet_meaning::specs::Declarations::made_in))]
+fn new_sum<O: Out, W: Within<O>>(
+    s: &mut State,
+    out: &mut O,
+    inside: &W,
+    at: Place,
+    arguments: &[Typed],
+) -> Result<Value, Stop>
+    requires ready { W.is_ready inside.now }
+    ensures did { Does value_seen result (state_seen s.new (O.taken out.new)) (declarations.made_in (level (W.code inside.now) (W.depth inside.now)) (make_sum at) (map seen arguments.now) (state_seen s.old (O.taken out.old))) }
+{
+    if arguments.len() != 1 {
+        return Ok(Value::Nothing);
+    }
+    let solver = value_of(s, out, inside, &arguments[0]);
+    sum_made(s, at, solver)
+}
+
+/// An objective of the term that stands among the arguments.
+#[tactic(auto, unfolding(comet_meaning::specs::Declarations::made_of_term))]
+fn new_objective<O: Out, W: Defining<O>>(
+    s: &mut State,
+    out: &mut O,
+    inside: &W,
+    at: Place,
+    arguments: &[Typed],
+) -> Result<Value, Stop>
+    requires defines { W.can_define inside.now }
+    ensures did { Does value_seen result (state_seen s.new (O.taken out.new)) (declarations.made_of_term (level (W.code inside.now) (W.depth inside.now)) at (map seen arguments.now) (state_seen s.old (O.taken out.old))) }
+{
+    if arguments.len() != 1 {
+        return Ok(Value::Nothing);
+    }
+    let term = single_term(s, out, inside, &arguments[0]);
+    objective_made(s, at, term)
+}

@@ -1,8 +1,0 @@
-use Rattle.std.proofs.Common.{◌≡◌, ℕ, ◌<◌, false, Some}
-use Rattle.cbl_base.specs.Inputs.{number_kind}
-use Rattle.ls_solver.specs.Kept.{mark_at}
-use Rattle.term_model.specs.Kinds.{kinds_in}
-use Rattle.ls_solver.proofs.asking.are_marked_or_numbers.Given as goal
-
-abbrev pub invariant-loop-index : goal.invariant-loop-index
-invariant-loop-index l = (i : ℕ) → i < l.index → mark_at l.marks i ≡ false → kinds_in l.vars i ≡ Some number_kind

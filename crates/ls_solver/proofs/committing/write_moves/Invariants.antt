@@ -1,6 +1,0 @@
-use Rattle.std.proofs.Common.{◌≡◌, take}
-use Rattle.ls_solver.specs.Committing.{after_moves}
-use Rattle.ls_solver.proofs.committing.write_moves.Given as goal
-
-abbrev pub invariant-loop-turn : goal.invariant-loop-turn
-invariant-loop-turn l = l.assignment.items ≡ after_moves l.initial.assignment.items (take l.turn l.moves)

@@ -1,5 +1,0 @@
-use Rattle.std.proofs.Common.{◌≡◌, take, map}
-use Rattle.ls_solver.proofs.cycle.ids_of.Given as goal
-
-abbrev pub invariant-loop-index : goal.invariant-loop-index
-invariant-loop-index l = l.ids.items ≡ map (λ i. record { solver = l.solver; index = i }) (take l.index-index l.places)

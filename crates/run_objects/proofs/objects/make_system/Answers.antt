@@ -1,0 +1,7 @@
+-- What the solvers do is done to the state that has them.
+use Rattle.std.proofs.Common.{refl}
+use Rattle.run_state.specs.Views.{state_seen}
+use Rattle.run_objects.proofs.objects.make_system.Goals as goal
+
+pub returns-clause-did : goal.returns-clause-did
+returns-clause-did c = λ printed. rw c.solver.ensures at (c.new_system.ensures.did (state_seen c.args.s.now printed) refl)

@@ -1,0 +1,14 @@
+-- What the solvers do is done to the state that has them.
+use Rattle.std.proofs.Common.{◌≡◌, refl, w64, to_z, of_z, rules}
+use Rattle.run_state.specs.Views.{state_seen}
+use Rattle.run_objects.proofs.systems.post.Goals as goal
+
+pub returns-in-Ok-clause-did : goal.returns-in-Ok-clause-did
+returns-in-Ok-clause-did c = λ printed.
+    let same : to_z w64 (of_z w64 c.args.weight) ≡ c.args.weight = search rules in
+    rw same at (c.in-Ok.ensures.did (state_seen c.args.s.now printed) refl)
+
+pub returns-in-Err-clause-did : goal.returns-in-Err-clause-did
+returns-in-Err-clause-did c = λ printed.
+    let same : to_z w64 (of_z w64 c.args.weight) ≡ c.args.weight = search rules in
+    rw same at (c.in-Err.ensures.did (state_seen c.args.s.now printed) refl)

@@ -1,0 +1,7 @@
+-- What the solvers tell is told of the state that has them.
+use Rattle.std.proofs.Common.{refl}
+use Rattle.run_state.specs.Views.{state_seen}
+use Rattle.run_objects.proofs.systems.whole_value.Goals as goal
+
+pub returns-clause-did : goal.returns-clause-did
+returns-clause-did c = λ printed. c.whole_value.ensures.did (state_seen c.args.s.now printed) refl

@@ -1,0 +1,40 @@
+-- The solver is there, and the change is its own; or it isn't there.
+use Rattle.std.proofs.Common.{◌≡◌, ℕ, ◌<◌, length, get_or, map, set, sym, ◌∙◌, subst, arith, rules}
+use Rattle.term_model.specs.declared.posting.Side.TheVariants.{Objectives}
+use Rattle.comet_meaning.specs.Values as values
+use Rattle.run_solvers.specs.Changing.{total_one, changed}
+use Rattle.run_values.specs.Did.{Did}
+use Rattle.run_values.specs.Views.{value_seen}
+use Rattle.run_solvers.specs.Views.{held_seen}
+use Rattle.run_solvers.proofs.TotalActs.{makes_sum, sum_none}
+use Rattle.run_solvers.proofs.FoundSolvers.{changed_kept, does, found, kept_there, no_cycle_so}
+use Rattle.run_solvers.proofs.solvers.Solvers.new_sum.Goals as goal
+
+pub new_sum-requires : goal.new_sum-requires
+new_sum-requires c =
+    let held = c.self.inside.held.items in
+    let there : c.index_mut.result.now ≡ get_or held c.args.number c.index_mut.result.now = search rules in
+    (kept_there held c.args.number c.index_mut.result.now c.self.invariant (omega (arith, c.len.ensures, c.if-number-len.false)) there).1
+
+pub invariant_of-self : goal.invariant_of-self
+invariant_of-self c =
+    let held = c.self.inside.held.items in
+    let there : c.index_mut.result.now ≡ get_or held c.args.number c.index_mut.result.now = search rules in
+    let lt : c.args.number < length held = omega (arith, c.len.ensures, c.if-number-len.false) in
+    let old = kept_there held c.args.number c.index_mut.result.now c.self.invariant lt there in
+    changed_kept held c.self.invariant c.args.number c.new_sum.new.self lt (c.new_sum.ensures.changes.number ∙ old.0) c.new_sum.ensures.changes.kept
+
+pub returns-clause-did : goal.returns-clause-did
+returns-clause-did c = λ s is.
+    let held = c.self.inside.held.items in
+    let all = is ∙ sym c.self.view_is in
+    let there : c.index_mut.result.now ≡ get_or held c.args.number c.index_mut.result.now = search rules in
+    let lt : c.args.number < length held = omega (arith, c.len.ensures, c.if-number-len.false) in
+    let m = held_seen c.index_mut.result.now in
+    let numbered = (kept_there held c.args.number c.index_mut.result.now c.self.invariant lt there).0 in
+    rw (makes_sum c.args.at c.args.number s, found held c.args.number c.index_mut.result.now s all lt there)
+    (subst (λ (k : ℕ). Did value_seen c.new_sum.result (record s { solvers = map held_seen (set held c.args.number c.new_sum.new.self) }) (changed (values.Objective k (length m.model.objectives.items)) c.args.number (total_one c.args.at Objectives m) s)) numbered
+    (does value_seen _ c.args.number s held c.new_sum.new.self c.new_sum.result _ all c.new_sum.ensures.value c.new_sum.ensures.changes.meant))
+
+pub returns-clause-stop : goal.returns-clause-stop
+returns-clause-stop c = no_cycle_so (held_seen c.new_sum.new.self) c.new_sum.result _ (sum_none c.args.at (held_seen c.index_mut.result.now)) c.new_sum.ensures.changes.meant

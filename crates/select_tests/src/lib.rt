@@ -1,0 +1,9 @@
+//! What draws and selectors' scans give.
+//!
+//! It has tests alone, so that the crates that they speak of are proved once and not twice.
+#![tactic(auto)]
+
+#[cfg(test)]
+mod draws;
+#[cfg(test)]
+mod parts;

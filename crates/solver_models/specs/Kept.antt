@@ -1,0 +1,67 @@
+-- What a solver keeps beside its state: which variables have a definition, the distinct subterms of the model where they
+-- were counted, and the fresh values of all variables, systems and objectives once it is closed.
+use Rattle.std.specs.Prelude.{◌≡◌, ℕ, ℤ, ◌<◌, ◌^◌, Bool, true, false, List, length, Option, Some, None, Ok, slice_get, unwrap_or}
+use Rattle.cbl_base.specs.Inputs.{kind_of, number_kind}
+use Rattle.cbl_base.specs.declared.input.Input.{Input}
+use Rattle.solver_models.specs.Ids.{has_definition}
+use Rattle.model_values.specs.Delta.{value_of}
+use Rattle.model_values.specs.Fresh.{Fresh, fresh_of, whole_by}
+use Rattle.model_values.specs.VarOutcomes.{outcome_of_var}
+use Rattle.term_count.specs.Counting.{Counts}
+use Rattle.term_count.specs.declared.subterms.Subterms.{Subterms}
+use Rattle.term_model.specs.Definitions.{IsAcyclic}
+use Rattle.term_model.specs.Kinds.{kinds_in}
+use Rattle.term_model.specs.Posting.{totals_by}
+use Rattle.term_model.specs.Subterms.{distinct_subterms}
+use Rattle.term_model.specs.Users.{no_users}
+use Rattle.term_model.specs.Wellformed.{HasDefinedSets, IsWellFormed}
+use Rattle.term_model.specs.declared.model.Model.{Model}
+use Rattle.term_model.specs.declared.model.VarDecl.{VarDecl}
+use Rattle.term_model.specs.declared.posting.Side.{Side}
+use Rattle.term_model.specs.declared.posting.Side.TheVariants.{Systems, Objectives}
+
+-- a mark for each variable that has a definition
+abbrev pub mark_at : List Bool → ℕ → Bool
+mark_at marks i = unwrap_or (slice_get marks i) false
+
+pub record AreMarks (M : Model) (marks : List Bool) : Type 0 where
+  pub count : length marks ≡ length M.vars.items
+  pub each : (i : ℕ) → mark_at marks i ≡ has_definition M i
+
+-- each variable has a mark or is a number
+abbrev pub AreMarkedOrNumbers : List Bool → List VarDecl → Type 0
+AreMarkedOrNumbers marks vars = (i : ℕ) → i < length vars → mark_at marks i ≡ false → kinds_in vars i ≡ Some number_kind
+
+-- the fresh values of all variables, each of its kind
+pub record AreFresh (M : Model) (a : List ℤ) (values : List Input) : Type 0 where
+  pub count : length values ≡ length M.vars.items
+  pub each : (i : ℕ) → i < length M.vars.items → slice_get values i ≡ outcome_of_var no_users M a i
+  pub kinds : (i : ℕ) (x : Input) → slice_get values i ≡ Some x → kinds_in M.vars.items i ≡ Some (kind_of x)
+
+-- the fresh values of all systems, or of all objectives
+abbrev pub AreTotals : Model → List ℤ → Side → List ℤ → Type 0
+AreTotals M a side values =
+    (k : ℕ) → k < length (totals_by M side) → (v : ℤ) × (slice_get values k ≡ Some v) × (value_of no_users M a (whole_by side k) ≡ Ok v)
+
+abbrev pub totals_in : Fresh → Side → List ℤ
+totals_in values Systems = values.systems
+totals_in values Objectives = values.objectives
+
+-- the model may be evaluated
+pub record IsClosable (M : Model) : Type 0 where
+  pub sets : HasDefinedSets M
+  pub acyclic : IsAcyclic M
+
+-- the distinct subterms of the model are counted, or nothing is
+abbrev pub IsCounted : Option Subterms → Model → Type 0
+IsCounted (Some terms) M = Counts terms (distinct_subterms M)
+IsCounted None M = Unit {0}
+
+pub record IsKept (M : Model) (a : List ℤ) (marks : List Bool) (counted : Option Subterms) (values : Fresh) (closed usable : Bool) : Type 0 where
+  pub formed : IsWellFormed M
+  pub few : length M.vars.items < 2 ^ 32
+  pub assigned : length a ≡ length M.vars.items
+  pub marked : AreMarks M marks
+  pub terms : IsCounted counted M
+  pub closable : closed ≡ true → IsClosable M
+  pub fresh : closed ≡ true → usable ≡ true → fresh_of no_users M a ≡ Ok values

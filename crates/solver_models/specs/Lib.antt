@@ -1,0 +1,15 @@
+pub mod Adding
+pub mod Changes
+pub mod Declaring
+pub mod Defining
+pub mod Dependencies
+pub mod Ids
+pub mod Kept
+pub mod KeptChanges
+pub mod Moves
+pub mod NamedCycle
+pub mod Reading
+pub mod Replying
+pub mod State
+pub mod Telling
+pub mod Totals

@@ -1,0 +1,3 @@
+pub mod PlainTotals
+pub mod PlainShares
+pub mod GainedTotals
