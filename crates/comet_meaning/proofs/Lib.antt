@@ -2,6 +2,8 @@ pub mod GoingOn
 pub mod GoingParts
 pub mod GoingModels
 pub mod GoingSystems
+pub mod GoingEvents
+pub mod GoingSearch
 pub mod GoingExpressions
 pub mod GoingTerms
 pub mod GoingConstraints

@@ -44,98 +44,98 @@ pub fn a_loop_is_a_turn_and_the_loop_again()
 
 /// Division goes toward zero, and the remainder has the dividend's sign.
 pub fn division_goes_toward_zero()
-    ensures { (meaning examples.dividing 100 []).printed ≡ codes "-3 1 -1\n" }
+    ensures { (meaning examples.dividing 0 100 []).printed ≡ codes "-3 1 -1\n" }
 {}
 
 /// A loop without an end spends its fuel, at the statement for which none is left.
 pub fn bare_loop_spends_fuel()
-    ensures { meaning examples.looping 10 [] ≡ record { end = Stopped (SpentAt (examples.column 12)); fuel = 0; printed = [] } }
+    ensures { meaning examples.looping 0 10 [] ≡ record { end = Stopped (SpentAt (examples.column 12)); fuel = 0; printed = [] } }
 {}
 
 /// A function that goes on calling itself meets the limit of the running depth, at the call.
 pub fn endless_call_meets_depth()
-    ensures { (meaning examples.deepening 1099511627776 []).end ≡ Stopped (Faulted (examples.column 32) Depth) }
+    ensures { (meaning examples.deepening 0 1099511627776 []).end ≡ Stopped (Faulted (examples.column 32) Depth) }
 {}
 
 /// `getInt` gives the numbers of the data in order, and at its end a fault at the method. What was printed before stays.
 pub fn numbers_are_read_in_order()
-    ensures { meaning examples.reading 10 (codes " 7\n") ≡ record { end = Stopped (Faulted (examples.column 55) NoData); fuel = 5; printed = codes "7\n" } }
+    ensures { meaning examples.reading 0 10 (codes " 7\n") ≡ record { end = Stopped (Faulted (examples.column 55) NoData); fuel = 5; printed = codes "7\n" } }
 {}
 
 /// What is assigned in a `with` waits for its end, and what is read there has the value of its start. A block inside it on
 /// the same solver is a part of it, and of several numbers for a variable the last one counts.
 pub fn blocks_commit_at_their_end()
-    ensures one { (meaning examples.committing 100 []).printed ≡ codes "2 1\n" }
-    ensures inner { (meaning examples.joining 100 []).printed ≡ codes "5 1\n" }
-    ensures early { (meaning examples.committing_early 100 []).end ≡ Stopped (Faulted (examples.column 57) NotClosed) }
+    ensures one { (meaning examples.committing 0 100 []).printed ≡ codes "2 1\n" }
+    ensures inner { (meaning examples.joining 0 100 []).printed ≡ codes "5 1\n" }
+    ensures early { (meaning examples.committing_early 0 100 []).end ≡ Stopped (Faulted (examples.column 57) NotClosed) }
 {}
 
 /// A swap gives each of two variables the number of the other, also before `close`; variables of two solvers are no pair.
 pub fn swaps_exchange_numbers()
-    ensures numbers { (meaning examples.exchanging 100 []).printed ≡ codes "2 1\n" }
-    ensures apart { (meaning examples.exchanging_apart 100 []).end ≡ Stopped (Faulted (examples.column 88) WrongSolver) }
+    ensures numbers { (meaning examples.exchanging 0 100 []).printed ≡ codes "2 1\n" }
+    ensures apart { (meaning examples.exchanging_apart 0 100 []).end ≡ Stopped (Faulted (examples.column 88) WrongSolver) }
 {}
 
 /// The right side of a definition is evaluated before the solver refuses it, and a solver is closed once.
 pub fn right_side_comes_first()
-    ensures right { (meaning examples.defining_by_zero 100 []).end ≡ Stopped (Faulted (examples.column 75) DivideByZero) }
-    ensures solver { (meaning examples.closing_twice 100 []).end ≡ Stopped (Faulted (examples.column 70) AlreadyClosed) }
+    ensures right { (meaning examples.defining_by_zero 0 100 []).end ≡ Stopped (Faulted (examples.column 75) DivideByZero) }
+    ensures solver { (meaning examples.closing_twice 0 100 []).end ≡ Stopped (Faulted (examples.column 70) AlreadyClosed) }
 {}
 
 /// An array of variables costs a unit for each cell where it is declared, and where it is printed; each of its cells is
 /// a variable of its own.
 pub fn cells_are_variables()
-    ensures enough { meaning examples.squaring_cells 15 [] ≡ record { end = Done; fuel = 0; printed = codes "[1,4,9]4[1,7,9]0..9" } }
-    ensures less { (meaning examples.squaring_cells 14 []).end ≡ Stopped (SpentAt (examples.column 106)) }
+    ensures enough { meaning examples.squaring_cells 0 15 [] ≡ record { end = Done; fuel = 0; printed = codes "[1,4,9]4[1,7,9]0..9" } }
+    ensures less { (meaning examples.squaring_cells 0 14 []).end ≡ Stopped (SpentAt (examples.column 106)) }
 {}
 
 /// A function writes the array that it is given, and its own copy of a set.
 pub fn arrays_are_shared_and_sets_copied()
-    ensures { (meaning examples.handing_over 100 []).printed ≡ codes "[1,2]{1}" }
+    ensures { (meaning examples.handing_over 0 100 []).printed ≡ codes "[1,2]{1}" }
 {}
 
 /// The last generator goes fastest. A tuple, and a value of a generator before the last, cost a unit each.
 pub fn tuples_cost_fuel()
-    ensures { meaning examples.pairing 9 [] ≡ record { end = Done; fuel = 0; printed = codes "11\n12\n22\n" } }
+    ensures { meaning examples.pairing 0 9 [] ≡ record { end = Done; fuel = 0; printed = codes "11\n12\n22\n" } }
 {}
 
 /// The names of generators are bound anew for each tuple, also where the body wrote one.
 pub fn tuples_bind_anew()
-    ensures { (meaning examples.rebinding 100 []).printed ≡ codes "11\n12\n21\n22\n" }
+    ensures { (meaning examples.rebinding 0 100 []).printed ≡ codes "11\n12\n21\n22\n" }
 {}
 
 /// A call costs a unit, and so do its block and its `return`, each declared cell and each cell of an array that is taken
 /// whole. The charge beyond what is left is spent at the array.
 pub fn charges_are_exact()
-    ensures enough { meaning examples.charging 16 [] ≡ record { end = Done; fuel = 0; printed = codes "[0,0,0]" } }
-    ensures less { (meaning examples.charging 15 []).end ≡ Stopped (SpentAt (examples.column 83)) }
+    ensures enough { meaning examples.charging 0 16 [] ≡ record { end = Done; fuel = 0; printed = codes "[0,0,0]" } }
+    ensures less { (meaning examples.charging 0 15 []).end ≡ Stopped (SpentAt (examples.column 83)) }
 {}
 
 /// Aggregates have the values of their elements, in order of the tuples that pass the condition.
 pub fn aggregates_over_tuples()
-    ensures { (meaning examples.aggregating 100 []).printed ≡ codes "14[1,3]{2,4}{3}" }
+    ensures { (meaning examples.aggregating 0 100 []).printed ≡ codes "14[1,3]{2,4}{3}" }
 {}
 
 /// A later operand is evaluated only where it decides.
 pub fn later_operands_wait()
-    ensures { meaning examples.deciding 1 [] ≡ record { end = Done; fuel = 0; printed = codes "false\n" } }
+    ensures { meaning examples.deciding 0 1 [] ≡ record { end = Done; fuel = 0; printed = codes "false\n" } }
 {}
 
 /// A system is made before its solver is closed and asked behind that, about variables of its solver. One without
 /// constraints has no violations, and no move changes that; and a sum without terms is 0.
 pub fn systems_are_asked_when_closed()
-    ensures early { (meaning systems.asking_early 100 []).end ≡ Stopped (Faulted (examples.column 94) NotClosed) }
-    ensures late { (meaning systems.declaring_late 100 []).end ≡ Stopped (Faulted (examples.column 68) AlreadyClosed) }
-    ensures another { (meaning systems.asking_of_another 100 []).end ≡ Stopped (Faulted (examples.column 136) WrongSolver) }
-    ensures nothing { meaning systems.asking_of_nothing 13 [] ≡ record { end = Done; fuel = 0; printed = codes "00000" } }
+    ensures early { (meaning systems.asking_early 0 100 []).end ≡ Stopped (Faulted (examples.column 94) NotClosed) }
+    ensures late { (meaning systems.declaring_late 0 100 []).end ≡ Stopped (Faulted (examples.column 68) AlreadyClosed) }
+    ensures another { (meaning systems.asking_of_another 0 100 []).end ≡ Stopped (Faulted (examples.column 136) WrongSolver) }
+    ensures nothing { meaning systems.asking_of_nothing 0 13 [] ≡ record { end = Done; fuel = 0; printed = codes "00000" } }
 {}
 
 /// A constraint costs a unit at its name, and then each cell of its arrays one at that array, in order of the arguments.
 /// Behind these come its lengths and its window.
 pub fn lengths_come_behind_the_charges()
-    ensures enough { meaning systems.weighing 9 [] ≡ record { end = Stopped (Faulted (examples.column 91) OutOfRange); fuel = 0; printed = [] } }
-    ensures places { (meaning systems.weighing 8 []).end ≡ Stopped (SpentAt (examples.column 106)) }
-    ensures weights { (meaning systems.weighing 7 []).end ≡ Stopped (SpentAt (examples.column 100)) }
-    ensures name { (meaning systems.weighing 5 []).end ≡ Stopped (SpentAt (examples.column 91)) }
-    ensures window { (meaning systems.without_window 100 []).end ≡ Stopped (Faulted (examples.column 91) OutOfRange) }
+    ensures enough { meaning systems.weighing 0 9 [] ≡ record { end = Stopped (Faulted (examples.column 91) OutOfRange); fuel = 0; printed = [] } }
+    ensures places { (meaning systems.weighing 0 8 []).end ≡ Stopped (SpentAt (examples.column 106)) }
+    ensures weights { (meaning systems.weighing 0 7 []).end ≡ Stopped (SpentAt (examples.column 100)) }
+    ensures name { (meaning systems.weighing 0 5 []).end ≡ Stopped (SpentAt (examples.column 91)) }
+    ensures window { (meaning systems.without_window 0 100 []).end ≡ Stopped (Faulted (examples.column 91) OutOfRange) }
 {}
