@@ -1,5 +1,5 @@
 -- Draws, selectors, moves and solutions go onward.
-use Rattle.std.proofs.Common.{ℕ, suc, ℤ, Bool, List, [], ◌∷◌, ◌++◌, length, Option, Some, None, is_some, nat_eq, nat_lt, slice_get}
+use Rattle.std.proofs.Common.{ℕ, suc, ℤ, List, [], ◌∷◌, length, Option, Some, None, is_some, nat_eq, slice_get}
 use Rattle.cbl_base.specs.declared.place.Place.{Place}
 use Rattle.cbl_base.specs.declared.faults.RunFault.TheVariants.{NoMove}
 use Rattle.comet_syntax.specs.declared.tree.expressions.Extreme.{Extreme}
@@ -12,7 +12,7 @@ use Rattle.comet_meaning.specs.Values.{Value, Bounds}
 use Rattle.comet_meaning.specs.Solvers.{SolverState}
 use Rattle.comet_meaning.specs.Search.{Closure, KeptMove, Snapshot}
 use Rattle.comet_meaning.specs.State.{left}
-use Rattle.comet_meaning.specs.Outcome.{Act, always}
+use Rattle.comet_meaning.specs.Outcome.{always}
 use Rattle.comet_meaning.specs.Levels.{Level}
 use Rattle.comet_meaning.specs.Parts.{solver_at}
 use Rattle.comet_meaning.specs.Draws.{next_word, below, drawn_of, draw}

@@ -20,11 +20,11 @@ use Rattle.comet_meaning.specs.Outcome.{Outcome, Went, Halted, Act}
 use Rattle.comet_meaning.specs.Levels.{Code, Level, Flow, Next, Returned, Target, Nowhere, Name, Element, Moved}
 use Rattle.comet_meaning.specs.Writes.{element_of, name_target, index_target, cell_target, target_of_form, target_of_expression, old_value, write, assign_form, changed, add_form, defined_at, define_form, swapped_at, swap_form, write_form, stepped, step_form}
 use Rattle.comet_meaning.specs.Printing.{array_text, variables_text, value_text, print, shown_form, print_form}
-use Rattle.comet_meaning.specs.Loops.{tasks, then_next, tasks_form, if_form, if_else_form, end_or, turns, repeated, behind_body, turn_form, while_form, counter_form, for_form, is_next, visited, for_all_form}
+use Rattle.comet_meaning.specs.Loops.{tasks, then_next, tasks_form, if_form, if_else_form, behind_body, turn_form, while_form, counter_form, for_form, is_next, visited, for_all_form}
 use Rattle.comet_meaning.specs.Statements.{alone_form, deed_form, return_form, action_form, step_of, meaning_of_form, meaning_of_statement}
 use Rattle.comet_meaning.specs.Program.{level, meaning_of_program, meant, run}
 use Rattle.comet_meaning.specs.Onward.{IsOnward, IsFront, left_by, GoesOn}
-use Rattle.comet_meaning.proofs.GoingOn.{onward_refl, goes_then, goes_give, goes_fault, goes_if, goes_give_or, goes_charge, goes_at, goes_look, goes_put, goes_cells, goes_variables, goes_extent, goes_cell_of, goes_found_at, goes_put_number}
+use Rattle.comet_meaning.proofs.GoingOn.{goes_then, goes_give, goes_fault, goes_if, goes_give_or, goes_charge, goes_look, goes_put, goes_cells, goes_variables, goes_extent, goes_cell_of, goes_found_at, goes_put_number}
 use Rattle.comet_meaning.proofs.GoingParts.{LevelGoesOn, goes_value, goes_number, goes_truth, goes_condition, goes_one_term, goes_each_tuple, goes_read_each}
 use Rattle.comet_meaning.proofs.GoingModels.{goes_assign, goes_swap, goes_define}
 use Rattle.comet_meaning.proofs.GoingEvents.{goes_repeated, goes_noticed, goes_whenever, goes_behind_commit}

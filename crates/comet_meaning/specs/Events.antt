@@ -1,8 +1,7 @@
 -- `whenever`, and what a commit does with the events that it queued: the outermost commit runs all, first in, first out,
 -- and those that come while it does; a commit inside a handler only queues its own. A handler sees the names of its
 -- `whenever` as they were there, each run of it anew. From the language.
-use Rattle.std.specs.Prelude.{ℕ, ℤ, Bool, true, false, List, [], ◌∷◌, ◌++◌, Option, Some, None, slice_index_or, if◌then◌else◌}
-use Rattle.cbl_base.specs.declared.ids.VarId.{VarId}
+use Rattle.std.specs.Prelude.{Bool, true, false, List, [], ◌∷◌, ◌++◌, Option, Some, None, slice_index_or, if◌then◌else◌}
 use Rattle.cbl_base.specs.declared.place.Place.{Place}
 use Rattle.checked_tree.specs.declared.statements.EventSlots.{EventSlots}
 use Rattle.checked_tree.specs.Shape.{Seen, whole}

@@ -50,3 +50,4 @@ pub mod OneEnd
 pub mod Spending
 pub mod Examples
 pub mod SystemExamples
+pub mod SearchExamples

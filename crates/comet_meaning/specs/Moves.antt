@@ -1,7 +1,7 @@
 -- Neighborhoods: `neighbor` gives a selector a statement with a delta, and the selector keeps it where it has none or the
 -- new delta is less. `call` runs what is kept, as often as it is called; it sees the names of its `neighbor` as they were
 -- there, each run of it anew. From the language.
-use Rattle.std.specs.Prelude.{ℕ, ℤ, Bool, true, List, [], ◌∷◌, ◌++◌, length, Option, Some, None, is_some, int_lt, slice_index_or, slice_set, if◌then◌else◌}
+use Rattle.std.specs.Prelude.{ℕ, ℤ, Bool, true, [], ◌∷◌, ◌++◌, length, Option, Some, None, is_some, int_lt, slice_index_or, slice_set, if◌then◌else◌}
 use Rattle.cbl_base.specs.declared.place.Place.{Place}
 use Rattle.cbl_base.specs.declared.faults.RunFault.TheVariants.{NoMove}
 use Rattle.checked_tree.specs.declared.expressions.Slot.{Slot}

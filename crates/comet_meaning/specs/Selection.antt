@@ -1,7 +1,7 @@
 -- Selectors: the candidates are listed, and then each in order costs a unit, is tested, and gets its key. The chosen one
 -- is of those that are kept, and have the least or the greatest key where one is asked: one word chooses where there are
 -- several, none is taken where there is one or none, and where there is none the body isn't run. From the language.
-use Rattle.std.specs.Prelude.{ℕ, suc, ℤ, pos, Bool, List, [], ◌∷◌, ◌++◌, length, map, filter, Option, Some, None, slice_get, if◌then◌else◌}
+use Rattle.std.specs.Prelude.{ℕ, suc, ℤ, pos, List, [], ◌∷◌, ◌++◌, length, map, filter, Option, Some, None, slice_get, if◌then◌else◌}
 use Rattle.std.specs.Ordering.{int_eq}
 use Rattle.cbl_base.specs.declared.place.Place.{Place}
 use Rattle.cbl_operations.specs.Operations.Least.{least_of}

@@ -1,6 +1,6 @@
 -- Random words: those of the generator PCG XSL RR 128/64 for a seed and a stream, one after the other. The main program
 -- has stream 0. From the language, with the generator's own definition.
-use Rattle.std.specs.Prelude.{ℕ, suc, ◌+◌, ◌*◌, ◌/◌, ◌^◌}
+use Rattle.std.specs.Prelude.{ℕ, ◌*◌, ◌/◌, ◌^◌}
 use Rattle.rand_pcg.specs.Lcg.{Lcg, advance, started, increment_of}
 use Rattle.rand_pcg.specs.Pcg.{multiplier_128, pcg64}
 

@@ -1,9 +1,9 @@
 //! Laws over the definitions alone: what they say of every program, and of some small ones.
-ghost use Rattle.std.specs.Prelude.{◌≡◌, ℕ, ◌≤◌, true, List, [], codes};
+ghost use Rattle.std.specs.Prelude.{◌≡◌, ℕ, suc, ◌≤◌, true, List, [], codes};
 ghost use Rattle.cbl_base.specs.declared.place.Place.{Place};
 ghost use Rattle.checked_tree.specs.Shape.{Shape, Seen, whole};
 ghost use Rattle.checked_tree.specs.Tasks.{Coded, Whole, Work};
-ghost use Rattle.cbl_base.specs.declared.faults.RunFault.TheVariants.{AlreadyClosed, Depth, DivideByZero, NoData, NotClosed, OutOfRange, WrongSolver};
+ghost use Rattle.cbl_base.specs.declared.faults.RunFault.TheVariants.{AlreadyClosed, Depth, DivideByZero, EmptyRange, NoData, NoMove, NotClosed, OutOfRange, WrongSolver};
 ghost use Rattle.comet_meaning.specs.Outcome.{Faulted, SpentAt, then_do, give};
 ghost use Rattle.comet_meaning.specs.Loops.{while_form, turn_form, end_or};
 ghost use Rattle.comet_meaning.specs.State.{State};
@@ -14,6 +14,8 @@ ghost use Rattle.comet_meaning.specs.Onward.{IsFront};
 ghost use Rattle.comet_meaning.specs.Spending.{IsSpent, Outside, with_outside, leaving};
 ghost use Rattle.comet_meaning.specs.Examples as examples;
 ghost use Rattle.comet_meaning.specs.SystemExamples as systems;
+ghost use Rattle.comet_meaning.specs.SearchExamples as searches;
+ghost use Rattle.comet_meaning.specs.Words.{behind_word, word, words_behind};
 
 /// From each state a program has exactly one end.
 pub fn one_end()
@@ -138,4 +140,66 @@ pub fn lengths_come_behind_the_charges()
     ensures weights { (meaning systems.weighing 0 7 []).end ≡ Stopped (SpentAt (examples.column 100)) }
     ensures name { (meaning systems.weighing 0 5 []).end ≡ Stopped (SpentAt (examples.column 91)) }
     ensures window { (meaning systems.without_window 0 100 []).end ≡ Stopped (Faulted (examples.column 91) OutOfRange) }
+{}
+
+/// The words of a stream are the generator's, one after the other. Known are the first three of seed 42 and stream 54.
+pub fn words_come_in_order()
+    ensures order { (seed stream n : ℕ) → behind_word (words_behind seed stream n) ≡ words_behind seed stream (suc n) }
+    ensures first { word 42 54 0 ≡ 0x86b1da1d72062b68 }
+    ensures second { word 42 54 1 ≡ 0x1304aa46c9853d39 }
+    ensures third { word 42 54 2 ≡ 0xa3670e9e0dd50358 }
+{}
+
+/// A draw takes one word. A selector takes one where several candidates tie, and none where there is one or none.
+pub fn draws_take_words()
+    ensures draws { (meaning searches.drawing 42 100 []).printed ≡ codes "23124" }
+    ensures nothing { (meaning searches.drawing_nothing 42 100 []).end ≡ Stopped (Faulted (examples.column 40) EmptyRange) }
+{}
+
+/// A selector runs its body for a candidate with the least or the greatest key, and not at all where none is kept.
+pub fn selectors_choose_by_key()
+    ensures least { (meaning searches.choosing_least 0 100 []).printed ≡ codes "4\n" }
+    ensures none { (meaning searches.choosing_none 0 100 []).printed ≡ codes "end\n" }
+{}
+
+/// A candidate costs a unit at the statement, and a value of a generator before the last one a unit at its name. All
+/// candidates are listed before the first is tested.
+pub fn candidates_cost_fuel()
+    ensures enough { meaning searches.choosing_pair 0 8 [] ≡ record { end = Done; fuel = 0; printed = codes "21" } }
+    ensures body { (meaning searches.choosing_pair 0 7 []).end ≡ Stopped (SpentAt (examples.column 45)) }
+    ensures last { (meaning searches.choosing_pair 0 6 []).end ≡ Stopped (SpentAt (examples.column 1)) }
+    ensures value { (meaning searches.choosing_pair 0 2 []).end ≡ Stopped (SpentAt (examples.column 11)) }
+{}
+
+/// Handlers run behind the outermost commit, those of one commit in the order of `whenever`, and those of a commit inside
+/// a handler behind all that wait. A commit that changes nothing runs none.
+pub fn handlers_run_in_order()
+    ensures once { (meaning searches.passing_on 0 100 []).printed ≡ codes "y4\n" }
+    ensures blocks { (meaning searches.watching_block 0 100 []).printed ≡ codes "1->3\n3->2\n2 3\n" }
+    ensures queue { (meaning searches.queueing 0 100 []).printed ≡ codes "abc" }
+{}
+
+/// A handler that is attached while handlers run takes part only in later commits.
+pub fn new_handlers_wait()
+    ensures { (meaning searches.attaching 0 100 []).printed ≡ codes "5" }
+{}
+
+/// Each run of a handler, and of a move, sees the names as they were where it was made.
+pub fn closures_keep_names()
+    ensures handlers { (meaning searches.keeping_names 0 100 []).printed ≡ codes "11" }
+    ensures moves { (meaning searches.calling_again 0 100 []).printed ≡ codes "11" }
+{}
+
+/// A selector of moves keeps the first of those with the least delta.
+pub fn least_moves_are_kept()
+    ensures best { (meaning searches.best_move 0 100 []).printed ≡ codes "2" }
+    ensures first { (meaning searches.first_move 0 100 []).printed ≡ codes "1" }
+    ensures none { (meaning searches.without_move 0 100 []).end ≡ Stopped (Faulted (examples.column 100) NoMove) }
+{}
+
+/// A solution keeps the numbers of the free variables, and `restore` commits them, at the end of an open `with`.
+pub fn solutions_are_restored()
+    ensures restored { (meaning searches.restoring_one 0 100 []).printed ≡ codes "1" }
+    ensures later { (meaning searches.restoring_later 0 100 []).printed ≡ codes "71" }
+    ensures early { (meaning searches.keeping_early 0 100 []).end ≡ Stopped (Faulted (examples.column 57) NotClosed) }
 {}
