@@ -18,6 +18,7 @@ pub mod SpendingConstraints
 pub mod SpendingPrograms
 pub mod Computing
 pub mod Turns
+pub mod QueueTurns
 pub mod WordLaws
 pub mod Endings
 pub mod Tuples

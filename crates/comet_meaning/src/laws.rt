@@ -5,7 +5,8 @@ ghost use Rattle.checked_tree.specs.Shape.{Shape, Seen, whole};
 ghost use Rattle.checked_tree.specs.Tasks.{Coded, Whole, Work};
 ghost use Rattle.cbl_base.specs.declared.faults.RunFault.TheVariants.{AlreadyClosed, Depth, DivideByZero, EmptyRange, NoData, NoMove, NotClosed, OutOfRange, WrongSolver};
 ghost use Rattle.comet_meaning.specs.Outcome.{Faulted, SpentAt, then_do, give};
-ghost use Rattle.comet_meaning.specs.Loops.{while_form, turn_form, end_or};
+ghost use Rattle.comet_meaning.specs.Loops.{while_form, turn_form, end_or, repeated};
+ghost use Rattle.comet_meaning.specs.Events.{next_event};
 ghost use Rattle.comet_meaning.specs.State.{State};
 ghost use Rattle.comet_meaning.specs.Program.{level, code_of, run, meaning, Done, Stopped};
 ghost use Rattle.comet_meaning.specs.Purity.{is_pure, pure_functions};
@@ -42,6 +43,12 @@ pub fn pure_expressions_see_no_data()
 /// against the fuel cuts none off.
 pub fn a_loop_is_a_turn_and_the_loop_again()
     ensures { (functions : List Coded) (room : ℕ) (at : Place) (test : Seen) (body : Work) (s : State) → while_form (level (code_of functions) room) at test body s ≡ then_do (turn_form (level (code_of functions) room) at (whole test) (give tt) body s) (end_or (while_form (level (code_of functions) room) at test body)) }
+{}
+
+/// The run of a queue is its first event and then the run of what is queued: that events are counted against the fuel
+/// cuts none off.
+pub fn a_queue_is_its_first_event_and_the_queue_again()
+    ensures { (functions : List Coded) (room : ℕ) (at : Place) (s : State) → repeated at (next_event (level (code_of functions) room)) s ≡ then_do (next_event (level (code_of functions) room) s) (end_or (repeated at (next_event (level (code_of functions) room)))) }
 {}
 
 /// Division goes toward zero, and the remainder has the dividend's sign.
