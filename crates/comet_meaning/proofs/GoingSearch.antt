@@ -16,7 +16,7 @@ use Rattle.comet_meaning.specs.Outcome.{always}
 use Rattle.comet_meaning.specs.Levels.{Level}
 use Rattle.comet_meaning.specs.Parts.{solver_at}
 use Rattle.comet_meaning.specs.Draws.{next_word, below, drawn_of, draw}
-use Rattle.comet_meaning.specs.Candidates.{Candidate, in_front, last_of, bound_now, with_candidate, last_form, candidates_form}
+use Rattle.comet_meaning.specs.Candidates.{Candidate, named, in_front, last_of, values_now, with_candidate, last_form, candidates_form}
 use Rattle.comet_meaning.specs.Selection.{Rated, key_form, rated_form, scanned, scan_form, ties_of, chosen_of, choice_form, with_chosen, select_form, select_by_form}
 use Rattle.comet_meaning.specs.Moves.{make_selector, kept_in, is_better, submitted_to, neighbor_form, has_move, get_move, run_move, called_move, choose_form}
 use Rattle.comet_meaning.specs.Solutions.{free_variables, keeping, make_solution, restoring, restore_in, restored, restore}
@@ -46,9 +46,9 @@ goes_draw at v = goes_give
 
 -- candidates
 
-pub goes_bound_now : (gs : List Shape) → GoesOn (bound_now gs)
-unfolding bound_now
-goes_bound_now gs = record { from = λ s. onward_refl (left s) }
+pub goes_values_now : (gs : List Shape) → GoesOn (values_now gs)
+unfolding values_now
+goes_values_now gs = record { from = λ s. onward_refl (left s) }
 
 pub goes_with_candidate : (at : Place) (c : Candidate) (cs : List Candidate) → GoesOn (with_candidate at c cs)
 goes_with_candidate at c cs = goes_then (goes_unless _ at _) (λ _. goes_give)
@@ -56,7 +56,7 @@ goes_with_candidate at c cs = goes_then (goes_unless _ at _) (λ _. goes_give)
 pub goes_last : (l : Level) → LevelGoesOn l → (at : Place) (front : List Shape) (g : Shape) (cs : List Candidate) → GoesOn (last_form l at front g cs)
 unfolding last_form
 goes_last l h at front (shapes.generator place slot domain) cs =
-    goes_then (goes_value l h domain) (λ d. goes_then (goes_bound_now front) (λ known. goes_each_in always _ d cs (λ v ds. goes_with_candidate at _ ds)))
+    goes_then (goes_value l h domain) (λ d. goes_then (goes_values_now front) (λ known. goes_each_in always _ d cs (λ v ds. goes_with_candidate at _ ds)))
 goes_last l h at front g cs = goes_give
 
 pub goes_candidates : (l : Level) → LevelGoesOn l → (at : Place) (gs : List Shape) → GoesOn (candidates_form l at gs)
@@ -77,14 +77,15 @@ pub goes_rated : (l : Level) → LevelGoesOn l → (c key : Shape) (n : ℕ) (xs
 unfolding rated_form
 goes_rated l h c key n xs = goes_then (goes_condition l h c) (λ t. goes_if t (goes_then (goes_key l h key) (λ k. goes_give)) goes_give)
 
-pub goes_scanned : (l : Level) → LevelGoesOn l → (at : Place) (c key : Shape) (n : ℕ) (ts : List Candidate) (xs : List Rated) → GoesOn (scanned l at c key n ts xs)
+pub goes_scanned : (l : Level) → LevelGoesOn l → (at : Place) (gs : List Shape) (c key : Shape) (n : ℕ) (ts : List Candidate) (xs : List Rated) → GoesOn (scanned l at gs c key n ts xs)
 unfolding scanned
-goes_scanned l h at c key n [] xs = goes_give
-goes_scanned l h at c key n (t ∷ ts) xs = goes_then (goes_generated at t (goes_rated l h c key n xs)) (λ ys. goes_scanned l h at c key (suc n) ts ys)
+goes_scanned l h at gs c key n [] xs = goes_give
+goes_scanned l h at gs c key n (t ∷ ts) xs =
+    goes_then (goes_generated at (named gs t) (goes_rated l h c key n xs)) (λ ys. goes_scanned l h at gs c key (suc n) ts ys)
 
 pub goes_scan : (l : Level) → LevelGoesOn l → (at : Place) (gs : List Shape) (c key : Shape) → GoesOn (scan_form l at gs c key)
 unfolding scan_form
-goes_scan l h at gs c key = goes_in_scope (goes_then (goes_candidates l h at gs) (λ ts. goes_then (goes_scanned l h at c key 0 ts []) (λ xs. goes_give)))
+goes_scan l h at gs c key = goes_in_scope (goes_then (goes_candidates l h at gs) (λ ts. goes_then (goes_scanned l h at gs c key 0 ts []) (λ xs. goes_give)))
 
 pub goes_chosen : (ns : List ℕ) → GoesOn (chosen_of ns)
 unfolding chosen_of
@@ -96,17 +97,17 @@ pub goes_choice : (l : Level) → LevelGoesOn l → (at : Place) (x : Option Ext
 unfolding choice_form
 goes_choice l h at x gs c key = goes_then (goes_scan l h at gs c key) (λ scan. goes_then (goes_chosen (ties_of x scan.kept)) (λ n. goes_give))
 
-goes_with_chosen : (l : Level) → LevelGoesOn l → (body : Work) (t : Option Candidate) → GoesOn (with_chosen l body t)
-goes_with_chosen l h body None = goes_give
-goes_with_chosen l h body (Some t) = goes_then (goes_bind t) (λ _. h.stmt body)
+goes_with_chosen : (l : Level) → LevelGoesOn l → (gs : List Shape) (body : Work) (t : Option Candidate) → GoesOn (with_chosen l gs body t)
+goes_with_chosen l h gs body None = goes_give
+goes_with_chosen l h gs body (Some t) = goes_then (goes_bind (named gs t)) (λ _. h.stmt body)
 
 pub goes_select : (l : Level) → LevelGoesOn l → (at : Place) (gs : List Shape) (c : Option Seen) (body : Work) → GoesOn (select_form l at gs c body)
 unfolding select_form
-goes_select l h at gs c body = goes_then (goes_choice l h at None gs _ _) (λ t. goes_with_chosen l h body t)
+goes_select l h at gs c body = goes_then (goes_choice l h at None gs _ _) (λ t. goes_with_chosen l h gs body t)
 
 pub goes_select_by : (l : Level) → LevelGoesOn l → (at : Place) (x : Extreme) (gs : List Shape) (c : Option Seen) (key : Seen) (body : Work) → GoesOn (select_by_form l at x gs c key body)
 unfolding select_by_form
-goes_select_by l h at x gs c key body = goes_then (goes_choice l h at (Some x) gs _ (whole key)) (λ t. goes_with_chosen l h body t)
+goes_select_by l h at x gs c key body = goes_then (goes_choice l h at (Some x) gs _ (whole key)) (λ t. goes_with_chosen l h gs body t)
 
 -- moves
 

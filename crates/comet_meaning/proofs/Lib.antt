@@ -16,6 +16,7 @@ pub mod SpendingForms
 pub mod SpendingTerms
 pub mod SpendingConstraints
 pub mod SpendingPrograms
+pub mod SpendingSelection
 pub mod Computing
 pub mod Turns
 pub mod QueueTurns

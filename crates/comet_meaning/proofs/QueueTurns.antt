@@ -1,6 +1,6 @@
 -- The run of a queue is its first event, and then the run of what is left: each handler is a statement, which costs a unit,
 -- so the bound on the turns is never met.
-use Rattle.std.proofs.Common.{◌≡◌, zero, suc, ℕ, ◌≤◌, ◌<◌, List, [], ◌∷◌, Option, Some, None, slice_index_or, arith}
+use Rattle.std.proofs.Common.{◌≡◌, zero, suc, ℕ, ◌≤◌, List, [], ◌∷◌, Option, Some, None, slice_index_or, arith}
 use Rattle.cbl_base.specs.declared.place.Place.{Place}
 use Rattle.checked_tree.specs.Tasks as works
 use Rattle.checked_tree.specs.Tasks.{Work}
@@ -9,13 +9,13 @@ use Rattle.comet_meaning.specs.Search.{Closure, Handler, Event, no_handler}
 use Rattle.comet_meaning.specs.State.{State, left}
 use Rattle.comet_meaning.specs.Outcome.{Outcome, Went, Halted, Act, then_do, ◌>>=◌}
 use Rattle.comet_meaning.specs.Cells.{in_scope, in_frame, back_in}
-use Rattle.comet_meaning.specs.Levels.{Code, Level, Flow}
+use Rattle.comet_meaning.specs.Levels.{Code, Flow}
 use Rattle.comet_meaning.specs.Loops.{end_or, repeated}
-use Rattle.comet_meaning.specs.Events.{run_closure, put_queue, event_names, handle, first_event, next_event}
+use Rattle.comet_meaning.specs.Events.{run_closure, handle, first_event, next_event}
 use Rattle.comet_meaning.specs.Statements.{meaning_of_statement}
 use Rattle.comet_meaning.specs.Program.{level}
 use Rattle.comet_meaning.specs.Onward.{IsOnward, left_by, GoesOn}
-use Rattle.comet_meaning.proofs.GoingOn.{goes_then, goes_give, goes_back_in}
+use Rattle.comet_meaning.proofs.GoingOn.{goes_give, goes_back_in}
 use Rattle.comet_meaning.proofs.GoingEvents.{goes_event_names, goes_put_queue}
 use Rattle.comet_meaning.proofs.GoingStatements.{goes_level, goes_meaning_of_form}
 use Rattle.comet_meaning.proofs.Turns.{IsLess, TakesFuel, IsLessBefore, TurnTakesFuel, takes_charge, repeats_again}

@@ -218,12 +218,12 @@ binds_local : (slot : Slot) (v : Value) → is_local slot ≡ true → OnlyBinds
 binds_local (Local i) v p = binds_put i v
 binds_local (Global i) v p = (let no : false ≡ true = p in absurd cc)
 
-binds_bind : (known : List Bound) → AllLocal known → OnlyBinds (bind known)
+pub binds_bind : (known : List Bound) → AllLocal known → OnlyBinds (bind known)
 unfolding bind
 binds_bind [] p = binds spends_give
 binds_bind (b ∷ bs) p = binds_then (binds_local b.slot _ p.0) (λ _. binds_bind bs p.1)
 
-binds_generated : {A : Type 0} (at : Place) (known : List Bound) {next : Act A} → AllLocal known → OnlyBinds next → OnlyBinds (generated at known next)
+pub binds_generated : {A : Type 0} (at : Place) (known : List Bound) {next : Act A} → AllLocal known → OnlyBinds next → OnlyBinds (generated at known next)
 unfolding generated
 binds_generated at known p k = binds_then (binds (spends_charge 1 at)) (λ _. binds_then (binds_bind known p) (λ _. k))
 

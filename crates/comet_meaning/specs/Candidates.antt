@@ -1,7 +1,7 @@
 -- The candidates of a selector: the tuples of its generators, the last one fastest. They are listed first, and that costs
 -- what the generators' ranges cost and a unit at its name for each value of a generator other than the last one. A value
 -- of the last one costs nothing here. From the language.
-use Rattle.std.specs.Prelude.{List, [], ◌∷◌, ◌++◌, length, nat_lt}
+use Rattle.std.specs.Prelude.{ℤ, List, [], ◌∷◌, ◌++◌, length, nat_lt}
 use Rattle.cbl_base.specs.declared.place.Place.{Place}
 use Rattle.cbl_base.specs.declared.faults.Limit.TheVariants.{Candidates}
 use Rattle.cbl_base.specs.declared.faults.RunFault.TheVariants.{TooMany}
@@ -14,11 +14,11 @@ use Rattle.comet_meaning.specs.Outcome.{Went, Act, ◌>>=◌, give, unless, each
 use Rattle.comet_meaning.specs.Cells.{held}
 use Rattle.comet_meaning.specs.Levels.{Level}
 use Rattle.comet_meaning.specs.Parts.{value}
-use Rattle.comet_meaning.specs.Generators.{Bound, with_bound, each_tuple}
+use Rattle.comet_meaning.specs.Generators.{Bound, each_tuple}
 
--- a candidate: the names of all generators, with their values
+-- a candidate: the values of all generators, in order
 abbrev pub Candidate : Type 0
-Candidate = List Bound
+Candidate = List ℤ
 
 -- the generators in front of the last one, and the last one
 abbrev pub in_front : List Shape → List Shape
@@ -35,14 +35,18 @@ abbrev pub name_place : Shape → Place
 name_place (shapes.generator place slot domain) = place
 name_place g = record { line = 0; col = 0 }
 
--- the names of generators, with the values that they have now
-abbrev pub bound_in : State → List Shape → List Bound
-bound_in s [] = []
-bound_in s (shapes.generator place slot domain ∷ gs) = record { slot = slot; value = number_of (held s slot) } ∷ bound_in s gs
-bound_in s (g ∷ gs) = bound_in s gs
+-- the names of generators, with these values
+abbrev pub named : List Shape → Candidate → List Bound
+named (shapes.generator place slot domain ∷ gs) (v ∷ vs) = record { slot = slot; value = v } ∷ named gs vs
+named gs vs = []
 
-unfoldable pub bound_now : List Shape → Act (List Bound)
-bound_now gs = λ s. Went (bound_in s gs) s
+-- the values that the names of generators have now
+abbrev pub values_in : State → List Shape → List ℤ
+values_in s (shapes.generator place slot domain ∷ gs) = number_of (held s slot) ∷ values_in s gs
+values_in s gs = []
+
+unfoldable pub values_now : List Shape → Act (List ℤ)
+values_now gs = λ s. Went (values_in s gs) s
 
 -- one more candidate; there are at most so many
 abbrev pub with_candidate : Place → Candidate → List Candidate → Act (List Candidate)
@@ -53,8 +57,8 @@ with_candidate at c cs = unless (nat_lt (length cs) most_candidates) at (TooMany
 unfoldable pub last_form : Level → Place → List Shape → Shape → List Candidate → Act (List Candidate)
 last_form l at front (shapes.generator place slot domain) cs = do
   d ← value l domain
-  known ← bound_now front
-  each_in always (λ v ds. with_candidate at (with_bound known slot v) ds) d cs
+  known ← values_now front
+  each_in always (λ v ds. with_candidate at (known ++ v ∷ []) ds) d cs
 last_form l at front g cs = give cs
 
 -- all candidates, for each tuple of the generators in front of the last one

@@ -17,7 +17,7 @@ use Rattle.comet_meaning.specs.Levels.{Level, Flow, Next}
 use Rattle.comet_meaning.specs.Parts.{condition, number}
 use Rattle.comet_meaning.specs.Generators.{bind, generated}
 use Rattle.comet_meaning.specs.Draws.{below}
-use Rattle.comet_meaning.specs.Candidates.{Candidate, candidates_form}
+use Rattle.comet_meaning.specs.Candidates.{Candidate, named, candidates_form}
 
 -- the scan
 
@@ -38,9 +38,9 @@ rated_form l c key n xs = do
   if passes then (key_form l key >>= λ k. give (xs ++ record { number = n; key = k } ∷ [])) else give xs
 
 -- candidates in order, numbered from here on
-unfoldable pub scanned : Level → Place → Shape → Shape → ℕ → List Candidate → List Rated → Act (List Rated)
-scanned l at c key n [] xs = give xs
-scanned l at c key n (t ∷ ts) xs = generated at t (rated_form l c key n xs) >>= scanned l at c key (suc n) ts
+unfoldable pub scanned : Level → Place → List Shape → Shape → Shape → ℕ → List Candidate → List Rated → Act (List Rated)
+scanned l at gs c key n [] xs = give xs
+scanned l at gs c key n (t ∷ ts) xs = generated at (named gs t) (rated_form l c key n xs) >>= scanned l at gs c key (suc n) ts
 
 -- all candidates, and those that are kept
 pub record Scan : Type 0 where
@@ -49,7 +49,7 @@ pub record Scan : Type 0 where
 
 -- the names of the generators end with the scan
 unfoldable pub scan_form : Level → Place → List Shape → Shape → Shape → Act Scan
-scan_form l at gs c key = in_scope (candidates_form l at gs >>= λ ts. scanned l at c key 0 ts [] >>= λ xs. give (record { candidates = ts; kept = xs }))
+scan_form l at gs c key = in_scope (candidates_form l at gs >>= λ ts. scanned l at gs c key 0 ts [] >>= λ xs. give (record { candidates = ts; kept = xs }))
 
 -- the choice
 
@@ -86,12 +86,12 @@ choice_form l at x gs c key = do
 
 -- the body, with the chosen one's names
 
-abbrev pub with_chosen : Level → Work → Option Candidate → Act Flow
-with_chosen l body None = give Next
-with_chosen l body (Some t) = bind t >>= λ _. l.stmt body
+abbrev pub with_chosen : Level → List Shape → Work → Option Candidate → Act Flow
+with_chosen l gs body None = give Next
+with_chosen l gs body (Some t) = bind (named gs t) >>= λ _. l.stmt body
 
 unfoldable pub select_form : Level → Place → List Shape → Option Seen → Work → Act Flow
-select_form l at gs c body = choice_form l at None gs (optional whole c) shapes.left_out >>= with_chosen l body
+select_form l at gs c body = choice_form l at None gs (optional whole c) shapes.left_out >>= with_chosen l gs body
 
 unfoldable pub select_by_form : Level → Place → Extreme → List Shape → Option Seen → Seen → Work → Act Flow
-select_by_form l at x gs c key body = choice_form l at (Some x) gs (optional whole c) (whole key) >>= with_chosen l body
+select_by_form l at x gs c key body = choice_form l at (Some x) gs (optional whole c) (whole key) >>= with_chosen l gs body

@@ -7,6 +7,8 @@ ghost use Rattle.cbl_base.specs.declared.faults.RunFault.TheVariants.{AlreadyClo
 ghost use Rattle.comet_meaning.specs.Outcome.{Faulted, SpentAt, then_do, give};
 ghost use Rattle.comet_meaning.specs.Loops.{while_form, turn_form, end_or, repeated};
 ghost use Rattle.comet_meaning.specs.Events.{next_event};
+ghost use Rattle.comet_meaning.specs.Selection.{scan_form};
+ghost use Rattle.std.specs.List.{list_all};
 ghost use Rattle.comet_meaning.specs.State.{State};
 ghost use Rattle.comet_meaning.specs.Program.{level, code_of, run, meaning, Done, Stopped};
 ghost use Rattle.comet_meaning.specs.Purity.{is_pure, pure_functions};
@@ -34,9 +36,17 @@ pub fn pure_expressions_only_spend_fuel()
     ensures { (functions : List Coded) (room : ℕ) (e : Shape) (s : State) → is_pure (pure_functions functions) e ≡ true → IsSpent s ((level (code_of functions) room).expr e s) }
 {}
 
-/// A pure expression does the same whatever the data is, what each input has read of it, and what was printed.
+/// A pure expression does the same whatever the data is, what each input has read of it, which words come, which solutions,
+/// handlers and events there are, and what was printed.
 pub fn pure_expressions_see_no_data()
     ensures { (functions : List Coded) (room : ℕ) (e : Shape) (outside : Outside) (s : State) → is_pure (pure_functions functions) e ≡ true → (level (code_of functions) room).expr e (with_outside outside s) ≡ leaving outside ((level (code_of functions) room).expr e s) }
+{}
+
+/// Where its generators, its condition and its key are pure, the scan of a selector's candidates changes nothing of the
+/// state but the fuel, and does the same whatever the data is, which words come, and what else no pure expression sees.
+pub fn pure_scans_only_spend_fuel()
+    ensures fuel { (functions : List Coded) (room : ℕ) (at : Place) (gs : List Shape) (condition key : Shape) (s : State) → list_all (is_pure (pure_functions functions)) gs ≡ true → is_pure (pure_functions functions) condition ≡ true → is_pure (pure_functions functions) key ≡ true → IsSpent s (scan_form (level (code_of functions) room) at gs condition key s) }
+    ensures inside { (functions : List Coded) (room : ℕ) (at : Place) (gs : List Shape) (condition key : Shape) (outside : Outside) (s : State) → list_all (is_pure (pure_functions functions)) gs ≡ true → is_pure (pure_functions functions) condition ≡ true → is_pure (pure_functions functions) key ≡ true → scan_form (level (code_of functions) room) at gs condition key (with_outside outside s) ≡ leaving outside (scan_form (level (code_of functions) room) at gs condition key s) }
 {}
 
 /// A `while` is its first turn and then, where that doesn't end it, the same `while` again: that its turns are counted
