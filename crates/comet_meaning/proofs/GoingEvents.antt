@@ -8,14 +8,14 @@ use Rattle.checked_tree.specs.Tasks.{Work}
 use Rattle.comet_meaning.specs.Values as values
 use Rattle.comet_meaning.specs.Values.{Value}
 use Rattle.comet_meaning.specs.Solvers.{SolverState}
-use Rattle.comet_meaning.specs.Search.{Closure, Handler, Event, no_handler}
+use Rattle.comet_meaning.specs.Search.{Closure, Reaction, Event, no_reaction}
 use Rattle.comet_meaning.specs.State.{left}
 use Rattle.comet_meaning.specs.Outcome.{Act}
 use Rattle.comet_meaning.specs.Levels.{Level, Flow, Target, Moved}
 use Rattle.comet_meaning.specs.Loops.{end_or, turns, repeated}
 use Rattle.comet_meaning.specs.Parts.{solver_at}
 use Rattle.comet_meaning.specs.Changes.{notice, noticed}
-use Rattle.comet_meaning.specs.Events.{closed_over, run_closure, attached, whenever_form, put_queue, put_running, event_names, handle, first_event, next_event, run_all, run_queue, behind_commit}
+use Rattle.comet_meaning.specs.Events.{closed_over, run_closure, attached, whenever_form, put_queue, put_running, event_names, react, first_event, next_event, run_all, run_queue, behind_commit}
 use Rattle.comet_meaning.specs.Onward.{GoesOn}
 use Rattle.comet_meaning.proofs.GoingOn.{onward_refl, goes_then, goes_give, goes_if, goes_at, goes_put, goes_in_scope, goes_in_frame}
 use Rattle.comet_meaning.proofs.GoingParts.{LevelGoesOn}
@@ -79,13 +79,13 @@ pub goes_event_names : (names : Option EventSlots) (e : Event) → GoesOn (event
 goes_event_names None e = goes_give
 goes_event_names (Some names) e = goes_then (goes_put names.old _) (λ _. goes_put names.new _)
 
-pub goes_handle : (l : Level) → LevelGoesOn l → (e : Event) (x : Handler) → GoesOn (handle l e x)
-goes_handle l h e x = goes_run_closure l h x.closure (goes_event_names x.names e)
+pub goes_react : (l : Level) → LevelGoesOn l → (e : Event) (x : Reaction) → GoesOn (react l e x)
+goes_react l h e x = goes_run_closure l h x.closure (goes_event_names x.names e)
 
 pub goes_first_event : (l : Level) → LevelGoesOn l → (es : List Event) → GoesOn (first_event l es)
 goes_first_event l h [] = goes_give
 goes_first_event l h (e ∷ es) =
-    goes_at (λ s. goes_then (goes_put_queue es) (λ _. goes_then (goes_handle l h e (slice_index_or s.search.handlers e.handler no_handler)) (λ _. goes_give {x = None})))
+    goes_at (λ s. goes_then (goes_put_queue es) (λ _. goes_then (goes_react l h e (slice_index_or s.search.reactions e.reaction no_reaction)) (λ _. goes_give {x = None})))
 
 pub goes_next_event : (l : Level) → LevelGoesOn l → GoesOn (next_event l)
 unfolding next_event

@@ -5,13 +5,13 @@ use Rattle.cbl_base.specs.declared.place.Place.{Place}
 use Rattle.checked_tree.specs.Tasks as works
 use Rattle.checked_tree.specs.Tasks.{Work}
 use Rattle.comet_meaning.specs.Values.{Value}
-use Rattle.comet_meaning.specs.Search.{Closure, Handler, Event, no_handler}
+use Rattle.comet_meaning.specs.Search.{Closure, Reaction, Event, no_reaction}
 use Rattle.comet_meaning.specs.State.{State, left}
 use Rattle.comet_meaning.specs.Outcome.{Outcome, Went, Halted, Act, then_do, ◌>>=◌}
 use Rattle.comet_meaning.specs.Cells.{in_scope, in_frame, back_in}
 use Rattle.comet_meaning.specs.Levels.{Code, Flow}
 use Rattle.comet_meaning.specs.Loops.{end_or, repeated}
-use Rattle.comet_meaning.specs.Events.{run_closure, handle, first_event, next_event}
+use Rattle.comet_meaning.specs.Events.{run_closure, react, first_event, next_event}
 use Rattle.comet_meaning.specs.Statements.{meaning_of_statement}
 use Rattle.comet_meaning.specs.Program.{level}
 use Rattle.comet_meaning.specs.Onward.{IsOnward, left_by, GoesOn}
@@ -65,12 +65,12 @@ unfolding run_closure
 takes_run_closure c room x k =
     takes_in_scope (takes_in_frame x.frame (goes_taking k (λ _. takes_then (takes_statement c room x.place x.work) (λ flow. goes_give))))
 
-pub takes_handle : (c : Code) (room : ℕ) (e : Event) (h : Handler) → TakesFuel (handle (level c room) e h)
-takes_handle c room e h = takes_run_closure c room h.closure (goes_event_names h.names e)
+pub takes_react : (c : Code) (room : ℕ) (e : Event) (h : Reaction) → TakesFuel (react (level c room) e h)
+takes_react c room e h = takes_run_closure c room h.closure (goes_event_names h.names e)
 
 event_before : (c : Code) (room : ℕ) (es : List Event) (s : State) → IsLessBefore s (first_event (level c room) es s)
 event_before c room [] s = tt
-event_before c room (e ∷ es) s = before _ ((goes_taking (goes_put_queue es) (λ _. takes_then (takes_handle c room e (slice_index_or s.search.handlers e.handler no_handler)) (λ _. goes_give {x = None}))).from s) where
+event_before c room (e ∷ es) s = before _ ((goes_taking (goes_put_queue es) (λ _. takes_then (takes_react c room e (slice_index_or s.search.reactions e.reaction no_reaction)) (λ _. goes_give {x = None}))).from s) where
   before : (o : Outcome (Option Flow)) → IsLess s o → IsLessBefore s o
   before (Went None t) h = h
   before (Went (Some flow) t) h = tt

@@ -1,7 +1,7 @@
 -- What a commit changes, and which events it queues: for each variable of numbers whose value differs, in order of
 -- declaration, each of its handlers, in order of `whenever`, with the old and the new value. A commit before `close`, and
 -- one that changes nothing, queue nothing. From the language.
-use Rattle.std.specs.Prelude.{ℕ, suc, ℤ, Bool, ◌&&◌, List, [], ◌∷◌, ◌++◌, flat_map, filter_map, Option, Some, None, nat_eq, if◌then◌else◌}
+use Rattle.std.specs.Prelude.{ℕ, ℤ, Bool, ◌&&◌, List, [], ◌++◌, filter, filter_map, flat_map, map, Option, Some, None, nat_eq, if◌then◌else◌}
 use Rattle.std.specs.List.{range_with_len}
 use Rattle.std.specs.Ordering.{int_eq}
 use Rattle.comet_meaning.specs.Values.{Value, Number}
@@ -31,14 +31,12 @@ changes_of m n = if m.closed then changes_between m n else []
 abbrev pub is_handler_of : ℕ → ℕ → Handler → Bool
 is_handler_of k x h = nat_eq h.variable.solver k && nat_eq h.variable.index x
 
--- the events of one change, for handlers that are numbered from here on
-abbrev pub events_of : ℕ → Change → ℕ → List Handler → List Event
-events_of k c n [] = []
-events_of k c n (h ∷ hs) =
-    if is_handler_of k c.index h then record { handler = n; old = c.old; new = c.new } ∷ events_of k c (suc n) hs else events_of k c (suc n) hs
+-- the events of one change
+abbrev pub events_of : ℕ → List Handler → Change → List Event
+events_of k hs c = map (λ h. record { reaction = h.reaction; old = c.old; new = c.new }) (filter (is_handler_of k c.index) hs)
 
 abbrev pub queued_events : ℕ → List Handler → List Change → List Event
-queued_events k hs cs = flat_map (λ c. events_of k c 0 hs) cs
+queued_events k hs cs = flat_map (events_of k hs) cs
 
 -- events behind those that wait
 abbrev pub with_events : List Event → Search → Search

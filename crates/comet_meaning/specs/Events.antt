@@ -1,14 +1,15 @@
 -- `whenever`, and what a commit does with the events that it queued: the outermost commit runs all, first in, first out,
 -- and those that come while it does; a commit inside a handler only queues its own. A handler sees the names of its
 -- `whenever` as they were there, each run of it anew. From the language.
-use Rattle.std.specs.Prelude.{Bool, true, false, List, [], ◌∷◌, ◌++◌, Option, Some, None, slice_index_or, if◌then◌else◌}
+use Rattle.std.specs.Prelude.{Bool, true, false, List, [], ◌∷◌, ◌++◌, length, Option, Some, None, slice_index_or, if◌then◌else◌}
+use Rattle.cbl_base.specs.declared.ids.VarId.{VarId}
 use Rattle.cbl_base.specs.declared.place.Place.{Place}
 use Rattle.checked_tree.specs.declared.statements.EventSlots.{EventSlots}
 use Rattle.checked_tree.specs.Shape.{Seen, whole}
 use Rattle.checked_tree.specs.Tasks as works
 use Rattle.checked_tree.specs.Tasks.{Work}
 use Rattle.comet_meaning.specs.Values.{Value, Number, Variable}
-use Rattle.comet_meaning.specs.Search.{Closure, Handler, Event, Search, no_handler}
+use Rattle.comet_meaning.specs.Search.{Closure, Reaction, Event, Search, no_reaction}
 use Rattle.comet_meaning.specs.Outcome.{Went, Act, ◌>>=◌, give}
 use Rattle.comet_meaning.specs.Cells.{put, in_scope, in_frame}
 use Rattle.comet_meaning.specs.Levels.{Level, Flow, Next, Target, Moved}
@@ -27,11 +28,12 @@ run_closure l c bound = in_scope (in_frame c.frame (bound >>= λ _. l.stmt (work
 
 -- `whenever`
 
-abbrev pub with_handler : Handler → Search → Search
-with_handler h x = record x { handlers = x.handlers ++ h ∷ [] }
+-- one more reaction, and the handler of a variable that it is
+abbrev pub with_reaction : VarId → Reaction → Search → Search
+with_reaction v r x = record x { reactions = x.reactions ++ r ∷ []; handlers = x.handlers ++ record { variable = v; reaction = length x.reactions } ∷ [] }
 
 abbrev pub attached : Value → Option EventSlots → Option Closure → Act (Unit {0})
-attached (Variable x) names (Some c) = λ s. Went tt (record s { search = with_handler (record { variable = x; names = names; closure = c }) s.search })
+attached (Variable x) names (Some c) = λ s. Went tt (record s { search = with_reaction x (record { names = names; closure = c }) s.search })
 attached v names c = give tt
 
 unfoldable pub whenever_form : Level → Seen → Option EventSlots → Work → Act Flow
@@ -60,15 +62,15 @@ abbrev pub event_names : Option EventSlots → Event → Act (Unit {0})
 event_names None e = give tt
 event_names (Some names) e = put names.old (Number e.old) >>= λ _. put names.new (Number e.new)
 
-abbrev pub handle : Level → Event → Handler → Act (Unit {0})
-handle l e h = run_closure l h.closure (event_names h.names e)
+abbrev pub react : Level → Event → Reaction → Act (Unit {0})
+react l e r = run_closure l r.closure (event_names r.names e)
 
--- the first event is taken off the queue, and its handler runs; without one the queue has been run
+-- the first event is taken off the queue, and what it names runs; without one the queue has been run
 abbrev pub first_event : Level → List Event → Act (Option Flow)
 first_event l [] = give (Some Next)
 first_event l (e ∷ es) = λ s. (do
   _ ← put_queue es
-  _ ← handle l e (slice_index_or s.search.handlers e.handler no_handler)
+  _ ← react l e (slice_index_or s.search.reactions e.reaction no_reaction)
   give None) s
 
 unfoldable pub next_event : Level → Act (Option Flow)

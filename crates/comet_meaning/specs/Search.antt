@@ -26,24 +26,29 @@ pub record Snapshot : Type 0 where
   pub solver : ℕ
   pub values : List ℤ
 
--- what `whenever` attached to a variable, with the cells of the old and the new value
-pub record Handler : Type 0 where
-  pub variable : VarId
+-- what `whenever` makes of its statement, with the cells of the old and the new value
+pub record Reaction : Type 0 where
   pub names : Option EventSlots
   pub closure : Closure
 
--- what a handler is to be told, by its number
+-- a variable, and the number of what runs when its value changes
+pub record Handler : Type 0 where
+  pub variable : VarId
+  pub reaction : ℕ
+
+-- what is to run, by its number, and what it is told
 pub record Event : Type 0 where
-  pub handler : ℕ
+  pub reaction : ℕ
   pub old : ℤ
   pub new : ℤ
 
--- What no pure expression sees. The handlers stand in the order of `whenever`, the events in that of their commits.
+-- What no pure expression sees. Reactions and handlers stand in the order of `whenever`, events in that of their commits.
 pub record Search : Type 0 where
   pub seed : ℕ
   -- the words that are still to come
   pub words : Lcg
   pub solutions : List Snapshot
+  pub reactions : List Reaction
   pub handlers : List Handler
   pub queue : List Event
   -- whether a commit is running the queue
@@ -55,6 +60,7 @@ first_search seed = record {
   seed = seed;
   words = words_of seed main_stream;
   solutions = [];
+  reactions = [];
   handlers = [];
   queue = [];
   running = false;
@@ -64,5 +70,5 @@ first_search seed = record {
 abbrev pub no_closure : Closure
 no_closure = record { place = record { line = 0; col = 0 }; work = no_more; frame = [] }
 
-abbrev pub no_handler : Handler
-no_handler = record { variable = record { solver = 0; index = 0 }; names = None; closure = no_closure }
+abbrev pub no_reaction : Reaction
+no_reaction = record { names = None; closure = no_closure }

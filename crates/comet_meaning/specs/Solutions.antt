@@ -1,22 +1,21 @@
 -- Solutions: a solution keeps the numbers of the free variables of a closed solver, and `restore` commits them at once.
 -- While a `with` is open on the solver it keeps those of its start, and a `restore` waits for its end. From the language.
-use Rattle.std.specs.Prelude.{ℕ, ℤ, Bool, not, ◌&&◌, List, [], ◌∷◌, ◌++◌, length, map, filter, zip, Option, Some, None, nat_eq, slice_get}
+use Rattle.std.specs.Prelude.{ℕ, ℤ, Bool, not, List, [], ◌∷◌, ◌++◌, length, map, filter, zip, Option, Some, None, nat_eq, slice_get}
 use Rattle.std.specs.List.{range_with_len}
-use Rattle.cbl_base.specs.Inputs.{is_number_kind}
 use Rattle.cbl_base.specs.declared.place.Place.{Place}
 use Rattle.cbl_base.specs.declared.faults.RunFault.TheVariants.{NotClosed, WrongSolver}
 use Rattle.comet_meaning.specs.Values.{Value, Nothing, Solution}
-use Rattle.comet_meaning.specs.Solvers.{SolverState, variable_count, is_defined, kind_in}
+use Rattle.comet_meaning.specs.Solvers.{SolverState, variable_count, is_defined}
 use Rattle.comet_meaning.specs.Search.{Snapshot, Search}
 use Rattle.comet_meaning.specs.Outcome.{Went, Act, ◌>>=◌, give, unless}
 use Rattle.comet_meaning.specs.Parts.{solver_at}
 use Rattle.comet_meaning.specs.Models.{number_now, move}
 use Rattle.comet_meaning.specs.Changes.{noticed}
 
--- the free variables, in order of declaration, and their numbers
+-- the free variables, in order of declaration, and their numbers; a set variable has a definition from the start
 
 abbrev pub is_free : SolverState → ℕ → Bool
-is_free m x = not (is_defined m x) && is_number_kind (kind_in m x)
+is_free m x = not (is_defined m x)
 
 abbrev pub free_variables : SolverState → List ℕ
 free_variables m = filter (is_free m) (range_with_len 0 (variable_count m))
