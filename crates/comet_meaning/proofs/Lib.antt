@@ -20,6 +20,7 @@ pub mod SpendingSelection
 pub mod Computing
 pub mod Turns
 pub mod QueueTurns
+pub mod ChangeLaws
 pub mod WordLaws
 pub mod Endings
 pub mod Tuples
