@@ -62,6 +62,10 @@ whole_done f (values.Variable x) s = refl
 whole_done f (values.Variables n) s = refl
 whole_done f (values.Solver n) s = refl
 whole_done f (values.Input n) s = refl
+whole_done f (values.Distribution b) s = refl
+whole_done f (values.Selector n) s = refl
+whole_done f (values.Move n) s = refl
+whole_done f (values.Solution n) s = refl
 
 pub done_so : (f : ℕ → Whole → Act values.Value) (v : values.Value) (o : Option TotalId) (s : State) → o ≡ total_in v → of_whole f v s ≡ done_with f o s
 done_so f v o s e = whole_done f v s ∙ ap (λ p. done_with f p s) (sym e)
