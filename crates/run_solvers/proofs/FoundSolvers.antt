@@ -1,14 +1,13 @@
 -- Solvers by their numbers: what is done to one that is there is done to the state, and one that isn't there has no
 -- variables.
-use Rattle.std.proofs.Common.{◌≡◌, ℕ, zero, suc, ◌<◌, ◌≤◌, ◌+◌, ℤ, Bool, true, false, not, ◌&&◌, ◌||◌, List, [], ◌∷◌, ◌++◌, Option, Some, None, Result, Ok, Err, IfOk, ◌⊎◌, inl, inr, length, get_or, set, map, zip, refl, sym, ap, ◌∙◌, subst, arith, rules, slice_get, nat_eq}
+use Rattle.std.proofs.Common.{◌≡◌, ℕ, zero, suc, ◌<◌, ◌≤◌, ℤ, Bool, true, false, not, ◌&&◌, ◌||◌, List, [], ◌∷◌, ◌++◌, Option, Some, None, Result, Ok, Err, IfOk, ◌⊎◌, inl, inr, length, get_or, set, map, zip, refl, sym, ap, ◌∙◌, subst, arith, rules, slice_get, nat_eq}
 use Rattle.std.specs.Prelude.{IfErr, OnOk, is_some, nat_lt, if◌then◌else◌}
-use Rattle.std.proofs.lemmas.List.{get_or-map, get_or_past, length-map, map-set, set_past}
+use Rattle.std.proofs.lemmas.List.{get_or-map, get_or_past, length-map, map-set}
 use Rattle.std.proofs.lemmas.Option.{slice_get-get_or}
 use Rattle.cbl_base.proofs.PlaceLemmas.{others_stay}
 use native.Mathlib.Decide.{ℕ_discrete}
 use Rattle.cbl_base.specs.declared.ids.VarId.{VarId}
 use Rattle.cbl_base.specs.declared.place.Place.{Place}
-use Rattle.cbl_base.specs.declared.faults.RunFault.{RunFault}
 use Rattle.cbl_base.specs.declared.faults.Limit.TheVariants.{TermNodes}
 use Rattle.cbl_base.specs.declared.faults.RunFault.TheVariants.{AlreadyClosed, DefinedVariable, NotClosed, TooMany, WrongSolver}
 use Rattle.model_view.specs.Building.{empty_model}
@@ -26,7 +25,7 @@ use Rattle.term_model.proofs.VarLaws.{set_same}
 use Rattle.comet_meaning.specs.Values.{Value, Solver}
 use Rattle.comet_meaning.specs.Solvers.{SolverState, new_solver, has_variable, is_defined, fresh_values, variable_count}
 use Rattle.comet_meaning.specs.State.{State, left}
-use Rattle.comet_meaning.specs.Outcome.{Outcome, Went, Halted, Faulted, SpentAt, Cyclic, Act, ◌>>=◌, fault, give}
+use Rattle.comet_meaning.specs.Outcome.{Went, Halted, Faulted, SpentAt, Cyclic, Act, ◌>>=◌, fault, give}
 use Rattle.comet_meaning.specs.Parts.{solver_at, variable_value}
 use Rattle.comet_meaning.specs.Solutions.{free_variables}
 use Rattle.run_solvers.specs.Solutions.{restored_one}

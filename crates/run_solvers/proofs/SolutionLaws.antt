@@ -1,5 +1,5 @@
 -- Solutions: what is kept and restored of a solver is what the meaning of programs says.
-use Rattle.std.proofs.Common.{◌≡◌, ℕ, zero, suc, ◌+◌, ◌<◌, ◌≤◌, ℤ, pos, Bool, true, false, ◌&&◌, Vec, Global, List, [], ◌∷◌, ◌++◌, ◌-◌, append_assoc, Option, Some, None, Result, Ok, Err, is_some, length, length-set, set, map, filter, filter_map, zip, get_or, refl, sym, ap, ◌∙◌, subst, true≢false, nat_eq, arith, slice_get, fold}
+use Rattle.std.proofs.Common.{◌≡◌, ℕ, zero, suc, ◌+◌, ◌<◌, ◌≤◌, ℤ, pos, Bool, true, false, ◌&&◌, Vec, Global, List, [], ◌∷◌, ◌++◌, ◌-◌, append_assoc, Option, Some, None, Result, Ok, Err, is_some, length, length-set, set, map, filter, filter_map, zip, get_or, refl, sym, ap, ◌∙◌, subst, true≢false, nat_eq, arith, slice_get}
 use Rattle.std.specs.Prelude.{not, cond, if◌then◌else◌}
 use Rattle.std.specs.Option.{option_map}
 use Rattle.std.specs.List.{cons_option, range_with_len}
@@ -18,23 +18,22 @@ use Rattle.ls_solver.specs.Restoring.{Restores, RestoresBy, restore_refusal, sna
 use Rattle.ls_solver.specs.State as solvers
 use Rattle.ls_solver.specs.declared.fault.SolverFault.{SolverFault}
 use Rattle.ls_solver.specs.declared.fault.SolverFault.TheVariants as faults
-use Rattle.solver_models.specs.FreeVariables.{free_places, free_values, moves_to, numbers_at}
+use Rattle.solver_models.specs.FreeVariables.{free_places, free_values, moves_to}
 use Rattle.solver_models.specs.Ids.{id_at}
 use Rattle.solver_models.proofs.FreeLaws.{never_refused as never_refused_moves}
-use Rattle.term_model.specs.Wellformed.{HasDefinedSets}
 use Rattle.comet_meaning.specs.Models as meant
 use Rattle.comet_meaning.specs.Models.{number_now}
 use Rattle.comet_meaning.specs.Outcome.{Faulted, Went, ◌>>=◌, give, unless}
 use Rattle.comet_meaning.specs.State.{State}
-use Rattle.comet_meaning.specs.Solutions.{is_free, free_variables, free_numbers}
-use Rattle.comet_meaning.specs.Solvers.{SolverState, variable_count, is_defined}
+use Rattle.comet_meaning.specs.Solutions.{free_variables, free_numbers}
+use Rattle.comet_meaning.specs.Solvers.{SolverState, variable_count}
 use Rattle.run_solvers.specs.Changing.{Made, evaluated, moved_one, refused}
-use Rattle.run_solvers.specs.Kept.{AreWaiting, IsWhole}
+use Rattle.run_solvers.specs.Kept.{AreWaiting}
 use Rattle.run_solvers.specs.Solutions.{kept_numbers, restored_one}
 use Rattle.run_solvers.specs.Views.{solver_seen}
 use Rattle.run_solvers.specs.Waiting.{indexed, overlaid, waiting_behind}
 use Rattle.run_solvers.proofs.BlockLaws.{moved_now, waiting_kept}
-use Rattle.run_solvers.proofs.CommitLaws.{commits_fault, commits_ok, committed_kept}
+use Rattle.run_solvers.proofs.CommitLaws.{commits_fault, commits_ok}
 use Rattle.run_solvers.proofs.SeenLaws.{count_seen, defined_seen}
 use Rattle.run_solvers.proofs.WaitingLaws.{overlaid_set}
 

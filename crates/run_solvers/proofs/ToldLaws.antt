@@ -1,5 +1,5 @@
 -- What a commit of a solver tells are the changes that the meaning of programs sees.
-use Rattle.std.proofs.Common.{◌≡◌, ◌<◌, ℕ, ℤ, Bool, true, false, Vec, Global, List, [], ◌∷◌, Option, Some, None, Result, Ok, Err, length, length-set, get_or, set, map, filter_map, refl, sym, ap, ◌∙◌, subst, slice_get}
+use Rattle.std.proofs.Common.{◌≡◌, ◌<◌, ℕ, ℤ, Bool, true, false, Vec, Global, List, [], ◌∷◌, Option, Some, None, Result, Ok, Err, length, length-set, get_or, set, map, filter_map, refl, sym, ap, ◌∙◌, subst}
 use Rattle.std.specs.Prelude.{IfOk, OnOk, if◌then◌else◌}
 use Rattle.std.specs.Option.{option_map}
 use Rattle.std.specs.List.{cons_option, range_with_len}

@@ -1,5 +1,5 @@
 -- The numbers of all free variables wait.
-use Rattle.std.proofs.Common.{◌≡◌, ℕ, List, length, refl, sym, ◌∙◌, ap, subst, arith}
+use Rattle.std.proofs.Common.{◌≡◌, ℕ, List, length, refl, ◌∙◌, ap, subst, arith}
 use Rattle.std.specs.Prelude.{zip}
 use Rattle.std.specs.Option.{option_map}
 use Rattle.solver_models.specs.FreeVariables.{free_places}

@@ -1,6 +1,5 @@
 -- The solver is there, and the change is its own; or it isn't there.
 use Rattle.std.proofs.Common.{◌≡◌, ◌<◌, List, length, get_or, map, set, subst, refl, sym, ◌∙◌, ap, arith, rules}
-use Rattle.comet_meaning.specs.Parts.{solver_at}
 use Rattle.run_solvers.specs.Told.{TellsIn}
 use Rattle.run_solvers.proofs.ToldLaws.{nothing_told, tells_there}
 use Rattle.comet_meaning.specs.Outcome.{Went}

@@ -2,7 +2,7 @@
 use Rattle.std.proofs.Common.{◌≡◌, ◌<◌, List, length, get_or, map, set, refl, sym, ◌∙◌, ap, subst, arith, rules}
 use Rattle.comet_meaning.specs.Parts.{solver_at}
 use Rattle.comet_meaning.specs.Solvers.{SolverState}
-use Rattle.run_solvers.specs.Changing.{Made, changed}
+use Rattle.run_solvers.specs.Changing.{changed}
 use Rattle.run_solvers.specs.Solutions.{restored_one}
 use Rattle.run_solvers.specs.Told.{TellsIn}
 use Rattle.run_solvers.specs.Views.{held_seen}

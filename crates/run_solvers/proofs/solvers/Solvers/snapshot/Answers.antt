@@ -2,7 +2,6 @@
 use Rattle.std.proofs.Common.{◌≡◌, ◌<◌, length, get_or, sym, ap, ◌∙◌, arith}
 use Rattle.comet_meaning.specs.Solvers.{SolverState}
 use Rattle.run_solvers.specs.Solutions.{kept_numbers}
-use Rattle.run_solvers.specs.Views.{held_seen}
 use Rattle.run_solvers.proofs.FoundSolvers.{found, kept_there, not_found}
 use Rattle.run_solvers.proofs.solvers.Solvers.snapshot.Goals as goal
 
