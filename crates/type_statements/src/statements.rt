@@ -345,7 +345,7 @@ fn check_neighbor(
     let slot = write_name(checker, place, Kind::Selector, fit, selector, scope);
     let (key, slot) = beside(key, slot)?;
     let (key, body) = beside(key, check_own(checker, apart(scope), body))?;
-    Ok(make_neighbor(place, key, slot, body))
+    make_neighbor(checker.alloc(), place, key, slot, body)
 }
 
 #[cycle(statement)]
@@ -380,7 +380,7 @@ fn watching_within(
 {
     let (variable, slots) = beside(variable, declare_events(checker, scope, names))?;
     let (variable, body) = beside(variable, check_own(checker, scope, body))?;
-    Ok(make_whenever(place, variable, slots, body))
+    make_whenever(checker.alloc(), place, variable, slots, body)
 }
 
 #[cycle(statement)]
