@@ -1,3 +1,4 @@
 pub mod Views
 pub mod Did
 pub mod Texts
+pub mod Later

@@ -8,12 +8,14 @@ pub mod aggregates;
 pub mod bounds;
 pub mod builtins;
 pub mod cells;
+pub mod later;
 pub mod operators;
 pub mod stop;
 pub mod texts;
 pub mod values;
 
 pub use aggregates::Element;
+pub use later::{Closure, KeptMove, Reaction};
 pub use stop::{OutStop, Stop};
 pub use texts::Shown;
 pub use values::{Bounds, Cells, Extent, Value, VariableCells};
