@@ -1,6 +1,6 @@
 //! Statements that run later, and what the names of their call held where they were made.
 ghost use Rattle.std.specs.Prelude.{◌≡◌, IfErr, IfOk, map};
-ghost use Rattle.run_values.specs.Later.{closure_of, closure_seen};
+ghost use Rattle.run_values.specs.Later.{closure_of, closure_seen, move_seen, reaction_seen};
 ghost use Rattle.run_values.specs.Views.{value_seen};
 ghost use Rattle.run_values.specs.declared.stop.Stop.TheVariants.{NoMemory};
 
@@ -49,5 +49,33 @@ impl Closure {
         ensures memory { IfErr result (λ stop. stop ≡ NoMemory) }
     {
         Closure::new(alloc, &self.body, &self.frame)
+    }
+}
+
+impl KeptMove {
+    /// A copy. `NoMemory` where there is none for it; there is no other stop.
+    pub fn copied(&self, alloc: Global) -> Result<KeptMove, Stop>
+        ensures same { IfOk result (λ m. move_seen m ≡ move_seen self.now) }
+        ensures memory { IfErr result (λ stop. stop ≡ NoMemory) }
+    {
+        let closure = self.closure.copied(alloc)?;
+        Ok(KeptMove {
+            delta: self.delta,
+            closure,
+        })
+    }
+}
+
+impl Reaction {
+    /// A copy. `NoMemory` where there is none for it; there is no other stop.
+    pub fn copied(&self, alloc: Global) -> Result<Reaction, Stop>
+        ensures same { IfOk result (λ r. reaction_seen r ≡ reaction_seen self.now) }
+        ensures memory { IfErr result (λ stop. stop ≡ NoMemory) }
+    {
+        let closure = self.closure.copied(alloc)?;
+        Ok(Reaction {
+            names: self.names,
+            closure,
+        })
     }
 }
