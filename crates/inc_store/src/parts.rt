@@ -1,0 +1,22 @@
+//! Why a store can't be built, or a commit ends it.
+
+use cbl_base::{NoMemory, NodeId, RunFault};
+
+/// Why a store can't be built, or a commit ends it.
+#[derive(Drop, Debug)]
+pub enum StoreFault {
+    /// The least node whose own operation fails though all its inputs have values, and its fault.
+    Node(NodeId, RunFault),
+    NoMemory,
+}
+
+impl From<NoMemory> for StoreFault {
+    ghost use Rattle.std.specs.Prelude.{◌≡◌};
+    ghost use Rattle.inc_store.specs.declared.parts.StoreFault.TheVariants.{NoMemory as WithoutMemory};
+
+    ghost from_gives = { λ _ fault. fault ≡ WithoutMemory };
+
+    fn from(_error: NoMemory) -> StoreFault {
+        StoreFault::NoMemory
+    }
+}
