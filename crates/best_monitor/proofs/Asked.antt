@@ -1,55 +1,94 @@
--- A call adds one request and reply to what its iteration asked.
-use Rattle.std.proofs.Common.{◌≡◌, ℕ, ◌<◌, Bool, true, false, cond, eqb, eq-eqb, List, [], ◌∷◌, ◌++◌, length, map, refl, ap, sym, ◌∙◌, arith, Option, None, Some}
+-- What was asked through a port stands in its seat behind all that the seat had made before.
+use Rattle.std.proofs.Common.{◌≡◌, ℕ, ◌<◌, List, [], ◌∷◌, ◌++◌, length, map, refl, ap, subst, sym, ◌∙◌, arith, append_assoc, Option, None, Some}
+use Rattle.std.proofs.lemmas.List.{append-nil, drop_at, drop_all}
 use Rattle.best_turn.specs.declared.replays.Entry.{Entry}
-use Rattle.best_turn.specs.History.{with_made, of_iteration}
+use Rattle.best_turn.specs.History.{with_made}
 use Rattle.best_turn.specs.Calls.{entry}
 use Rattle.best_turn.specs.Seated.{TableId}
-use Rattle.std.proofs.lemmas.List.{length-map}
 use Rattle.best_turn.specs.declared.view.View.{View}
 use Rattle.best_turn.specs.Seats.{IsSeatOf}
-use Rattle.best_monitor.specs.Port.{Base, asked_in, of_others, made_for_others, base_of}
+use Rattle.best_monitor.specs.Port.{Base, entries_for, with_all, own_entries, asked_since, base_of, MadeSince}
 
 module _ {Q R : Type 0} where
-  of_push : (k : ℕ) (es : List (Entry Q R)) (e : Entry Q R) → e.iteration ≡ k → of_iteration k (es ++ e ∷ []) ≡ of_iteration k es ++ e ∷ []
-  of_push k [] e is = ap (λ b. cond b (e ∷ []) []) (eq-eqb e.iteration k is)
-  of_push k (x ∷ xs) e is = cases (eqb x.iteration k) (of_push k xs e is)
-    where
-      cases : (b : Bool) → of_iteration k (xs ++ e ∷ []) ≡ of_iteration k xs ++ e ∷ [] → cond b (x ∷ of_iteration k (xs ++ e ∷ [])) (of_iteration k (xs ++ e ∷ [])) ≡ cond b (x ∷ of_iteration k xs) (of_iteration k xs) ++ e ∷ []
-      cases true h = ap (λ l. x ∷ l) h
-      cases false h = h
-
   abbrev pair_of : Entry Q R → Q × R
   pair_of e = (e.request, e.reply)
 
-  map_push : (es : List (Entry Q R)) (e : Entry Q R) → map pair_of (es ++ e ∷ []) ≡ map pair_of es ++ pair_of e ∷ []
-  map_push [] e = refl
-  map_push (x ∷ xs) e = ap (λ l. pair_of x ∷ l) (map_push xs e)
+  pairs_of : (k : ℕ) (asked : List (Q × R)) → map pair_of (entries_for k asked) ≡ asked
+  pairs_of k [] = refl
+  pairs_of k (x ∷ xs) = ap (λ l. x ∷ l) (pairs_of k xs)
 
-  pub asked_more : (k : ℕ) (q : Q) (r : R) (made : List (ℕ × List (Entry Q R))) → 0 < length made → asked_in k (with_made (entry k q r) made) ≡ asked_in k made ++ (q, r) ∷ []
-  asked_more k q r [] own = absurd (omega arith)
-  asked_more k q r (m ∷ ms) own = ap (map pair_of) (of_push k m.1 (entry k q r) refl) ∙ map_push (of_iteration k m.1) (entry k q r)
+  -- what was asked is found again behind what was made before
+  found : (k : ℕ) (asked : List (Q × R)) (before : List (ℕ × List (Entry Q R))) → 0 < length before → asked_since before (with_all (entries_for k asked) before) ≡ asked
+  found k asked [] some_number = absurd (omega arith)
+  found k asked (m ∷ ms) some_number = ap (map pair_of) (drop_at m.1 (entries_for k asked) (length m.1) refl) ∙ pairs_of k asked
 
-  others_push : (k : ℕ) (es : List (Entry Q R)) (e : Entry Q R) → e.iteration ≡ k → of_others k (es ++ e ∷ []) ≡ of_others k es
-  others_push k [] e is = ap (λ b. cond b [] (e ∷ [])) (eq-eqb e.iteration k is)
-  others_push k (x ∷ xs) e is = ap (λ l. cond (eqb x.iteration k) l (x ∷ l)) (others_push k xs e is)
+  entries_push : (k : ℕ) (asked : List (Q × R)) (x : Q × R) → entries_for k (asked ++ x ∷ []) ≡ entries_for k asked ++ entry k x.0 x.1 ∷ []
+  entries_push k [] x = refl
+  entries_push k (y ∷ ys) x = ap (λ l. entry k y.0 y.1 ∷ l) (entries_push k ys x)
 
-  others_same : (k : ℕ) (q : Q) (r : R) (made : List (ℕ × List (Entry Q R))) → made_for_others k (with_made (entry k q r) made) ≡ made_for_others k made
-  others_same k q r [] = refl
-  others_same k q r (m ∷ ms) = ap (λ (l : List (Entry Q R)). (m.0, l) ∷ made_for_others k ms) (others_push k m.1 (entry k q r) refl)
+  -- one entry more
+  one_more : (k : ℕ) (q : Q) (r : R) (asked : List (Q × R)) (before : List (ℕ × List (Entry Q R))) → with_made (entry k q r) (with_all (entries_for k asked) before) ≡ with_all (entries_for k (asked ++ (q, r) ∷ [])) before
+  one_more k q r asked [] = refl
+  one_more k q r asked (m ∷ ms) = ap (λ l. (m.0, l) ∷ ms) (append_assoc m.1 (entries_for k asked) (entry k q r ∷ []) ∙ ap (λ l. m.1 ++ l) (sym (entries_push k asked (q, r))))
 
-  -- a call keeps what the port keeps
-  pub base_same : {S : Type 0} (k : ℕ) (q : Q) (r : R) (seat next : TableId × View S Q R) → next.0 ≡ seat.0 → next.1.start ≡ seat.1.start → next.1.rest ≡ seat.1.rest → next.1.made ≡ with_made (entry k q r) seat.1.made → base_of next k ≡ base_of seat k
-  base_same k q r seat next turn start rest made = let others = ap (made_for_others k) made ∙ others_same k q r seat.1.made in λ i. record { turn = turn i; start = start i; iteration = k; rest = rest i; made = others i }
+  some_before : (es : List (Entry Q R)) (before : List (ℕ × List (Entry Q R))) → 0 < length (with_all es before) → 0 < length before
+  some_before es [] h = h
+  some_before es (m ∷ ms) h = h
 
-  -- what a port's base tells of its seat
-  pub seat_of_base : {S : Type 0} (turn : TableId × S) (j k : ℕ) (seat next : TableId × View S Q R) → ◌≡◌ {A = Option (Base S Q R)} (Some (base_of next j)) (Some (base_of seat k)) → IsSeatOf turn seat → IsSeatOf turn next × (next.1.rest ≡ seat.1.rest) × (length next.1.made ≡ length seat.1.made)
-  seat_of_base {S} turn j k seat next same own =
-      let base : base_of next j ≡ base_of seat k = ap (base_or (base_of next j)) same in (
-        (ap (λ b. b.turn) base ∙ own.0, ap (λ b. b.start) base ∙ own.1),
-        ap (λ b. b.rest) base,
-        sym (length-map next.1.made (λ (m : ℕ × List (Entry Q R)). (m.0, of_others j m.1))) ∙ (ap (λ b. length b.made) base ∙ length-map seat.1.made (λ (m : ℕ × List (Entry Q R)). (m.0, of_others k m.1))),
-      )
-    where
-      base_or : Base S Q R → Option (Base S Q R) → Base S Q R
-      base_or d None = d
-      base_or d (Some b) = b
+  -- after a call one request and reply more were asked
+  pub asked_more : (k : ℕ) (q : Q) (r : R) (before now next : List (ℕ × List (Entry Q R))) → now ≡ with_all (entries_for k (asked_since before now)) before → 0 < length now → next ≡ with_made (entry k q r) now
+      → asked_since before next ≡ asked_since before now ++ (q, r) ∷ []
+  asked_more k q r before now next since own made =
+      let asked : List (Q × R) = asked_since before now in
+      let is : next ≡ with_all (entries_for k (asked ++ (q, r) ∷ [])) before = made ∙ (ap (with_made (entry k q r)) since ∙ one_more k q r asked before) in
+      ap (asked_since before) is ∙ found k (asked ++ (q, r) ∷ []) before (some_before (entries_for k asked) before (subst (λ l. 0 < length l) since own))
+
+  pub since_more : (k : ℕ) (q : Q) (r : R) (before now next : List (ℕ × List (Entry Q R))) → now ≡ with_all (entries_for k (asked_since before now)) before → 0 < length now → next ≡ with_made (entry k q r) now
+      → next ≡ with_all (entries_for k (asked_since before next)) before
+  since_more k q r before now next since own made =
+      made ∙ (ap (with_made (entry k q r)) since ∙ (one_more k q r (asked_since before now) before ∙ ap (λ l. with_all (entries_for k l) before) (sym (asked_more k q r before now next since own made))))
+
+  -- nothing was asked yet
+  pub none_asked : (made : List (ℕ × List (Entry Q R))) → asked_since made made ≡ []
+  none_asked made = ap (map pair_of) (drop_all (length (own_entries made)) (own_entries made) (omega arith))
+
+  with_none : (made : List (ℕ × List (Entry Q R))) → with_all [] made ≡ made
+  with_none [] = refl
+  with_none (m ∷ ms) = ap (λ l. (m.0, l) ∷ ms) (append-nil m.1)
+
+  with_all-length : (es : List (Entry Q R)) (before : List (ℕ × List (Entry Q R))) → length (with_all es before) ≡ length before
+  with_all-length es [] = refl
+  with_all-length es (m ∷ ms) = refl
+
+  module _ {S : Type 0} where
+    pub since_start : (k : ℕ) (seat : TableId × View S Q R) → MadeSince k seat seat
+    since_start k seat = record { turn = refl; start = refl; rest = refl; made = sym (ap (λ l. with_all (entries_for k l) seat.1.made) (none_asked seat.1.made) ∙ with_none seat.1.made) }
+
+    -- a call keeps this
+    pub since_call : (k : ℕ) (q : Q) (r : R) (before now next : TableId × View S Q R) → MadeSince k before now → 0 < length now.1.made → next.0 ≡ now.0 → next.1.start ≡ now.1.start → next.1.rest ≡ now.1.rest → next.1.made ≡ with_made (entry k q r) now.1.made → MadeSince k before next
+    since_call k q r before now next m own turn start rest made = record { turn = turn ∙ m.turn; start = start ∙ m.start; rest = rest ∙ m.rest; made = since_more k q r before.1.made now.1.made next.1.made m.made own made }
+
+    -- a call that found no memory keeps it
+    pub since_look : (k : ℕ) (before now next : TableId × View S Q R) → MadeSince k before now → next.0 ≡ now.0 → next.1.start ≡ now.1.start → next.1.made ≡ now.1.made → next.1.rest ≡ now.1.rest → MadeSince k before next
+    since_look k before now next m turn start made rest = record {
+      turn = turn ∙ m.turn;
+      start = start ∙ m.start;
+      rest = rest ∙ m.rest;
+      made = subst (λ l. l ≡ with_all (entries_for k (asked_since before.1.made l)) before.1.made) (sym made) m.made;
+    }
+
+    -- What the base of a port tells of its seat: it is of the turn of the seat that the port was opened over, and made behind that seat's entries what was asked
+    pub seat_of_base : (turn : TableId × S) (j k : ℕ) (seat before next : TableId × View S Q R) → ◌≡◌ {A = Option (Base S Q R)} (Some (base_of before j)) (Some (base_of seat k)) → MadeSince j before next → IsSeatOf turn seat
+        → IsSeatOf turn next × (next.1.rest ≡ seat.1.rest) × (length next.1.made ≡ length seat.1.made) × (next.1.made ≡ with_all (entries_for k (asked_since before.1.made next.1.made)) seat.1.made)
+    seat_of_base turn j k seat before next same m own =
+        let base : base_of before j ≡ base_of seat k = ap (base_or (base_of before j)) same in
+        let made : next.1.made ≡ with_all (entries_for k (asked_since before.1.made next.1.made)) seat.1.made = m.made ∙ ap (λ (b : Base S Q R). with_all (entries_for b.iteration (asked_since before.1.made next.1.made)) b.made) base in (
+          (m.turn ∙ (ap (λ b. b.turn) base ∙ own.0), m.start ∙ (ap (λ b. b.start) base ∙ own.1)),
+          m.rest ∙ ap (λ b. b.rest) base,
+          ap (λ (l : List (ℕ × List (Entry Q R))). length l) made ∙ with_all-length (entries_for k (asked_since before.1.made next.1.made)) seat.1.made,
+          made,
+        )
+      where
+        base_or : Base S Q R → Option (Base S Q R) → Base S Q R
+        base_or d None = d
+        base_or d (Some b) = b

@@ -1,15 +1,15 @@
 -- What a port does with the rest of a journal that it replays. A rule of this project.
-use Rattle.std.specs.Prelude.{◌≡◌, ◌≢◌, ◌==◌, ℕ, cond, Option, None, Some, List, [], ◌∷◌, map, slice_get}
+use Rattle.std.specs.Prelude.{◌≡◌, ◌≢◌, ℕ, Option, None, Some, List, [], ◌∷◌, ◌++◌, length, map, drop, slice_get}
 use Rattle.best_turn.specs.Seated.{TableId}
 use Rattle.best_turn.specs.declared.replays.Entry.{Entry}
 use Rattle.best_turn.specs.declared.view.View.{View}
-use Rattle.best_turn.specs.History.{of_iteration}
+use Rattle.best_turn.specs.Calls.{entry}
 use Rattle.best_monitor.specs.declared.port.PortStop.{PortStop}
 use Rattle.best_monitor.specs.declared.port.PortStop.TheVariants.{NoMemory, Differs}
 
 -- What a port over a seat keeps, whatever is asked through it: the seat's turn, the state that it began with,
--- the iteration, the numbers that the seat may still give, and those that it holds with what was made under
--- each in the name of other iterations.
+-- the iteration, the numbers that the seat may still give, and those that it held when the port was opened, with
+-- what had been made under each.
 pub record Base (S Q R : Type 0) : Type 0 where
   pub turn : TableId
   pub start : Option S
@@ -44,20 +44,33 @@ module _ {Q R : Type 0} where
   HoldsAll P None = Unit {0}
   HoldsAll P (Some rest) = (i : ℕ) (e : Q × R) → slice_get rest i ≡ Some e → P e.0 e.1
 
-  -- what was asked in the name of an iteration under the first of these numbers
-  abbrev pub asked_in : ℕ → List (ℕ × List (Entry Q R)) → List (Q × R)
-  asked_in k [] = []
-  asked_in k (m ∷ ms) = map (λ e. (e.request, e.reply)) (of_iteration k m.1)
+  -- an iteration's entries for these requests and replies
+  abbrev pub entries_for : ℕ → List (Q × R) → List (Entry Q R)
+  entries_for k asked = map (λ x. entry k x.0 x.1) asked
 
-  -- the entries made in the name of other iterations, in order
-  abbrev pub of_others : ℕ → List (Entry Q R) → List (Entry Q R)
-  of_others k [] = []
-  of_others k (e ∷ es) = cond (e.iteration == k) (of_others k es) (e ∷ of_others k es)
+  -- the first number made these entries too, behind all its others
+  abbrev pub with_all : List (Entry Q R) → List (ℕ × List (Entry Q R)) → List (ℕ × List (Entry Q R))
+  with_all es [] = []
+  with_all es (m ∷ ms) = (m.0, m.1 ++ es) ∷ ms
 
-  -- the numbers, with what was made under each in the name of other iterations
-  abbrev pub made_for_others : ℕ → List (ℕ × List (Entry Q R)) → List (ℕ × List (Entry Q R))
-  made_for_others k made = map (λ m. (m.0, of_others k m.1)) made
+  -- what the first number made
+  abbrev pub own_entries : List (ℕ × List (Entry Q R)) → List (Entry Q R)
+  own_entries [] = []
+  own_entries (m ∷ ms) = m.1
 
-  -- what a port over this seat keeps, for this iteration
+  -- what was asked under the first number since these were made
+  abbrev pub asked_since : List (ℕ × List (Entry Q R)) → List (ℕ × List (Entry Q R)) → List (Q × R)
+  asked_since before now = map (λ e. (e.request, e.reply)) (drop (length (own_entries before)) (own_entries now))
+
+  -- what a port keeps that was opened over this seat, for this iteration
   abbrev pub base_of : {S : Type 0} → TableId × View S Q R → ℕ → Base S Q R
-  base_of seat k = record { turn = seat.0; start = seat.1.start; iteration = k; rest = seat.1.rest; made = made_for_others k seat.1.made }
+  base_of seat k = record { turn = seat.0; start = seat.1.start; iteration = k; rest = seat.1.rest; made = seat.1.made }
+
+  -- The seat was this one, and then was asked only in the name of iteration k: it made its entries under its own
+  -- number, in order, behind all that it had made before, and nothing else. What else it knows but the history
+  -- that it saw is as before.
+  pub record MadeSince {S : Type 0} (k : ℕ) (before now : TableId × View S Q R) : Type 0 where
+    pub turn : now.0 ≡ before.0
+    pub start : now.1.start ≡ before.1.start
+    pub rest : now.1.rest ≡ before.1.rest
+    pub made : now.1.made ≡ with_all (entries_for k (asked_since before.1.made now.1.made)) before.1.made

@@ -1,11 +1,12 @@
 //! A port over a seat of a turn.
 ghost use Rattle.std.specs.Prelude.{◌≡◌, [], None, Some};
 ghost use Rattle.best_turn.specs.Seats.{start_of, IsSeatOf, view_of};
-ghost use Rattle.best_monitor.specs.Port.{asked_in, base_of};
+ghost use Rattle.best_monitor.specs.Port.{asked_since, base_of, MadeSince};
 
 use crate::port::{MonitorPort, PortStop};
 use best_turn::{Replays, Seat, Turn};
 use cbl_base::NoMemory;
+use std::snapshot::Snapshot;
 use std::sync::Wait;
 
 /// Asks through a seat in the name of one iteration, and waits for the turn. It tells no rest, so it
@@ -16,28 +17,36 @@ pub struct SeatPort<'a, S: Replays, R> {
     pub turn: &'a Turn<S>,
     pub seat: Seat<S>,
     pub iteration: u32,
+    // The seat as it was when the port was opened.
+    opened: Snapshot<Seat<S>>,
+    ghost since: { MadeSince iteration opened.value seat },
     ghost own: { IsSeatOf turn.now seat },
 }
 
 impl<'a, S: Replays, R> SeatPort<'a, S, R> {
-    /// A port over this seat for this iteration.
+    /// A port over this seat for this iteration, through which nothing was asked yet.
     pub fn new(rt: &'a R, turn: &'a Turn<S>, seat: Seat<S>, iteration: u32) -> SeatPort<'a, S, R>
         requires { IsSeatOf turn.now seat }
         ensures turn { result.turn.now ≡ turn.now }
         ensures seat { result.seat ≡ seat }
         ensures iteration { result.iteration ≡ iteration }
+        ensures opened { result.opened.value ≡ seat }
+        ensures fresh { asked_since (view_of result.opened.value).made (view_of result.seat).made ≡ [] }
     {
+        let opened = Snapshot::of(&seat);
         SeatPort {
             rt,
             turn,
             seat,
             iteration,
+            opened,
         }
     }
 
-    /// The seat, with what was asked through the port.
+    /// The seat, which made what was asked through the port, behind all that it had made before.
     pub fn into_seat(self) -> Seat<S>
         ensures seat { result ≡ self.entry.seat }
+        ensures since { MadeSince self.entry.iteration self.entry.opened.value result }
         ensures own { IsSeatOf self.entry.turn.now result }
     {
         let SeatPort {
@@ -45,13 +54,14 @@ impl<'a, S: Replays, R> SeatPort<'a, S, R> {
             turn: _,
             seat,
             iteration: _,
+            opened: _,
         } = self;
         seat
     }
 }
 
 impl<'a, S: Replays, R: Wait> MonitorPort<S> for SeatPort<'a, S, R> {
-    ghost asked = { λ p. asked_in p.iteration (view_of p.seat).made };
+    ghost asked = { λ p. asked_since (view_of p.opened.value).made (view_of p.seat).made };
 
     ghost rest = { λ p. None };
 
@@ -59,7 +69,7 @@ impl<'a, S: Replays, R: Wait> MonitorPort<S> for SeatPort<'a, S, R> {
 
     ghost takes = { λ p q. S.takes (start_of p.turn.now) q };
 
-    ghost base = { λ p. Some (base_of p.seat p.iteration) };
+    ghost base = { λ p. Some (base_of p.opened.value p.iteration) };
 
     fn ask(&mut self, request: S::Request) -> Result<S::Reply, PortStop> {
         match self.seat.call(self.rt, self.turn, self.iteration, request) {
