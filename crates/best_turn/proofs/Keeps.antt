@@ -11,7 +11,7 @@ use Rattle.atomic_table.proofs.Lists.{at_set, at_snoc, set_again}
 use Rattle.best_turn.specs.declared.replays.Entry.{Entry}
 use Rattle.best_turn.specs.declared.view.View.{View}
 use Rattle.best_turn.specs.History.{total, entries, IsMade, with_made, fold_of, IsLegal}
-use Rattle.best_turn.specs.Rule.{all_numbers, one_if, word_of, home_of, holds_number, count_numbers, took, counted, gave, newcomer, Fits, Kept, take_tells, count_tells, give_tells}
+use Rattle.best_turn.specs.Rule.{all_numbers, one_if, word_of, home_of, holds_number, count_numbers, took, counted, gave, newcomer, Fits, Kept, take_tells, count_tells, give_tells, warn_tells}
 use Rattle.best_turn.specs.Calls.{HasNumber, HoldsBook, IsNext, IsWhole}
 use Rattle.best_turn.proofs.Sums.{total_same, total_at, total_two, at_put}
 use Rattle.best_turn.proofs.Histories.{with_made-numbers, with_made-length, IsMade-else, IsMade-here, entries-push, prefix_push, legal_push, one_if-same}
@@ -50,10 +50,14 @@ module _ {S Q R : Type 0} (may : S → Q → Type 0) (after : S → Q → S) (an
   abbrev Goes : List V → List ℕ → List (maybe.Option D) → ℕ → ℕ → ℕ → List (ℕ × D) → (M → Type 0) → Type 0
   Goes views ws hs i x id c then = (w : V) × (a : Act D) × Valid hs c a × K record { words = set ws i x; homes = homes_after hs c a; views = set views id w } × then (w, carried_after c a)
 
+  -- a step that changes nothing
+  stays : (t : St) (r : K t) (id : ℕ) (me : M) (ws : List ℕ) (hs : List (maybe.Option D)) → get_elem? t.views id ≡ some me.0 → t.words ≡ ws → t.homes ≡ hs → K record { words = ws; homes = hs; views = set t.views id me.0 }
+  stays t r id me ws hs at words homes = subst K (λ k. record { words = words k; homes = homes k; views = sym (set_again t.views id me.0 at) k }) r
+
   -- the turn is free: the seat has it, with the book
-  from_free : (slots : ℕ) (t : St) (r : K t) (id : ℕ) (me : M) (s : S) → r.turn ≡ false → me.0.start ≡ Some s → 0 < length me.0.made → get_elem? t.views id ≡ some me.0
-      → Goes t.views (0 ∷ length r.log ∷ []) (some (fold_of after start (entries r.log), r.log) ∷ []) 0 1 id me.1 (take_tells may after answer (step slots 0 0 1 none) me 0)
-  from_free slots t r id me s free begun owns at =
+  from_free : (slots : ℕ) (b : Bool) (t : St) (r : K t) (id : ℕ) (me : M) (s : S) → r.turn ≡ false → me.0.start ≡ Some s → 0 < length me.0.made → get_elem? t.views id ≡ some me.0
+      → Goes t.views (0 ∷ length r.log ∷ []) (some (fold_of after start (entries r.log), r.log) ∷ []) 0 (word_of true b) id me.1 (take_tells may after answer (step slots 0 0 (word_of true b) none) me 0)
+  from_free slots b t r id me s free begun owns at =
       let f = r.each id me.0 at in let d : D = (fold_of after start (entries r.log), r.log) in let w : V = took me.0 r.log in (
         w,
         takes 0 d,
@@ -61,6 +65,7 @@ module _ {S Q R : Type 0} (may : S → Q → Type 0) (after : S → Q → S) (an
         record {
           log = r.log;
           turn = true;
+          sleepers = b;
           holder = id;
           keeper = r.keeper;
           rest = r.rest;
@@ -78,25 +83,61 @@ module _ {S Q R : Type 0} (may : S → Q → Type 0) (after : S → Q → S) (an
         ((λ _. (start, r.log, begun ∙ ap (λ (x : S). Some x) (f.begun s begun), f.seen, r.legal, refl)), (λ ne. absurd (ne refl))),
       )
 
-  pub takes_turn : (slots id : ℕ) (me : M) (s : S) → me.0.start ≡ Some s → 0 < length me.0.made → Allows K slots id me 0 (λ n. either (eqb n 0) 1 n) (take_tells may after answer (step slots 0 0 1 none) me)
-  takes_turn slots id me s begun owns t r wide at _ =
-      let d : D = (fold_of after start (entries r.log), r.log) in
-      let G : List ℕ → List (maybe.Option D) → Type 0 = λ ws hs. Goes t.views ws hs 0 (either (eqb (get_or ws 0 0) 0) 1 (get_or ws 0 0)) id me.1 (take_tells may after answer (step slots 0 0 1 none) me (get_or ws 0 0)) in
-      subst (λ (z : List ℕ × List (maybe.Option D)). G z.0 z.1) (λ k. (sym r.words k, sym r.home k)) (cases r.turn refl)
+  -- the words and the home, where these flags are known
+  abbrev Words : (t : St) → K t → Bool → Bool → List ℕ
+  Words t r b w = word_of b w ∷ length r.log ∷ []
+
+  abbrev Homes : (t : St) → K t → Bool → List (maybe.Option D)
+  Homes t r b = home_of b (fold_of after start (entries r.log), r.log) ∷ []
+
+  words_are : (t : St) (r : K t) (b w : Bool) → r.turn ≡ b → r.sleepers ≡ w → t.words ≡ Words t r b w
+  words_are t r b w is waits = r.words ∙ ap₂ (Words t r) is waits
+
+  homes_are : (t : St) (r : K t) (b : Bool) → r.turn ≡ b → t.homes ≡ Homes t r b
+  homes_are t r b is = r.home ∙ ap (Homes t r) is
+
+  pub takes_turn : (slots id : ℕ) (me : M) (s : S) (late : Bool) → me.0.start ≡ Some s → 0 < length me.0.made → Allows K slots id me 0 (λ n. either (eqb n 0) (word_of true late) n) (take_tells may after answer (step slots 0 0 (word_of true late) none) me)
+  takes_turn slots id me s late begun owns t r wide at _ =
+      let G : List ℕ → List (maybe.Option D) → Type 0 = λ ws hs. Goes t.views ws hs 0 (either (eqb (get_or ws 0 0) 0) (word_of true late) (get_or ws 0 0)) id me.1 (take_tells may after answer (step slots 0 0 (word_of true late) none) me (get_or ws 0 0)) in
+      subst (λ (z : List ℕ × List (maybe.Option D)). G z.0 z.1) (λ k. (sym r.words k, sym r.home k)) (cases r.turn r.sleepers refl refl)
     where
-      cases : (b : Bool) → r.turn ≡ b → Goes t.views (word_of b ∷ length r.log ∷ []) (home_of b (fold_of after start (entries r.log), r.log) ∷ []) 0 (either (eqb (word_of b) 0) 1 (word_of b)) id me.1 (take_tells may after answer (step slots 0 0 1 none) me (word_of b))
-      cases true is = (
+      cases : (b w : Bool) → r.turn ≡ b → r.sleepers ≡ w → Goes t.views (Words t r b w) (Homes t r b) 0 (either (eqb (word_of b w) 0) (word_of true late) (word_of b w)) id me.1 (take_tells may after answer (step slots 0 0 (word_of true late) none) me (word_of b w))
+      cases true true is waits = (me.0, keeps, tt, stays t r id me (Words t r true true) (Homes t r true) at (words_are t r true true is waits) (homes_are t r true is), ((λ e. absurd (omega arith)), (λ _. refl)))
+      cases true false is waits = (me.0, keeps, tt, stays t r id me (Words t r true false) (Homes t r true) at (words_are t r true false is waits) (homes_are t r true is), ((λ e. absurd (omega arith)), (λ _. refl)))
+      cases false w is waits = from_free slots late t r id me s is begun owns at
+
+  -- a seat that waits says so, where the turn is taken
+  pub warns : (slots id : ℕ) (me : M) → Allows K slots id me 0 (λ n. either (eqb n 1) 2 n) (warn_tells (step slots 0 1 2 none) me)
+  warns slots id me t r wide at _ =
+      let G : List ℕ → List (maybe.Option D) → Type 0 = λ ws hs. Goes t.views ws hs 0 (either (eqb (get_or ws 0 0) 1) 2 (get_or ws 0 0)) id me.1 (warn_tells (step slots 0 1 2 none) me (get_or ws 0 0)) in
+      subst (λ (z : List ℕ × List (maybe.Option D)). G z.0 z.1) (λ k. (sym r.words k, sym r.home k)) (cases r.turn r.sleepers refl refl)
+    where
+      cases : (b w : Bool) → r.turn ≡ b → r.sleepers ≡ w → Goes t.views (Words t r b w) (Homes t r b) 0 (either (eqb (word_of b w) 1) 2 (word_of b w)) id me.1 (warn_tells (step slots 0 1 2 none) me (word_of b w))
+      cases true true is waits = (me.0, keeps, tt, stays t r id me (Words t r true true) (Homes t r true) at (words_are t r true true is waits) (homes_are t r true is), refl)
+      cases true false is waits = (
         me.0,
         keeps,
         tt,
-        subst K (λ k. record {
-          words = (r.words ∙ ap (λ b. word_of b ∷ length r.log ∷ []) is) k;
-          homes = (r.home ∙ ap (λ b. home_of b (fold_of after start (entries r.log), r.log) ∷ []) is) k;
-          views = sym (set_again t.views id me.0 at) k;
-        }) r,
-        ((λ e. absurd (omega arith)), (λ _. refl)),
+        subst K (λ k. record { words = Words t r true true; homes = homes_are t r true is k; views = sym (set_again t.views id me.0 at) k })
+            record {
+              log = r.log;
+              turn = r.turn;
+              sleepers = true;
+              holder = r.holder;
+              keeper = r.keeper;
+              rest = r.rest;
+              words = ap (λ b. Words t r b true) (sym is);
+              home = r.home;
+              legal = r.legal;
+              held = r.held;
+              each = r.each;
+              once = r.once;
+              given = r.given;
+              known = r.known;
+            },
+        refl,
       )
-      cases false is = from_free slots t r id me s is begun owns at
+      cases false w is waits = (me.0, keeps, tt, stays t r id me (Words t r false w) (Homes t r false) at (words_are t r false w is waits) (homes_are t r false is), refl)
 
   -- no number is held twice
   once_most : (t : St) (r : K t) (n : ℕ) → total (holds_number n) t.views ≤ 1
@@ -137,8 +178,8 @@ module _ {S Q R : Type 0} (may : S → Q → Type 0) (after : S → Q → S) (an
       let same : me.0.seen ≡ r.log = mine.2 in
       subst (λ (z : List ℕ × List (maybe.Option D)). G z.0 z.1)
       (λ k. (
-        sym (r.words ∙ ap (λ b. word_of b ∷ length r.log ∷ []) mine.0) k,
-        sym (r.home ∙ ap (λ b. home_of b (fold_of after start (entries r.log), r.log) ∷ []) mine.0) k,
+        sym (words_are t r true r.sleepers mine.0 refl) k,
+        sym (homes_are t r true mine.0) k,
       ))
       (let w : V = counted me.0 e in
       let log : List (ℕ × Entry Q R) = r.log ++ e ∷ [] in
@@ -153,10 +194,11 @@ module _ {S Q R : Type 0} (may : S → Q → Type 0) (after : S → Q → S) (an
         record {
           log = log;
           turn = true;
+          sleepers = r.sleepers;
           holder = id;
           keeper = r.keeper;
           rest = r.rest;
-          words = (let z : (length r.log + 1) % 18446744073709551616 ≡ length log = omega (arith, length-append r.log (e ∷ [])) in ap (λ (n : ℕ). 1 ∷ n ∷ []) z);
+          words = (let z : (length r.log + 1) % 18446744073709551616 ≡ length log = omega (arith, length-append r.log (e ∷ [])) in ap (λ (n : ℕ). word_of true r.sleepers ∷ n ∷ []) z);
           home = refl;
           legal = subst (IsLegal may after answer start) (sym (entries-push r.log e))
               (legal_push may after answer start (entries r.log) e.1 r.legal
@@ -209,8 +251,8 @@ module _ {S Q R : Type 0} (may : S → Q → Type 0) (after : S → Q → S) (an
       let w : V = gave me.0 in
       subst G
       (λ k. (
-        sym (r.words ∙ ap (λ b. word_of b ∷ length r.log ∷ []) mine.0) k,
-        sym (r.home ∙ ap (λ b. home_of b (fold_of after start (entries r.log), r.log) ∷ []) mine.0) k,
+        sym (words_are t r true r.sleepers mine.0 refl) k,
+        sym (homes_are t r true mine.0) k,
         sym held k,
       )) (
         w,
@@ -219,6 +261,7 @@ module _ {S Q R : Type 0} (may : S → Q → Type 0) (after : S → Q → S) (an
         record {
           log = r.log;
           turn = false;
+          sleepers = false;
           holder = id;
           keeper = r.keeper;
           rest = r.rest;
@@ -238,11 +281,11 @@ module _ {S Q R : Type 0} (may : S → Q → Type 0) (after : S → Q → S) (an
 
 -- at the words of the contracts
 module _ {S Q R : Type 0} (may : S → Q → Type 0) (after : S → Q → S) (answer : S → Q → R) (start : S) (slots id : ℕ) (me : Me (S × List (ℕ × Entry Q R)) (View S Q R)) where
-  pub takes_as : IsSome me.0.start → 0 < length me.0.made → Allows (Kept may after answer start) slots id me 0 (λ n. either (eqb n 0) 1 n) (take_tells may after answer (step slots 0 0 1 none) me)
-  takes_as begun owns = cases me.0.start refl begun
+  pub takes_as : (late : Bool) → IsSome me.0.start → 0 < length me.0.made → Allows (Kept may after answer start) slots id me 0 (λ n. either (eqb n 0) (word_of true late) n) (take_tells may after answer (step slots 0 0 (word_of true late) none) me)
+  takes_as late begun owns = cases me.0.start refl begun
     where
-      cases : (o : Option S) → me.0.start ≡ o → IsSome o → Allows (Kept may after answer start) slots id me 0 (λ n. either (eqb n 0) 1 n) (take_tells may after answer (step slots 0 0 1 none) me)
-      cases (Some s) e h = takes_turn may after answer start slots id me s e owns
+      cases : (o : Option S) → me.0.start ≡ o → IsSome o → Allows (Kept may after answer start) slots id me 0 (λ n. either (eqb n 0) (word_of true late) n) (take_tells may after answer (step slots 0 0 (word_of true late) none) me)
+      cases (Some s) e h = takes_turn may after answer start slots id me s late e owns
       cases None e h = off h
 
   split_number : (n : ℕ) (made : List (ℕ × List (Entry Q R))) → HasNumber n made → (es : List (Entry Q R)) × (ms : List (ℕ × List (Entry Q R))) × (made ≡ (n, es) ∷ ms)
@@ -267,6 +310,7 @@ module _ {S Q R : Type 0} (may : S → Q → Type 0) (after : S → Q → S) (an
   begins slots is = subst (λ l. Kept may after answer start (opening (0 ∷ 0 ∷ []) l (newcomer start [] 0 4294967296))) (sym is) record {
     log = [];
     turn = false;
+    sleepers = false;
     holder = 0;
     keeper = 0;
     rest = 4294967296;

@@ -1,5 +1,6 @@
--- What holds of a turn between any two steps, and what each step tells. Word 0 is 1 while a seat has the turn,
--- word 1 is the length of the history, and the slot holds the book: the state and the history.
+-- What holds of a turn between any two steps, and what each step tells. Word 0 is 1 while a seat has the
+-- turn, or 2 where another seat may sleep until it is free; word 1 is the length of the history, and the slot
+-- holds the book: the state and the history.
 use Rattle.std.specs.Prelude.{◌≡◌, ◌≢◌, ◌==◌, ℕ, ◌+◌, ◌-◌, ◌<◌, ◌≤◌, Bool, true, false, cond, List, [], ◌∷◌, ◌++◌, length, max, nat_lt, Some, None}
 use mathlib.Core.List.{IsPrefix}
 use mathlib.Core.Option as maybe
@@ -22,10 +23,10 @@ one_if n m = cond (m == n) 1 0
 abbrev pub longer : {X : Type 0} → List X → List X → List X
 longer xs ys = cond (nat_lt (length xs) (length ys)) ys xs
 
--- the word that says whether a seat has the turn
-abbrev pub word_of : Bool → ℕ
-word_of true = 1
-word_of false = 0
+-- the word that says whether a seat has the turn, and then whether another may sleep
+abbrev pub word_of : Bool → Bool → ℕ
+word_of true sleepers = cond sleepers 2 1
+word_of false sleepers = 0
 
 module _ {S Q R : Type 0} where
   -- the book is at home exactly while no seat has the turn
@@ -90,10 +91,11 @@ module _ {S Q R : Type 0} where
     pub record Kept (start : S) (t : State (S × List (ℕ × Entry Q R)) (View S Q R)) : Type 0 where
       pub log : List (ℕ × Entry Q R)
       pub turn : Bool
+      pub sleepers : Bool
       pub holder : ℕ
       pub keeper : ℕ
       pub rest : ℕ
-      pub words : t.words ≡ word_of turn ∷ length log ∷ []
+      pub words : t.words ≡ word_of turn sleepers ∷ length log ∷ []
       pub home : t.homes ≡ home_of turn (fold_of after start (entries log), log) ∷ []
       pub legal : IsLegal takes after answer start (entries log)
       pub held : turn ≡ true → (v : View S Q R) × (get_elem? t.views holder ≡ some v) × (v.has_turn ≡ true)
@@ -109,6 +111,10 @@ module _ {S Q R : Type 0} where
     -- a take that found 0 won the turn, else nothing changed
     abbrev pub take_tells : Step (S × List (ℕ × Entry Q R)) → Me (S × List (ℕ × Entry Q R)) (View S Q R) → ℕ → Me (S × List (ℕ × Entry Q R)) (View S Q R) → Type 0
     take_tells s v n w = (n ≡ 0 → Takes v w) × (n ≢ 0 → w ≡ v)
+
+  -- a seat that says that it may sleep learns nothing
+  abbrev pub warn_tells : Step (S × List (ℕ × Entry Q R)) → Me (S × List (ℕ × Entry Q R)) (View S Q R) → ℕ → Me (S × List (ℕ × Entry Q R)) (View S Q R) → Type 0
+  warn_tells s v n w = w ≡ v
 
   -- where the book that the seat holds has one entry more than the log that it saw, that entry is counted
   abbrev pub Counts : View S Q R → List (ℕ × (S × List (ℕ × Entry Q R))) → View S Q R → Type 0

@@ -12,13 +12,19 @@ use std::alloc::Global;
 use std::marker::{Model, PhantomData};
 use std::snapshot::Snapshot;
 use std::sync::Wait;
-use std::thread::yield_now;
 
 type Held<S> = Book<S, <S as Replays>::Request, <S as Replays>::Reply>;
 
 type Knows<S> = View<S, <S as Replays>::Request, <S as Replays>::Reply>;
 
 type Token<S> = atomic_table::Seat<Held<S>, Knows<S>>;
+
+// What word 0 says: nobody has the turn, a seat has it, or a seat has it and others may sleep.
+const FREE: u64 = 0;
+
+const TAKEN: u64 = 1;
+
+const AWAITED: u64 = 2;
 
 pub struct InTurn<S> {
     marker: PhantomData<S>,
@@ -41,6 +47,16 @@ impl<S: Replays> Play<Held<S>, Knows<S>> for Take<S> {
     ghost use Rattle.best_turn.specs.Rule.{take_tells};
 
     ghost then = { take_tells S.takes S.after S.answer };
+}
+
+struct Warn<S> {
+    marker: PhantomData<S>,
+}
+
+impl<S: Replays> Play<Held<S>, Knows<S>> for Warn<S> {
+    ghost use Rattle.best_turn.specs.Rule.{warn_tells};
+
+    ghost then = { warn_tells };
 }
 
 struct Count<S> {
@@ -125,22 +141,25 @@ impl<S: Replays> Model for Seat<S> {
 
 impl<S: Replays> Turn<S> {
     // Waits until the turn is free, and takes it: the book is with the seat, which sees the whole history.
+    // A thread that waits sleeps, and says so before in the word. One that slept takes the turn with a word
+    // that says so still, since others may sleep.
     pub(crate) fn take<R: Wait>(&self, rt: &R, token: &mut Token<S>)
         requires table { token.old.table_id ≡ self.now.0 }
         requires seat { IsSome token.old.me.0.start × (0 < length token.old.me.0.made) }
         ensures table { (token.new.table_id ≡ token.old.table_id) × (token.new.id ≡ token.old.id) }
         ensures taken { Takes S.takes S.after S.answer token.old.me token.new.me }
     {
+        let table = &self.table.shared;
+        if table.compare_exchange::<Take<S>>(token, 0, FREE, TAKEN) == FREE {
+            return;
+        }
         for _ in rt.forever() {
-            if self
-                .table
-                .shared
-                .compare_exchange::<Take<S>>(token, 0, 0, 1)
-                == 0
-            {
+            if table.compare_exchange::<Warn<S>>(token, 0, TAKEN, AWAITED) != FREE {
+                table.park(rt, 0, AWAITED as u32);
+            }
+            if table.compare_exchange::<Take<S>>(token, 0, FREE, AWAITED) == FREE {
                 return;
             }
-            yield_now();
         }
         unreachable!()
     }
@@ -172,13 +191,16 @@ impl<S: Replays> Turn<S> {
         self.table.shared.fetch_add::<Count<S>>(token, 1, 1)
     }
 
-    // Gives the turn up, and the book comes home.
+    // Gives the turn up, and the book comes home. Only where a thread may sleep one is woken.
     pub(crate) fn give(&self, token: &mut Token<S>)
         requires table { token.old.table_id ≡ self.now.0 }
         requires held { HoldsBook token.old.me (λ d. IsWhole S.after token.old.me.0 d) }
         ensures table { (token.new.table_id ≡ token.old.table_id) × (token.new.id ≡ token.old.id) }
         ensures given { token.new.me ≡ (gave token.old.me.0, []) }
     {
-        self.table.shared.swap::<Give<S>>(token, 0, 0);
+        let found = self.table.shared.swap::<Give<S>>(token, 0, FREE);
+        if found == AWAITED {
+            self.table.shared.wake_one(0);
+        }
     }
 }
