@@ -1,0 +1,7 @@
+//! Parallel loops over any body.
+//!
+//! It knows nothing of what a body computes, nor of the state that its iterations share. So far it has what an
+//! iteration asks, when a history fits a loop, and the law of the core: `laws::schedule`.
+#![tactic(auto)]
+
+pub mod laws;
