@@ -4,4 +4,7 @@
 //! iteration asks, when a history fits a loop, and the law of the core: `laws::schedule`.
 #![tactic(auto)]
 
+mod body;
 pub mod laws;
+
+pub use body::{IterBody, run_iteration};
