@@ -2,9 +2,11 @@ pub mod ActLaws
 pub mod ArrayLaws
 pub mod DigitLaws
 pub mod EitherArray
+pub mod OtherValues
 pub mod OwnArrays
 pub mod PrintLaws
 pub mod ReadLaws
+pub mod SearchLaws
 pub mod StandingLaws
 pub mod WordLaws
 pub mod WrittenCells

@@ -1,4 +1,8 @@
+use Rattle.std.proofs.Common.{subst}
+use Rattle.comet_meaning.proofs.GoingEvents.{goes_behind_commit}
 use Rattle.comet_meaning.proofs.GoingOn.{goes_then}
+use Rattle.run_steps.specs.Does.{Does}
+use Rattle.statement_forms.proofs.WriteLaws.{grouped}
 use Rattle.comet_meaning.proofs.GoingParts.{goes_value}
 use Rattle.comet_meaning.proofs.GoingStatements.{goes_level, goes_write}
 use Rattle.comet_meaning.specs.Writes.{assign_form}
@@ -8,8 +12,8 @@ use Rattle.statement_forms.proofs.writes.assign_any.Goals as goal
 
 pub returns-in_err-target : goal.returns-in_err-target
 unfolding assign_form
-returns-in_err-target g c = let p = err_from_is_err_and c.from_residual.result c.from_residual.ensures.1 in record { did = rw (p.1, p.2) (ended_then _ _ _ _ (λ x. goes_then (goes_value _ (goes_level _ _) _) (λ v. goes_write _ x _)) c.in_err-target.ensures.did) }
+returns-in_err-target g c = let p = err_from_is_err_and c.from_residual.result c.from_residual.ensures.1 in record { did = rw (p.1, p.2) (ended_then _ _ _ _ (λ x. goes_then (goes_value _ (goes_level _ _) _) (λ v. goes_then (goes_write _ x _) (λ _. goes_behind_commit _ (goes_level _ _) _ x))) c.in_err-target.ensures.did) }
 
 pub returns : goal.returns
 unfolding assign_form
-returns g c = record { did = rw c.in_ok-target.ensures.did (c.assign_part.ensures.did _ _ c.value_of-value.ensures.did) }
+returns g c = record { did = rw c.in_ok-target.ensures.did (subst (Does _ _ _) (grouped _ _ _) (c.behind_commit.ensures.did _ (c.assign_part-done.ensures.did _ _ c.value_of-value.ensures.did))) }

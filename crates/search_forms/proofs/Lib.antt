@@ -1,0 +1,4 @@
+pub mod CandidateLaws
+pub mod ListingLaws
+pub mod ScanLaws
+pub mod TieLaws
