@@ -3,7 +3,7 @@ ghost use Rattle.std.specs.Prelude.{◌≡◌, ℕ, List};
 ghost use Rattle.comet_meaning.specs.Events as events;
 ghost use Rattle.comet_meaning.specs.Program.{level};
 ghost use Rattle.event_forms.specs.Bindings.{bound_by};
-ghost use Rattle.run_state.specs.Searches.{closure_seen};
+ghost use Rattle.run_search.specs.Searches.{closure_seen};
 ghost use Rattle.run_state.specs.Views.{state_seen};
 ghost use Rattle.run_steps.specs.Does.{Does};
 ghost use Rattle.run_values.specs.Did.{Did};

@@ -8,7 +8,7 @@ ghost use Rattle.comet_meaning.specs.Outcome.{give, ◌>>=◌};
 ghost use Rattle.comet_meaning.specs.Program.{level};
 ghost use Rattle.comet_meaning.specs.Search.{no_reaction};
 ghost use Rattle.event_forms.specs.Bindings.{bound_by};
-ghost use Rattle.run_state.specs.Searches.{event_seen};
+ghost use Rattle.run_search.specs.Searches.{event_seen, search_seen};
 ghost use Rattle.run_state.specs.Targets.{target_seen};
 ghost use Rattle.run_state.specs.Views.{state_seen};
 ghost use Rattle.run_steps.specs.Does.{Does};
@@ -19,8 +19,7 @@ ghost use Rattle.run_values.specs.Views.{value_seen};
 use crate::closures::{Binding, run_closure};
 use cbl_base::Place;
 use checked_tree::EventSlots;
-use run_state::search::Event;
-use run_state::{Out, State, Target};
+use run_state::{Event, Out, State, Target};
 use run_steps::code::Flow;
 use run_steps::inside::Within;
 use run_values::{Stop, Value};
@@ -83,7 +82,7 @@ fn react<O: Out, W: Within<O>>(
     event: Event,
 ) -> Result<(), Stop>
     requires ready { W.is_ready inside.now }
-    ensures did { Does (λ _. tt) result (state_seen s.new (O.taken out.new)) (events.react (level (W.code inside.now) (W.depth inside.now)) (event_seen event) (slice_index_or s.old.search.reactions event.closure no_reaction) (state_seen s.old (O.taken out.old))) }
+    ensures did { Does (λ _. tt) result (state_seen s.new (O.taken out.new)) (events.react (level (W.code inside.now) (W.depth inside.now)) (event_seen event) (slice_index_or (search_seen s.old.search).reactions event.closure no_reaction) (state_seen s.old (O.taken out.old))) }
 {
     let reaction = s.search.reaction(s.alloc, event.closure)?;
     let binding = binding_of(reaction.names, event);

@@ -6,7 +6,6 @@ pub mod OtherValues
 pub mod OwnArrays
 pub mod PrintLaws
 pub mod ReadLaws
-pub mod SearchLaws
 pub mod StandingLaws
 pub mod WordLaws
 pub mod WrittenCells

@@ -23,7 +23,7 @@ use Rattle.comet_meaning.specs.Solvers.{SolverState}
 use Rattle.comet_meaning.specs.State.{State}
 use Rattle.comet_meaning.specs.Values as values
 use Rattle.run_state.specs.SearchActs.{submitted, watched}
-use Rattle.run_state.specs.Searches.{closure_seen}
+use Rattle.run_search.specs.Searches.{closure_seen}
 use Rattle.run_state.proofs.ReadLaws.{stopped_behind}
 use Rattle.run_values.specs.Did.{Did, Stopped}
 use Rattle.run_values.specs.Views.{value_seen}

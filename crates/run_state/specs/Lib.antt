@@ -3,7 +3,6 @@ pub mod Copies
 pub mod InTerms
 pub mod Numbers
 pub mod Plain
-pub mod Searches
 pub mod SearchActs
 pub mod Shares
 pub mod Stops

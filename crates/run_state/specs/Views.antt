@@ -2,7 +2,7 @@
 use Rattle.std.specs.Prelude.{ℕ, List, drop, map, option_map}
 use Rattle.comet_meaning.specs.State.{State}
 use Rattle.run_values.specs.Views.{value_seen, cells_seen, variable_cells_seen}
-use Rattle.run_state.specs.Searches.{move_seen}
+use Rattle.run_search.specs.Searches.{move_seen, search_seen}
 use Rattle.run_state.specs.declared.state.State.{State as declared}
 
 abbrev pub state_seen : declared → List ℕ → State
@@ -15,7 +15,7 @@ state_seen s printed = record {
   inputs = map (λ n. drop n s.data.items) s.inputs.items;
   data_text = s.data.items;
   moves = map (option_map move_seen) s.moves.items;
-  search = s.search;
+  search = search_seen s.search;
   fuel = s.fuel;
   printed = printed;
 }

@@ -1,20 +1,19 @@
 //! Copies of a state.
-ghost use Rattle.std.specs.Prelude.{◌≡◌, ℕ, List, IfErr, IfOk, map, option_map};
+ghost use Rattle.std.specs.Prelude.{◌≡◌, ℕ, List, IfErr, IfOk};
 ghost use Rattle.run_state.specs.Copies.{without_data};
-ghost use Rattle.run_state.specs.Searches.{move_seen};
 ghost use Rattle.run_state.specs.Views.{state_seen};
 ghost use Rattle.run_values.specs.declared.stop.Stop.TheVariants.{NoMemory};
 
-use crate::search::{KeptMove, Search};
 use crate::state::State;
+use run_search::{Search, copied_moves};
 use run_values::Stop;
 use run_values::cells::{copied_arrays, copied_variables};
 use run_values::values::copied_values;
 use std::alloc::Global;
 
 impl State {
-    /// A copy with this fuel, and without the data, its inputs, and what no pure expression sees of a search. `NoMemory` where there is none for it; there is no
-    /// other stop.
+    /// A copy with this fuel, and without the data, its inputs, and what no pure expression sees of a search. `NoMemory` where
+    /// there is none for it; there is no other stop.
     pub fn without_data(&self, fuel: u64) -> Result<State, Stop>
         ensures same { (printed : List ℕ) → IfOk result (λ copy. state_seen copy printed ≡ without_data fuel (state_seen self.now printed)) }
         ensures memory { IfErr result (λ stop. stop ≡ NoMemory) }
@@ -39,31 +38,5 @@ impl State {
             fuel,
             alloc,
         })
-    }
-}
-
-/// A copy of what selectors keep. `NoMemory` where there is none for it; there is no other stop.
-fn copied_moves(alloc: Global, moves: &[Option<KeptMove>]) -> Result<Vec<Option<KeptMove>>, Stop>
-    ensures same { IfOk result (λ copies. map (option_map move_seen) copies.items ≡ map (option_map move_seen) moves.now) }
-    ensures memory { IfErr result (λ stop. stop ≡ NoMemory) }
-{
-    let mut copies = Vec::new(alloc);
-    for kept in moves {
-        copies.push(copied_move(alloc, kept)?)?;
-    }
-    Ok(copies)
-}
-
-/// A copy of what a selector keeps.
-fn copied_move(alloc: Global, kept: &Option<KeptMove>) -> Result<Option<KeptMove>, Stop>
-    ensures same { IfOk result (λ copy. option_map move_seen copy ≡ option_map move_seen kept.now) }
-    ensures memory { IfErr result (λ stop. stop ≡ NoMemory) }
-{
-    match kept {
-        None => Ok(None),
-        Some(kept) => {
-            let copy = kept.copied(alloc)?;
-            Ok(Some(copy))
-        }
     }
 }

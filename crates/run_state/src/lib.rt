@@ -14,7 +14,6 @@ pub mod names;
 pub mod out;
 pub mod printing;
 pub mod reading;
-pub mod search;
 pub mod searching;
 pub mod standing;
 pub mod state;
@@ -22,7 +21,7 @@ pub mod targets;
 mod words;
 
 pub use out::{Bytes, Out, print};
-pub use search::{Closure, Reaction};
+pub use run_search::{Closure, Event, Reaction};
 pub use standing::{InTerm, TermCells};
 pub use state::State;
 pub use targets::Target;

@@ -15,15 +15,13 @@ ghost use Rattle.run_values.specs.Did.{Did, IsFault, IsFaultOrMemory};
 ghost use Rattle.run_values.specs.Views.{bounds_seen, value_seen};
 ghost use Rattle.run_values.specs.declared.stop.Stop.TheVariants.{NoMemory};
 ghost use Rattle.run_state.specs.SearchActs.{queued, submitted, watched};
-ghost use Rattle.run_state.specs.Searches.{closure_seen, move_seen, solution_seen};
+ghost use Rattle.run_search.specs.Searches.{closure_seen, move_seen, solution_seen};
 ghost use Rattle.run_state.specs.Views.{state_seen};
 
-use crate::search::{Closure, KeptMove, Reaction};
 use crate::state::State;
 use cbl_base::{Place, RunFault};
 use checked_tree::{EventSlots, Later};
-use ls_events::{Solution, VarChange};
-use ls_select::Ties;
+use run_search::{Closure, KeptMove, Reaction, Solution, Ties, VarChange};
 use run_values::{Bounds, Stop, Value};
 
 impl State {

@@ -3,7 +3,7 @@ ghost use Rattle.std.specs.Prelude.{◌≡◌, []};
 ghost use Rattle.comet_meaning.specs.State.{first_state};
 ghost use Rattle.run_state.specs.Views.{state_seen};
 
-use crate::search::{KeptMove, Search};
+use run_search::{KeptMove, Search};
 use run_solvers::Solvers;
 use run_values::{Cells, Value, VariableCells};
 use std::alloc::Global;

@@ -2,7 +2,7 @@
 use Rattle.std.proofs.Common.{◌≡◌, sym, ◌∙◌, refl, Some, slice_get}
 use Rattle.comet_meaning.specs.Changes.{changes_of}
 use Rattle.comet_meaning.specs.Parts.{solver_at}
-use Rattle.run_state.specs.Searches.{solution_seen}
+use Rattle.run_search.specs.Searches.{solution_seen}
 use Rattle.run_state.specs.Views.{state_seen}
 use Rattle.run_state.proofs.OtherValues.{restored_stops, restored_went}
 use Rattle.run_state.proofs.state.State.restore_one.Goals as goal

@@ -6,9 +6,10 @@ use Rattle.ls_events.specs.declared.handlers.Handler.{Handler}
 use Rattle.ls_events.specs.declared.queue.Event.{Event}
 use Rattle.ls_events.specs.declared.solution.Solution.{Solution}
 use Rattle.run_values.specs.Views.{value_seen}
-use Rattle.run_state.specs.declared.search.Closure.{Closure}
-use Rattle.run_state.specs.declared.search.KeptMove.{KeptMove}
-use Rattle.run_state.specs.declared.search.Reaction.{Reaction}
+use Rattle.run_search.specs.declared.search.Closure.{Closure}
+use Rattle.run_search.specs.declared.search.KeptMove.{KeptMove}
+use Rattle.run_search.specs.declared.search.Reaction.{Reaction}
+use Rattle.run_search.specs.declared.search.Search.{Search}
 
 -- a statement that runs later
 abbrev pub closure_seen : Closure → meant.Closure
@@ -29,3 +30,14 @@ handler_seen h = record { variable = h.var; reaction = h.closure }
 
 abbrev pub event_seen : Event → meant.Event
 event_seen e = record { reaction = e.closure; old = e.old; new = e.new }
+
+abbrev pub search_seen : Search → meant.Search
+search_seen x = record {
+  seed = x.seed;
+  words = x.draws;
+  solutions = map solution_seen x.solutions.items;
+  reactions = map reaction_seen x.reactions.items;
+  handlers = map handler_seen x.handlers;
+  queue = map event_seen x.queue;
+  running = x.running;
+}

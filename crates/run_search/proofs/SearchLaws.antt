@@ -10,7 +10,7 @@ use Rattle.ls_events.specs.declared.change.VarChange.{VarChange}
 use Rattle.ls_events.specs.declared.handlers.Handler.{Handler}
 use Rattle.ls_events.specs.declared.queue.Event.{Event}
 use Rattle.run_solvers.specs.Told.{told}
-use Rattle.run_state.specs.Searches.{event_seen, handler_seen}
+use Rattle.run_search.specs.Searches.{event_seen, handler_seen}
 
 -- ---- the events of changes
 

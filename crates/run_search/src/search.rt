@@ -9,7 +9,7 @@ ghost use Rattle.comet_meaning.specs.Solutions.{with_solution};
 ghost use Rattle.comet_meaning.specs.Words.{share, word_of};
 ghost use Rattle.ls_select.specs.Picking.{picked};
 ghost use Rattle.run_solvers.specs.Told.{told};
-ghost use Rattle.run_state.specs.Searches.{closure_seen, event_seen, move_seen, reaction_seen, solution_seen};
+ghost use Rattle.run_search.specs.Searches.{closure_seen, event_seen, move_seen, reaction_seen, search_seen, solution_seen};
 ghost use Rattle.run_values.specs.declared.stop.Stop.TheVariants.{NoMemory};
 
 use cbl_base::VarId;
@@ -20,7 +20,6 @@ use ls_select::{Draws, Ties, pick};
 use run_values::values::copied_values;
 use run_values::{Stop, Value};
 use std::alloc::Global;
-use std::marker::Model;
 
 /// A statement that runs later, and the names that it sees.
 #[derive(Drop)]
@@ -43,7 +42,7 @@ pub struct Reaction {
     pub closure: Closure,
 }
 
-/// What no pure expression sees; seen as the meaning of programs has it.
+/// What a run keeps that no pure expression sees.
 #[derive(Drop)]
 pub struct Search {
     seed: u64,
@@ -53,24 +52,6 @@ pub struct Search {
     reactions: Vec<Reaction>,
     queue: Queue,
     running: bool,
-}
-
-impl Model for Search {
-    ghost use Rattle.std.specs.Prelude.{map};
-    ghost use Rattle.comet_meaning.specs.Search as meaning;
-    ghost use Rattle.run_state.specs.Searches.{event_seen, handler_seen, reaction_seen, solution_seen};
-
-    ghost Value = { meaning.Search };
-
-    ghost view = { λ x. record {
-      seed = x.seed;
-      words = x.draws;
-      solutions = map solution_seen x.solutions.items;
-      reactions = map reaction_seen x.reactions.items;
-      handlers = map handler_seen x.handlers;
-      queue = map event_seen x.queue;
-      running = x.running;
-    } };
 }
 
 impl Closure {
@@ -116,7 +97,7 @@ impl Reaction {
 impl Search {
     /// The start of a run with this seed.
     pub fn new(alloc: Global, seed: u64) -> Search
-        ensures { result ≡ first_search seed }
+        ensures { search_seen result ≡ first_search seed }
     {
         Search {
             seed,
@@ -133,8 +114,8 @@ impl Search {
     pub fn below(&mut self, n: u128) -> u64
         requires some { 1 ≤ n }
         requires most { n ≤ 2 ^ 64 }
-        ensures share { result ≡ share n (word_of self.old.words) }
-        ensures taken { self.new ≡ without_word self.old }
+        ensures share { result ≡ share n (word_of (search_seen self.old).words) }
+        ensures taken { search_seen self.new ≡ without_word (search_seen self.old) }
         ensures below { result < n }
     {
         self.draws.below(n)
@@ -143,8 +124,8 @@ impl Search {
     /// One of the tied candidates: none where there is none, and the only one where there is one, without a word; else one
     /// of them, by the next word.
     pub fn pick(&mut self, ties: &Ties) -> Option<u64>
-        ensures chosen { result ≡ (picked ties.now self.old.words).0 }
-        ensures words { self.new ≡ record self.old { words = (picked ties.now self.old.words).1 } }
+        ensures chosen { result ≡ (picked ties.now (search_seen self.old).words).0 }
+        ensures words { search_seen self.new ≡ record (search_seen self.old) { words = (picked ties.now (search_seen self.old).words).1 } }
     {
         pick(ties, &mut self.draws)
     }
@@ -152,8 +133,8 @@ impl Search {
     /// Keeps a solution behind the others; answers its number. `NoMemory` where there is none for it; there is no other
     /// stop.
     pub fn keep(&mut self, solution: Solution) -> Result<usize, Stop>
-        ensures number { IfOk result (λ number. number ≡ length self.old.solutions) }
-        ensures kept { OnOk result (self.new ≡ with_solution (solution_seen solution) self.old) }
+        ensures number { IfOk result (λ number. number ≡ length (search_seen self.old).solutions) }
+        ensures kept { OnOk result (search_seen self.new ≡ with_solution (solution_seen solution) (search_seen self.old)) }
         ensures memory { IfErr result (λ stop. stop ≡ NoMemory) }
     {
         let number = self.solutions.len();
@@ -163,7 +144,7 @@ impl Search {
 
     /// The solution with a number.
     pub fn solution(&self, number: usize) -> Option<&Solution>
-        ensures { option_map (λ x. solution_seen x.now) result ≡ slice_get self.now.solutions number }
+        ensures { option_map (λ x. solution_seen x.now) result ≡ slice_get (search_seen self.now).solutions number }
     {
         self.solutions.get(number)
     }
@@ -171,7 +152,7 @@ impl Search {
     /// Attaches a reaction to a variable, behind the others. `NoMemory` where there is none for it, and where its number
     /// doesn't fit 32 bits, which no machine has memory for; there is no other stop.
     pub fn attach(&mut self, variable: VarId, reaction: Reaction) -> Result<(), Stop>
-        ensures attached { OnOk result (self.new ≡ with_reaction variable (reaction_seen reaction) self.old) }
+        ensures attached { OnOk result (search_seen self.new ≡ with_reaction variable (reaction_seen reaction) (search_seen self.old)) }
         ensures memory { IfErr result (λ stop. stop ≡ NoMemory) }
     {
         let Ok(number) = u32::try_from(self.reactions.len()) else {
@@ -184,7 +165,7 @@ impl Search {
 
     /// Queues the events of changes behind those that wait. `NoMemory` where there is none for them; there is no other stop.
     pub fn queue(&mut self, changes: &[VarChange]) -> Result<(), Stop>
-        ensures queued { (k : ℕ) (cs : List Change) → changes.now ≡ map (told k) cs → OnOk result (self.new ≡ with_events (queued_events k self.old.handlers cs) self.old) }
+        ensures queued { (k : ℕ) (cs : List Change) → changes.now ≡ map (told k) cs → OnOk result (search_seen self.new ≡ with_events (queued_events k (search_seen self.old).handlers cs) (search_seen self.old)) }
         ensures memory { IfErr result (λ stop. stop ≡ NoMemory) }
     {
         self.handlers.queue(changes, &mut self.queue)?;
@@ -193,8 +174,8 @@ impl Search {
 
     /// The first event, which is taken off the queue; `None` exactly where there is none.
     pub fn next_event(&mut self) -> Option<Event>
-        ensures first { option_map event_seen result ≡ slice_get self.old.queue 0 }
-        ensures left { self.new ≡ with_queue (drop 1 self.old.queue) self.old }
+        ensures first { option_map event_seen result ≡ slice_get (search_seen self.old).queue 0 }
+        ensures left { search_seen self.new ≡ with_queue (drop 1 (search_seen self.old).queue) (search_seen self.old) }
     {
         self.queue.next()
     }
@@ -202,7 +183,7 @@ impl Search {
     /// A copy of the reaction with a number. `NoMemory` where there is none for it, and where there is no such reaction, which
     /// no event names; there is no other stop.
     pub fn reaction(&self, alloc: Global, number: u32) -> Result<Reaction, Stop>
-        ensures same { IfOk result (λ r. reaction_seen r ≡ slice_index_or self.now.reactions number no_reaction) }
+        ensures same { IfOk result (λ r. reaction_seen r ≡ slice_index_or (search_seen self.now).reactions number no_reaction) }
         ensures memory { IfErr result (λ stop. stop ≡ NoMemory) }
     {
         match self.reactions.get(number as usize) {
@@ -213,14 +194,14 @@ impl Search {
 
     /// Whether a commit is running the queue.
     pub fn is_running(&self) -> bool
-        ensures { result ≡ self.now.running }
+        ensures { result ≡ (search_seen self.now).running }
     {
         self.running
     }
 
     /// Says whether a commit is running the queue.
     pub fn set_running(&mut self, running: bool)
-        ensures { self.new ≡ while_running running self.old }
+        ensures { search_seen self.new ≡ while_running running (search_seen self.old) }
     {
         self.running = running;
     }
