@@ -4,13 +4,31 @@ use Rattle.std.specs.Prelude.{cond, flat_map, option_map}
 use Rattle.cbl_base.specs.declared.ids.VarId.{VarId}
 use Rattle.comet_meaning.specs.Changes as meant
 use Rattle.comet_meaning.specs.Changes.{Change, queued_events}
+use Rattle.comet_meaning.specs.Draws.{below, next_word}
+use Rattle.comet_meaning.specs.Outcome.{Went}
 use Rattle.comet_meaning.specs.Search as meaning
+use Rattle.comet_meaning.specs.Search.{Search}
+use Rattle.comet_meaning.specs.Selection.{chosen_of}
+use Rattle.comet_meaning.specs.State.{State}
+use Rattle.comet_meaning.specs.Words.{share}
 use Rattle.ls_events.specs.Queueing as events
 use Rattle.ls_events.specs.declared.change.VarChange.{VarChange}
 use Rattle.ls_events.specs.declared.handlers.Handler.{Handler}
 use Rattle.ls_events.specs.declared.queue.Event.{Event}
+use Rattle.ls_select.specs.Picking.{picked}
 use Rattle.run_solvers.specs.Told.{told}
 use Rattle.run_search.specs.Searches.{event_seen, handler_seen}
+
+-- ---- the choice among tied candidates
+
+picked_as : (ns : List ℕ) (x : Search) (s : State) → chosen_of ns (record s { search = x }) ≡ Went (picked ns x.words).0 (record s { search = record x { words = (picked ns x.words).1 } })
+unfolding chosen_of below next_word share
+picked_as [] x s = refl
+picked_as (n ∷ []) x s = refl
+picked_as (n ∷ m ∷ ns) x s = refl
+
+pub chosen_as : (ns : List ℕ) (s : State) (r : Option ℕ) (y : Search) → r ≡ (picked ns s.search.words).0 → y ≡ record s.search { words = (picked ns s.search.words).1 } → chosen_of ns s ≡ Went r (record s { search = y })
+chosen_as ns s r y e f = picked_as ns s.search s ∙ ap (λ (o : Option ℕ). Went o (record s { search = record s.search { words = (picked ns s.search.words).1 } })) (sym e) ∙ ap (λ (x : Search). Went r (record s { search = x })) (sym f)
 
 -- ---- the events of changes
 

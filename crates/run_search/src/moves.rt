@@ -8,7 +8,10 @@ use run_values::Stop;
 use std::alloc::Global;
 
 /// A copy of what selectors keep. `NoMemory` where there is none for it; there is no other stop.
-pub fn copied_moves(alloc: Global, moves: &[Option<KeptMove>]) -> Result<Vec<Option<KeptMove>>, Stop>
+pub fn copied_moves(
+    alloc: Global,
+    moves: &[Option<KeptMove>],
+) -> Result<Vec<Option<KeptMove>>, Stop>
     ensures same { IfOk result (λ copies. map (option_map move_seen) copies.items ≡ map (option_map move_seen) moves.now) }
     ensures memory { IfErr result (λ stop. stop ≡ NoMemory) }
 {

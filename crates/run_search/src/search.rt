@@ -111,6 +111,7 @@ impl Search {
     }
 
     /// A number below `n`, of the next word. There must be a number below `n`, and `n` at most 2^64.
+    #[tactic(auto, unfolding(comet_meaning::specs::Words::share))]
     pub fn below(&mut self, n: u128) -> u64
         requires some { 1 ≤ n }
         requires most { n ≤ 2 ^ 64 }

@@ -1,6 +1,6 @@
 -- What forms of a search make of a value that isn't of their kind, and of a statement that runs later.
 use Rattle.std.proofs.Common.{◌≡◌, ℕ, ℤ, List, [], ◌∷◌, ◌++◌, Bool, true, false, Option, Some, None, Result, Ok, Err, length, map, refl, sym, ap, subst, ◌∙◌, slice_get}
-use Rattle.std.specs.Prelude.{if◌then◌else◌, is_some, IfErr, OnOk}
+use Rattle.std.specs.Prelude.{if◌then◌else◌, is_some, IfErr, OnOk, option_map}
 use Rattle.std.specs.declared.alloc.Global.{Global}
 use Rattle.std.specs.declared.boxed.Box.{Box}
 use Rattle.std.specs.declared.sync.Arc.{Arc}
@@ -107,6 +107,11 @@ kept_so (Ok v) s x y o e h k = e ∙ ap (λ (z : Search). Went tt (record s { se
 kept_so (Err stop) s x y o e h k = subst (λ z. Stopped z (record s { search = x }) o) (sym k) tt
 
 -- ---- a solution is restored
+
+-- what isn't there isn't seen
+pub nothing_there : {X A : Type 0} (f : X → A) (o : Option X) (p : Option A) → ((x : X) → o ≡ Some x → ⊥) → option_map f o ≡ p → p ≡ None
+nothing_there f None p h e = sym e
+nothing_there f (Some x) p h e = absurd (h x refl)
 
 pub no_solution : (at : Place) (n : ℕ) (s : State) → slice_get s.search.solutions n ≡ None → restore at (values.Solution n) s ≡ Went values.Nothing s
 unfolding restore
