@@ -1,6 +1,7 @@
 pub mod ActLaws
 pub mod ArrayLaws
 pub mod DigitLaws
+pub mod DrawLaws
 pub mod EitherArray
 pub mod OtherValues
 pub mod OwnArrays

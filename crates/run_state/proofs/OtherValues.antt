@@ -7,6 +7,7 @@ use Rattle.std.specs.declared.sync.Arc.{Arc}
 use Rattle.std.specs.declared.vec.Vec.{Vec}
 use Rattle.cbl_base.specs.declared.ids.VarId.{VarId}
 use Rattle.cbl_base.specs.declared.place.Place.{Place}
+use Rattle.cbl_base.specs.declared.faults.RunFault.TheVariants.{NoMove}
 use Rattle.checked_tree.specs.declared.statements.EventSlots.{EventSlots}
 use Rattle.checked_tree.specs.declared.statements.Task.{Task, fold_out-Task}
 use Rattle.checked_tree.specs.Tasks as works
@@ -15,12 +16,12 @@ use Rattle.comet_meaning.specs.Changes.{changes_of, notice, noticed, queued_even
 use Rattle.comet_meaning.specs.Draws.{draw}
 use Rattle.comet_meaning.specs.Events.{attached, closed_over, with_reaction}
 use Rattle.comet_meaning.specs.Moves.{get_move, has_move, is_better, kept_in, put_move, submitted_to}
-use Rattle.comet_meaning.specs.Outcome.{Outcome, Went, then_do, ◌>>=◌, give}
+use Rattle.comet_meaning.specs.Outcome.{Faulted, Halted, Outcome, Went, then_do, ◌>>=◌, give, unless}
 use Rattle.comet_meaning.specs.Parts.{solver_at}
 use Rattle.comet_meaning.specs.Search.{Closure, Search, Snapshot}
 use Rattle.comet_meaning.specs.Solutions.{restore, restore_in, restored, restoring}
 use Rattle.comet_meaning.specs.Solvers.{SolverState}
-use Rattle.comet_meaning.specs.State.{State}
+use Rattle.comet_meaning.specs.State.{State, left}
 use Rattle.comet_meaning.specs.Values as values
 use Rattle.run_state.specs.SearchActs.{submitted, watched}
 use Rattle.run_search.specs.Searches.{closure_seen}
@@ -42,6 +43,23 @@ pub nothing_kept : (x : Value) (s : State) → ((n : ℕ) → x ≡ Selector n �
 unfolding has_move
 nothing_kept (Selector n) s h = absurd (h n refl)
 nothing_kept x s h = refl
+
+pub move_kept : (n : ℕ) (s : State) (b : Bool) → b ≡ is_some (kept_in s n) → has_move (values.Selector n) s ≡ Went (values.Truth b) s
+unfolding has_move
+move_kept n s b e = ap (λ (a : Bool). Went (values.Truth a) s) (sym e)
+
+pub move_got : (at : Place) (n : ℕ) (s : State) → true ≡ is_some (kept_in s n) → get_move at (values.Selector n) s ≡ Went (values.Move n) s
+unfolding get_move
+move_got at n s e = ap (λ (b : Bool). (unless b at NoMove >>= λ _. give (values.Move n)) s) (sym e)
+
+pub no_move : (at : Place) (n : ℕ) (s : State) → false ≡ is_some (kept_in s n) → get_move at (values.Selector n) s ≡ Halted (Faulted at NoMove) (left s)
+unfolding get_move
+no_move at n s e = ap (λ (b : Bool). (unless b at NoMove >>= λ _. give (values.Move n)) s) (sym e)
+
+-- what is seen is there
+pub seen_there : {X A : Type 0} (f : X → A) (o : Option X) (p : Option A) → option_map f o ≡ p → is_some o ≡ is_some p
+seen_there f None p e = ap is_some e
+seen_there f (Some x) p e = ap is_some e
 
 pub nothing_got : (at : Place) (x : Value) (s : State) → ((n : ℕ) → x ≡ Selector n → ⊥) → get_move at (value_seen x) s ≡ Went values.Nothing s
 unfolding get_move

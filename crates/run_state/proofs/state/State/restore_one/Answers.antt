@@ -1,5 +1,6 @@
 -- The solution is there, and its solver gets its numbers, and the events of what changes stand behind those that wait.
 use Rattle.std.proofs.Common.{sym, ◌∙◌, refl}
+use Rattle.std.proofs.lemmas.Result.{err_from_is_err_and}
 use Rattle.comet_meaning.specs.Changes.{changes_of}
 use Rattle.comet_meaning.specs.Parts.{solver_at}
 use Rattle.run_search.specs.Searches.{search_seen, solution_seen}
@@ -13,7 +14,8 @@ returns-in_default-clause-did c = λ printed. no_solution c.args.at c.args.numbe
 pub returns-in_err-changes-clause-did : goal.returns-in_err-changes-clause-did
 returns-in_err-changes-clause-did c = λ printed.
     let s = state_seen c.args.self.now printed in
-    restored_stops c.args.at c.args.number s (solution_seen c.in-Some.solution.now) (sym c.in-Some.ensures) _ _ (c.in_err-changes.ensures.did s refl)
+    let p = err_from_is_err_and c.from_residual.result c.from_residual.ensures.1 in
+    rw (p.1, p.2) (restored_stops c.args.at c.args.number s (solution_seen c.in-Some.solution.now) (sym c.in-Some.ensures) _ _ (c.in_err-changes.ensures.did s refl))
 
 pub returns-clause-did : goal.returns-clause-did
 returns-clause-did c = λ printed.
