@@ -1,28 +1,24 @@
 -- Statements that run later, and the queue, step by step.
-use Rattle.std.proofs.Common.{◌≡◌, ◌<◌, refl, sym, ap, ◌∙◌, subst, ℕ, ℤ, Bool, true, false, List, [], ◌∷◌, Option, Some, None, map, drop, slice_get}
-use Rattle.std.specs.Prelude.{option_map, slice_index_or, if◌then◌else◌}
+use Rattle.std.proofs.Common.{◌≡◌, refl, sym, ap, ◌∙◌, subst, true, false, List, [], ◌∷◌, Option, Some, None, drop, slice_get}
+use Rattle.std.specs.Prelude.{slice_index_or, if◌then◌else◌}
 use Rattle.cbl_base.specs.declared.place.Place.{Place}
 use Rattle.checked_tree.specs.Tasks as works
 use Rattle.checked_tree.specs.Tasks.{Work}
-use Rattle.comet_meaning.specs.Values.{Value}
 use Rattle.comet_meaning.specs.State.{State}
-use Rattle.comet_meaning.specs.Outcome.{Outcome, Went, Halted, Act, then_do, ◌>>=◌, give}
+use Rattle.comet_meaning.specs.Outcome.{Outcome, Went, Act, then_do, ◌>>=◌, give}
 use Rattle.comet_meaning.specs.Cells.{back_in, in_scope, in_frame}
-use Rattle.comet_meaning.specs.Levels.{Code, Level, Flow}
+use Rattle.comet_meaning.specs.Levels.{Level, Flow}
 use Rattle.comet_meaning.specs.Onward.{GoesOn}
-use Rattle.comet_meaning.specs.Program.{level}
 use Rattle.comet_meaning.specs.Loops.{repeated}
-use Rattle.comet_meaning.specs.Search.{Closure, Event, Reaction, Search, no_reaction}
-use Rattle.comet_meaning.specs.Events.{run_closure, event_names, react, put_queue, put_running, with_queue, first_event, next_event, run_all, run_queue, while_running}
+use Rattle.comet_meaning.specs.Search.{Closure, Event, Search, no_reaction}
+use Rattle.comet_meaning.specs.Events.{run_closure, react, put_queue, put_running, with_queue, first_event, next_event, run_all, run_queue, while_running}
 use Rattle.comet_meaning.proofs.GoingOn.{goes_then, goes_give, goes_back_in, goes_put}
 use Rattle.comet_meaning.proofs.GoingParts.{LevelGoesOn}
-use Rattle.comet_meaning.proofs.GoingEvents.{goes_react, goes_put_running, goes_next_event}
-use Rattle.comet_meaning.proofs.QueueTurns.{takes_event}
+use Rattle.comet_meaning.proofs.GoingEvents.{goes_put_running}
 use Rattle.event_forms.specs.Bindings.{bound_by}
 use Rattle.event_forms.specs.declared.closures.Binding.{Binding}
 use Rattle.run_steps.specs.Does.{Ends}
 use Rattle.run_steps.proofs.Exits.{ends_passes}
-use Rattle.run_steps.proofs.Stops.{ended_then}
 use Rattle.run_values.specs.declared.stop.Stop.{Stop}
 
 -- ---- a statement that runs later
@@ -38,22 +34,27 @@ module _ (l : Level) (h : LevelGoesOn l) (c : Closure) (bound : Act (Unit {0})) 
   abbrev body : Act Flow
   body = l.stmt (works.task c.place c.work)
 
+  abbrev ran : Act (Unit {0})
+  ran = body >>= λ flow. give tt
+
+  goes_ran : GoesOn ran
+  goes_ran = goes_then (h.stmt (works.task c.place c.work)) (λ flow. goes_give)
+
   pub closure_went : {t u : State} {flow : Flow} → begun ≡ Went tt t → body t ≡ Went flow u → run_closure l c bound s ≡ Went tt (record u { frame = s.frame })
   unfolding run_closure in_scope in_frame
   closure_went e f =
-      ap (λ (o : Outcome (Unit {0})). then_do (then_do (then_do o (λ _. body)) (λ flow. give tt)) (back_in s.frame)) e
+      ap (λ (o : Outcome (Unit {0})). then_do (then_do o (λ _. ran)) (back_in s.frame)) e
       ∙ ap (λ (o : Outcome Flow). then_do (then_do o (λ flow. give tt)) (back_in s.frame)) f
 
   pub closure_unbound : (stop : Stop) (t : State) → Ends stop t begun → Ends stop t (run_closure l c bound s)
   unfolding run_closure in_scope in_frame
   closure_unbound stop t e =
-      ends_passes stop t _ _ _ (back_in s.frame) (λ v. goes_back_in s.frame v)
-      (ends_passes stop t _ _ _ (λ flow. give tt) (λ flow. goes_give) (ends_passes stop t _ _ begun (λ _. body) (λ _. h.stmt (works.task c.place c.work)) e))
+      ends_passes stop t _ _ _ (back_in s.frame) (λ v. goes_back_in s.frame v) (ends_passes stop t _ _ begun (λ _. ran) (λ _. goes_ran) e)
 
   pub closure_ends : (stop : Stop) (t : State) {u : State} → begun ≡ Went tt u → Ends stop t (body u) → Ends stop t (run_closure l c bound s)
   unfolding run_closure in_scope in_frame
   closure_ends stop t e f =
-      subst (λ (o : Outcome (Unit {0})). Ends stop t (then_do (then_do (then_do o (λ _. body)) (λ flow. give tt)) (back_in s.frame))) (sym e)
+      subst (λ (o : Outcome (Unit {0})). Ends stop t (then_do (then_do o (λ _. ran)) (back_in s.frame))) (sym e)
       (ends_passes stop t _ _ _ (back_in s.frame) (λ v. goes_back_in s.frame v) (ends_passes stop t _ _ _ (λ flow. give tt) (λ flow. goes_give) f))
 
 -- ---- the events of a queue

@@ -4,7 +4,7 @@ ghost use Rattle.comet_meaning.specs.Events as events;
 ghost use Rattle.comet_meaning.specs.Events.{event_names};
 ghost use Rattle.comet_meaning.specs.Levels as levels;
 ghost use Rattle.comet_meaning.specs.Loops.{repeated};
-ghost use Rattle.comet_meaning.specs.Outcome.{give, ◌>>=◌};
+ghost use Rattle.comet_meaning.specs.Outcome.{give, then_do};
 ghost use Rattle.comet_meaning.specs.Program.{level};
 ghost use Rattle.comet_meaning.specs.Search.{no_reaction};
 ghost use Rattle.event_forms.specs.Bindings.{bound_by};
@@ -113,7 +113,7 @@ pub fn behind_commit<O: Out, W: Within<O>>(
     done: Result<(), Stop>,
 ) -> Result<(), Stop>
     requires ready { W.is_ready inside.now }
-    ensures did { Follows (λ _. tt) (λ _. tt) done result (state_seen s.old (O.taken out.old)) (state_seen s.new (O.taken out.new)) (λ _. events.behind_commit (level (W.code inside.now) (W.depth inside.now)) at (target_seen target.now)) }
+    ensures did { Follows (λ _. tt) (λ _. tt) done result (state_seen s.old (O.taken out.old)) (state_seen s.new (O.taken out.new)) (λ (u : Unit {0}). events.behind_commit (level (W.code inside.now) (W.depth inside.now)) at (target_seen target.now)) }
 {
     match done {
         Err(stop) => Err(stop),
@@ -147,7 +147,7 @@ pub fn behind_block<O: Out, W: Within<O>>(
     flow: Result<Flow, Stop>,
 ) -> Result<Flow, Stop>
     requires ready { W.is_ready inside.now }
-    ensures did { Follows flow_seen flow_seen flow result (state_seen s.old (O.taken out.old)) (state_seen s.new (O.taken out.new)) (λ flow. events.run_queue (level (W.code inside.now) (W.depth inside.now)) at >>= λ _. give flow) }
+    ensures did { Follows flow_seen flow_seen flow result (state_seen s.old (O.taken out.old)) (state_seen s.new (O.taken out.new)) (λ flow t. then_do (events.run_queue (level (W.code inside.now) (W.depth inside.now)) at t) (λ _. give flow)) }
 {
     match flow {
         Err(stop) => Err(stop),
@@ -164,7 +164,7 @@ fn run_before_flow<O: Out, W: Within<O>>(
     flow: Flow,
 ) -> Result<Flow, Stop>
     requires ready { W.is_ready inside.now }
-    ensures did { Does flow_seen result (state_seen s.new (O.taken out.new)) ((events.run_queue (level (W.code inside.now) (W.depth inside.now)) at >>= λ _. give (flow_seen flow)) (state_seen s.old (O.taken out.old))) }
+    ensures did { Does flow_seen result (state_seen s.new (O.taken out.new)) (then_do (events.run_queue (level (W.code inside.now) (W.depth inside.now)) at (state_seen s.old (O.taken out.old))) (λ _. give (flow_seen flow))) }
 {
     match run_queue(s, out, inside, at) {
         Err(stop) => Err(stop),
@@ -181,7 +181,7 @@ pub fn behind_restore<O: Out, W: Within<O>>(
     value: Result<Value, Stop>,
 ) -> Result<Value, Stop>
     requires ready { W.is_ready inside.now }
-    ensures did { Follows value_seen value_seen value result (state_seen s.old (O.taken out.old)) (state_seen s.new (O.taken out.new)) (λ value. events.run_queue (level (W.code inside.now) (W.depth inside.now)) at >>= λ _. give value) }
+    ensures did { Follows value_seen value_seen value result (state_seen s.old (O.taken out.old)) (state_seen s.new (O.taken out.new)) (λ value t. then_do (events.run_queue (level (W.code inside.now) (W.depth inside.now)) at t) (λ _. give value)) }
 {
     match value {
         Err(stop) => Err(stop),
@@ -198,7 +198,7 @@ fn run_before_value<O: Out, W: Within<O>>(
     value: Value,
 ) -> Result<Value, Stop>
     requires ready { W.is_ready inside.now }
-    ensures did { Does value_seen result (state_seen s.new (O.taken out.new)) ((events.run_queue (level (W.code inside.now) (W.depth inside.now)) at >>= λ _. give (value_seen value)) (state_seen s.old (O.taken out.old))) }
+    ensures did { Does value_seen result (state_seen s.new (O.taken out.new)) (then_do (events.run_queue (level (W.code inside.now) (W.depth inside.now)) at (state_seen s.old (O.taken out.old))) (λ _. give (value_seen value))) }
 {
     match run_queue(s, out, inside, at) {
         Err(stop) => Err(stop),

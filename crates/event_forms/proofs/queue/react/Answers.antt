@@ -1,5 +1,6 @@
 -- What an event names runs with the values of the event.
 use Rattle.std.proofs.Common.{sym, subst}
+use Rattle.std.specs.Prelude.{slice_index_or}
 use Rattle.comet_meaning.specs.Events as events
 use Rattle.comet_meaning.specs.Program.{level}
 use Rattle.comet_meaning.specs.Search.{no_reaction}
@@ -13,7 +14,12 @@ use Rattle.run_steps.proofs.Stops.{unprinted}
 use Rattle.event_forms.proofs.queue.react.Goals as goal
 
 pub returns-in_err-reaction : goal.returns-in_err-reaction
-returns-in_err-reaction g c = record { did = exit _ _ _ _ _ c.from_residual.ensures.1 (subst (λ z. Ends z _ _) (sym c.in_err-reaction.ensures.memory) (unprinted (state_seen c.args.s.now (g.O.Out.taken c.args.out.now)) (goes_react (level (g.W.Within.code c.args.inside.now) (g.W.Within.depth c.args.inside.now)) (goes_level _ _) (event_seen c.args.event) _))) }
+returns-in_err-reaction g c =
+    let s = state_seen c.args.s.now (g.O.Out.taken c.args.out.now) in
+    let l = level (g.W.Within.code c.args.inside.now) (g.W.Within.depth c.args.inside.now) in
+    let e = event_seen c.args.event in
+    let r = slice_index_or s.search.reactions c.args.event.closure no_reaction in
+    record { did = exit _ _ s (events.react l e r s) _ c.from_residual.ensures.1 (subst (λ z. Ends z s (events.react l e r s)) (sym c.in_err-reaction.ensures.memory) (unprinted s (goes_react l (goes_level _ _) e r))) }
 
 pub returns : goal.returns
-returns g c = record { did = rw (sym c.in_ok-reaction.ensures.same, sym c.binding_of.ensures) c.run_closure.ensures.did }
+returns g c = record { did = rw (sym c.in_ok-reaction.ensures.same, sym c.binding_of-binding.ensures) c.run_closure.ensures.did }
