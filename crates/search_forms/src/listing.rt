@@ -74,7 +74,8 @@ fn list_behind<O: Out, W: Within<O>>(
         below: Vec::new(s.alloc),
     };
     'tuples: loop {
-        match next_tuple(s, out, inside, place, front, &mut tuples)? {
+        let found_next = next_tuple(s, out, inside, place, front, &mut tuples)?;
+        match found_next {
             None => return Ok(()),
             Some(_value) => list_last(s, out, inside, at, front, last, found)?,
         }
