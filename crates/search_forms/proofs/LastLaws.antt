@@ -1,5 +1,5 @@
 -- The candidates for the values of the last generator, behind the values that the names of those in front of it have.
-use Rattle.std.proofs.Common.{◌≡◌, inl, inr, refl, sym, subst, ap, ◌∙◌, ℕ, ◌+◌, ◌<◌, ℤ, List, [], ◌∷◌, ◌++◌, map, length, take, get_or, Some, None, arith}
+use Rattle.std.proofs.Common.{◌≡◌, inl, inr, refl, sym, subst, ap, ◌∙◌, ℕ, ◌+◌, ◌<◌, ◌≤◌, ℤ, List, [], ◌∷◌, ◌++◌, map, length, take, get_or, Some, None}
 use Rattle.std.proofs.lemmas.List.{take_more, take_all, map-append, length-map}
 use Rattle.cbl_base.specs.declared.place.Place.{Place}
 use Rattle.checked_tree.specs.declared.expressions.Generator.{Generator}
@@ -14,21 +14,27 @@ use Rattle.comet_meaning.specs.Outcome.{Outcome, Went, Halted, Act, ◌>>=◌, a
 use Rattle.comet_meaning.specs.Parts.{value}
 use Rattle.comet_meaning.specs.State.{State}
 use Rattle.comet_meaning.specs.Values.{Value, Nothing, number_of}
-use Rattle.comet_meaning.proofs.Endings.{went_then}
+use Rattle.comet_meaning.proofs.Endings.{halted_then, went_then}
 use Rattle.comet_meaning.proofs.GoingOn.{goes_each_in, goes_then}
 use Rattle.comet_meaning.proofs.GoingParts.{LevelGoesOn}
 use Rattle.comet_meaning.proofs.GoingSearch.{goes_values_now, goes_with_candidate}
-use Rattle.comet_meaning.proofs.TupleSteps.{goes_pending}
 use Rattle.comet_meaning.proofs.Tuples.{each_in_is, pending_ends, pending_step}
 use Rattle.run_values.specs.Did.{Stopped}
 use Rattle.run_values.specs.declared.stop.Stop.{Stop}
-use Rattle.run_values.specs.declared.stop.Stop.TheVariants.{NoMemory}
+use Rattle.run_values.specs.declared.stop.Stop.TheVariants.{Fault, Spent, Cyclic, NoMemory, Output}
 use Rattle.run_steps.specs.Does.{Ends}
 use Rattle.run_steps.specs.OpenTuples.{SameLeft}
-use Rattle.run_steps.proofs.BeginLaws.{stopped_passes}
 use Rattle.run_steps.proofs.Exits.{ends_passes}
 use Rattle.run_steps.proofs.Forms.{generator_is}
 use Rattle.search_forms.specs.Fronts.{values_behind}
+
+-- what stopped a part stopped the whole
+stopped_passes : {A B : Type 0} (stop : Stop) (s : State) (o : Outcome A) (f : A → Act B) → Stopped stop s o → Stopped stop s (then_do o f)
+stopped_passes (Fault place x) s o f e = halted_then f e
+stopped_passes (Spent place) s o f e = halted_then f e
+stopped_passes (Cyclic place names) s o f e = halted_then f e
+stopped_passes NoMemory s o f e = tt
+stopped_passes (Output x) s o f e = tt
 
 -- ---- a candidate for each value
 
@@ -37,9 +43,6 @@ abbrev pub values_left : Place → List ℤ → Pending → List Candidate → A
 values_left at known p cs = each_pending always (λ v ds. with_candidate at (known ++ v ∷ []) ds) p cs
 
 module _ (at : Place) (known : List ℤ) where
-  goes_left : (p : Pending) (cs : List Candidate) → GoesOn (values_left at known p cs)
-  goes_left p cs = goes_pending always _ p cs (λ v ds. goes_with_candidate at _ ds)
-
   -- where the same values are left the same candidates are added
   left_same : (p q : Pending) (cs : List Candidate) (s : State) → SameLeft p q → values_left at known p cs s ≡ values_left at known q cs s
   left_same p q cs s (inl e) = ap (λ r. values_left at known r cs s) e
@@ -64,7 +67,7 @@ module _ (at : Place) (known : List ℤ) where
     pub value_stops : (v : ℤ) (stop : Stop) → Some v ≡ next_of p → Stopped stop s (with_candidate at (known ++ v ∷ []) cs s) → Stopped stop s w
     value_stops v stop e h =
         subst (Stopped stop s) (next_first v e)
-        (stopped_passes stop s _ _ (with_candidate at (known ++ v ∷ []) cs s) (values_left at known (behind_next p)) (λ ds. goes_left (behind_next p) ds) h)
+        (stopped_passes stop s (with_candidate at (known ++ v ∷ []) cs s) (values_left at known (behind_next p)) h)
 
 -- ---- the values that names have
 
@@ -93,9 +96,9 @@ value_more s gs i g vs {v} h is e m =
     ∙ ap (λ x. values_of s (take i gs ++ x ∷ [])) is
     ∙ ap (values_of s) (sym (take_more gs i g h))
 
-module _ (s : State) (gs : List Generator) (i : ℕ) (vs : List ℤ) (h : i < length gs → ⊥) (m : vs ≡ values_of s (take i gs)) where
+module _ (s : State) (gs : List Generator) (i : ℕ) (vs : List ℤ) (h : length gs ≤ i) (m : vs ≡ values_of s (take i gs)) where
   all_of : vs ≡ values_of s gs
-  all_of = m ∙ ap (values_of s) (take_all i gs (omega (arith, h)))
+  all_of = m ∙ ap (values_of s) (take_all i gs h)
 
   -- all of them
   pub values_known : values_now (map shape_of_generator gs) s ≡ Went vs s

@@ -40,12 +40,12 @@ module _ (l : Level) (k : LevelGoesOn l) (at : Place) (gs : List Generator) (las
   front = map shape_of_generator gs
 
   -- the start: the first generator's domain gave a value, or it ended the run
-  module _ (place : Place) (cs : List Candidate) (s : State) (g : Generator) (h : 0 < length gs) (is : g ≡ get_or gs 0 g) (there : last_place front ≡ place) where
+  module _ (cs : List Candidate) (s : State) (g : Generator) (h : 0 < length gs) (is : g ≡ get_or gs 0 g) where
     stands : IsGenerator shape_of_generator gs 0 g.place g.slot (whole (seen g.domain))
     stands = is_generator shape_of_generator gs 0 g h is (generator_is g)
 
-    pub lists_open : {d : Value} {t : State} → value l (whole (seen g.domain)) s ≡ Went d t → Remains l place (lists l k at front last cs (behind_front l at front last cs s)) gs [] (pending_of d ∷ []) t
-    lists_open e =
+    pub lists_open : (place : Place) {d : Value} {t : State} → last_place front ≡ place → value l (whole (seen g.domain)) s ≡ Went d t → Remains l place (lists l k at front last cs (behind_front l at front last cs s)) gs [] (pending_of d ∷ []) t
+    lists_open place there e =
         let m = tuples_open l place always (λ v ds. last_form l at front last ds) shape_of_generator gs cs s front refl stands e in
         record { rest = m.rest ∙ ap (λ p. each_tuple l p always (λ v ds. last_form l at front last ds) [] front cs s) (sym there); known = m.known; inside = m.inside }
 
