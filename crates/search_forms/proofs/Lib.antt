@@ -2,3 +2,5 @@ pub mod CandidateLaws
 pub mod ListingLaws
 pub mod ScanLaws
 pub mod TieLaws
+pub mod ChoiceLaws
+pub mod LaterLaws
