@@ -74,10 +74,14 @@ module _ (l : Level) (c key : Shape) (n : ℕ) (xs : List Rated) (s : State) whe
   unfolding rated_form
   rated_not {t = t} e is = went_then rated_behind e ∙ ap (λ b. rated_behind b t) is
 
-  pub rated_kept : {b : Bool} {t u : State} {k : ℤ} → condition l c s ≡ Went b t → b ≡ true → key_form l key t ≡ Went k u →
-      rated_form l c key n xs s ≡ Went (xs ++ record { number = n; key = k } ∷ []) u
+  pub rated_kept : {b : Bool} {t u : State} {k : ℤ} → condition l c s ≡ Went b t → b ≡ true → key_form l key t ≡ Went k u → (z : ℤ) → z ≡ k →
+      rated_form l c key n xs s ≡ Went (xs ++ record { number = n; key = z } ∷ []) u
   unfolding rated_form
-  rated_kept {t = t} e is f = went_then rated_behind e ∙ ap (λ b. rated_behind b t) is ∙ went_then (λ k. give (xs ++ record { number = n; key = k } ∷ [])) f
+  rated_kept {t = t} {u} e is f z same =
+      went_then rated_behind e
+      ∙ ap (λ b. rated_behind b t) is
+      ∙ went_then (λ k. give (xs ++ record { number = n; key = k } ∷ [])) f
+      ∙ ap (λ k. Went (xs ++ record { number = n; key = k } ∷ []) u) (sym same)
 
   pub rated_untested : LevelGoesOn l → (stop : Stop) (t : State) → Ends stop t (condition l c s) → Ends stop t (rated_form l c key n xs s)
   unfolding rated_form
