@@ -1,4 +1,5 @@
 pub mod CandidateLaws
+pub mod LastLaws
 pub mod ListingLaws
 pub mod ScanLaws
 pub mod TieLaws

@@ -5,7 +5,7 @@ use Rattle.checked_tree.specs.Shape.{Shape}
 use Rattle.comet_meaning.specs.Candidates.{Candidate, last_form, last_of, name_place, with_candidate}
 use Rattle.comet_meaning.specs.Generators.{each_tuple}
 use Rattle.comet_meaning.specs.Levels.{Level}
-use Rattle.comet_meaning.specs.Outcome.{Act, always, each_in, give}
+use Rattle.comet_meaning.specs.Outcome.{Act, always, each_in}
 use Rattle.comet_meaning.specs.Values.{Value}
 
 -- the place of the last of some generators

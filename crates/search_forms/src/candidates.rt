@@ -1,17 +1,16 @@
 //! The candidates of a selector.
-ghost use Rattle.std.specs.Prelude.{◌≡◌, ◌++◌, ◌∷◌, ◌+◌, [], IfErr, IfOk, OnOk, length, option_map, slice_get, slice_index_or};
+ghost use Rattle.std.specs.Prelude.{◌≡◌, ◌++◌, ◌∷◌, ◌+◌, [], IfErr, IfOk, OnOk, length, nat_le, option_map, slice_get, slice_index_or};
 ghost use Rattle.comet_meaning.specs.Candidates.{with_candidate};
+ghost use Rattle.comet_meaning.specs.Limits.{most_candidates};
 ghost use Rattle.comet_meaning.specs.State.{State};
 ghost use Rattle.run_values.specs.Did.{Did, IsFaultOrMemory};
 ghost use Rattle.run_values.specs.declared.stop.Stop.TheVariants.{NoMemory};
 ghost use Rattle.search_forms.specs.Tables.{AreRows, candidates_seen};
 
+use cbl_base::limits::MAX_CANDIDATES;
 use cbl_base::{Limit, Place, RunFault};
 use run_values::Stop;
 use std::alloc::Global;
-
-/// How many candidates a selector may have.
-const MOST_CANDIDATES: usize = 4_194_304;
 
 /// Candidates: for each the values of all generators, in order.
 #[derive(Drop)]
@@ -41,6 +40,13 @@ impl Candidates {
         self.count
     }
 
+    /// Whether there are as many as there may be.
+    fn is_full(&self) -> bool
+        ensures { result ≡ nat_le most_candidates self.now.count }
+    {
+        MAX_CANDIDATES <= self.count
+    }
+
     /// The values of the candidate with a number, and none where there is no such candidate.
     pub(crate) fn get(&self, number: usize) -> &[i64]
         requires { AreRows self.now self.now.width }
@@ -62,7 +68,7 @@ impl Candidates {
         ensures more { OnOk result (self.new.count ≡ self.old.count + 1) }
         ensures stop { IfErr result IsFaultOrMemory }
     {
-        if self.count >= MOST_CANDIDATES {
+        if self.is_full() {
             return Err(Stop::Fault(at, RunFault::TooMany(Limit::Candidates)));
         }
         self.numbers.extend_from_slice(known)?;

@@ -45,9 +45,9 @@ pub(crate) fn candidates_of<O: Out, W: Within<O>>(
     let last = &generators[count - 1];
     if count == 1 {
         list_last(s, out, inside, at, front, last, &mut found)?;
-    } else {
-        list_behind(s, out, inside, at, front, last, &mut found)?;
+        return Ok(found);
     }
+    list_behind(s, out, inside, at, front, last, &mut found)?;
     Ok(found)
 }
 
@@ -67,14 +67,16 @@ fn list_behind<O: Out, W: Within<O>>(
     ensures did { Does (λ _. candidates_seen found.new) result (state_seen s.new (O.taken out.new)) (behind_front (level (W.code inside.now) (W.depth inside.now)) at (map shape_of_generator front.now) (shape_of_generator last.now) (candidates_seen found.old) (state_seen s.old (O.taken out.old))) }
     ensures rows { OnOk result (AreRows found.new (length front.now + 1)) }
 {
-    let domain = value_of(s, out, inside, &front[0].domain)?;
+    let first = &front[0];
+    let domain = value_of(s, out, inside, &first.domain)?;
     let place = front[front.len() - 1].place;
     let mut tuples = Tuples {
         top: pending_of(domain),
         below: Vec::new(s.alloc),
     };
     'tuples: loop {
-        match next_tuple(s, out, inside, place, front, &mut tuples)? {
+        let found_next = next_tuple(s, out, inside, place, front, &mut tuples)?;
+        match found_next {
             None => return Ok(()),
             Some(_value) => list_last(s, out, inside, at, front, last, found)?,
         }
