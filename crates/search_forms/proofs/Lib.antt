@@ -3,3 +3,5 @@ pub mod LastLaws
 pub mod ListingLaws
 pub mod ScanLaws
 pub mod TieLaws
+pub mod ChoiceLaws
+pub mod LaterLaws

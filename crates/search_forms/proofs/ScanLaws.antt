@@ -1,6 +1,8 @@
 -- The scan of candidates, one after another.
-use Rattle.std.proofs.Common.{◌≡◌, refl, sym, ap, ◌∙◌, subst, ℕ, suc, ◌+◌, ◌<◌, ◌≤◌, ℤ, Bool, true, false, List, [], ◌∷◌, ◌++◌, Option, Some, None, Result, Ok, Err, length, length-append, drop, get_or, arith, sum_by}
-use Rattle.std.specs.Prelude.{if◌then◌else◌}
+use Rattle.std.proofs.Common.{◌≡◌, refl, sym, ap, ◌∙◌, subst, ℕ, zero, suc, ◌+◌, ◌<◌, ◌≤◌, ℤ, Bool, true, false, List, [], ◌∷◌, ◌++◌, Option, Some, None, Result, Ok, Err, length, length-append, drop, get_or, arith, sum_by}
+use Rattle.std.proofs.lemmas.List.{at_drop_all, at_drop_more}
+use Rattle.std.proofs.lemmas.List.Sums.{sum_by-append, sum_by-cons}
+use Rattle.std.specs.Prelude.{slice_index_or}
 use Rattle.std.specs.Option.{option_map, option_or}
 use Rattle.cbl_base.specs.declared.place.Place.{Place}
 use Rattle.checked_tree.specs.Shape.{Shape}
@@ -15,7 +17,6 @@ use Rattle.comet_meaning.specs.State.{State, left}
 use Rattle.comet_meaning.proofs.GoingParts.{LevelGoesOn}
 use Rattle.comet_meaning.proofs.GoingSearch.{goes_scanned}
 use Rattle.comet_meaning.proofs.Endings.{went_then}
-use Rattle.comet_meaning.proofs.Rows.{at_next, at_end}
 use Rattle.ls_select.specs.Candidates.{stop_in}
 use Rattle.ls_select.specs.Parts.{part_of, stop_from}
 use Rattle.ls_select.specs.declared.part.Part.{Part}
@@ -23,6 +24,7 @@ use Rattle.ls_select.specs.declared.scored.Scored.{Scored}
 use Rattle.ls_select.specs.declared.scored.Stop.{Stop as ScanStop}
 use Rattle.run_steps.specs.Does.{Ends}
 use Rattle.run_steps.proofs.Stops.{ended_then}
+use Rattle.run_steps.proofs.TupleLaws.{get_or_again}
 use Rattle.run_values.specs.declared.stop.Stop.{Stop}
 use Rattle.search_forms.specs.Asking.{want_of}
 use Rattle.search_forms.specs.Scans.{ScansTo, kept_of, rated_by}
@@ -31,18 +33,22 @@ use Rattle.search_forms.proofs.TieLaws.{kept_more, ties_are}
 -- a scan that went on so far is so
 stop_on : (n : ℕ) (ss : List Scored) (s : Scored) → stop_from n ss ≡ None → stop_in s.end ≡ None → stop_from n (ss ++ s ∷ []) ≡ None
 stop_on n [] s h k = ap (λ o. option_or (option_map (λ (stop : ScanStop). (n, stop)) o) None) k
-stop_on n (t ∷ ss) s h k = by (stop_in t.end) refl
+stop_on n (t ∷ ss) s h k = by (stop_in t.end) refl (λ (z : stop_from (n + 1) ss ≡ None). stop_on (n + 1) ss s z k)
   where
-    by : (o : Option ScanStop) → stop_in t.end ≡ o → option_or (option_map (λ (stop : ScanStop). (n, stop)) (stop_in t.end)) (stop_from (n + 1) (ss ++ s ∷ [])) ≡ None
-    by None e =
-        ap (λ o. option_or (option_map (λ (stop : ScanStop). (n, stop)) o) (stop_from (n + 1) (ss ++ s ∷ []))) e
-        ∙ stop_on (n + 1) ss s (sym (ap (λ o. option_or (option_map (λ (stop : ScanStop). (n, stop)) o) (stop_from (n + 1) ss)) e) ∙ h) k
-    by (Some stop) e =
-        let d : ◌≡◌ {A = Option (ℕ × ScanStop)} (Some (n, stop)) None = sym (ap (λ o. option_or (option_map (λ (stop : ScanStop). (n, stop)) o) (stop_from (n + 1) ss)) e) ∙ h in cc
+    by : (o : Option ScanStop) → stop_in t.end ≡ o → (stop_from (n + 1) ss ≡ None → stop_from (n + 1) (ss ++ s ∷ []) ≡ None) →
+        option_or (option_map (λ (stop : ScanStop). (n, stop)) (stop_in t.end)) (stop_from (n + 1) (ss ++ s ∷ [])) ≡ None
+    by None e rest =
+        ap (λ (o : Option ScanStop). option_or (option_map (λ (stop : ScanStop). (n, stop)) o) (stop_from (n + 1) (ss ++ s ∷ []))) e
+        ∙ rest (sym (ap (λ (o : Option ScanStop). option_or (option_map (λ (stop : ScanStop). (n, stop)) o) (stop_from (n + 1) ss)) e) ∙ h)
+    by (Some stop) e rest =
+        let d : ◌≡◌ {A = Option (ℕ × ScanStop)} (Some (n, stop)) None = sym (ap (λ (o : Option ScanStop). option_or (option_map (λ (stop : ScanStop). (n, stop)) o) (stop_from (n + 1) ss)) e) ∙ h in cc
 
 costs_more : (ss : List Scored) (s : Scored) → sum_by (λ x. x.cost) (ss ++ s ∷ []) ≡ sum_by (λ x. x.cost) ss + s.cost
-costs_more [] s = omega arith
-costs_more (t ∷ ss) s = let z = costs_more ss s in omega (arith, z)
+costs_more ss s = let z = sum_by-append (λ (x : Scored). x.cost) ss (s ∷ []) in let one = sum_by-cons (λ (x : Scored). x.cost) s [] in omega (arith, z, one)
+
+-- a candidate is what stands at its number
+pub stands : (ts : List Candidate) (i : ℕ) (t : Candidate) → i < length ts → t ≡ slice_index_or ts i [] → t ≡ get_or ts i t
+stands ts i t h is = is ∙ get_or_again ts i [] h ∙ ap (get_or ts i) (sym is)
 
 -- the candidates from this one on are still to be scanned
 pub record Scanning (l : Level) (at : Place) (gs : List Shape) (c key : Shape) (x : Option Extreme) (ts : List Candidate) (i : ℕ) (part : Part) (start fuel : ℕ) (s : State) (whole : Outcome (List Rated)) : Type 0 where
@@ -80,19 +86,11 @@ module _ {l : Level} {at : Place} {gs : List Shape} {c key : Shape} {x : Option 
 
     scan_at : then_do one (scanned l at gs c key (i + 1) (drop (i + 1) ts)) ≡ whole
     unfolding scanned
-    scan_at = sym (next_of ts i t h is (kept_of 0 m.scores) s) ∙ m.rest
-      where
-        next_of : (ts : List Candidate) (i : ℕ) (t : Candidate) → i < length ts → t ≡ get_or ts i t → (xs : List Rated) (s : State) →
-            scanned l at gs c key i (drop i ts) xs s ≡ then_do (generated at (named gs t) (rated_form l c key i xs) s) (scanned l at gs c key (i + 1) (drop (i + 1) ts))
-        next_of ts i t h is xs s = by (drop i ts) (drop (i + 1) ts) (there ts i t h is)
-          where
-            there : (ts : List Candidate) (i : ℕ) (t : Candidate) → i < length ts → t ≡ get_or ts i t → drop i ts ≡ t ∷ drop (i + 1) ts
-            there [] i t h is = absurd (omega (arith, h))
-            there (y ∷ ts) 0 t h is = ap (λ z. z ∷ ts) (sym is)
-            there (y ∷ ts) (suc i) t h is = there ts i t (omega (arith, h)) is
-
-            by : (us vs : List Candidate) → us ≡ t ∷ vs → scanned l at gs c key i us xs s ≡ then_do (generated at (named gs t) (rated_form l c key i xs) s) (scanned l at gs c key (i + 1) vs)
-            by us vs e = ap (λ ws. scanned l at gs c key i ws xs s) e
+    scan_at =
+        ap (λ n. then_do one (scanned l at gs c key n (drop (i + 1) ts))) (let z : i + 1 ≡ suc i = omega arith in z)
+        ∙ sym (at_drop_more (λ us. scanned l at gs c key i us (kept_of 0 m.scores) s) ts i t h
+        ∙ ap (λ y. scanned l at gs c key i (y ∷ drop (i + 1) ts) (kept_of 0 m.scores) s) (sym is))
+        ∙ m.rest
 
     pub scan_stops : LevelGoesOn l → (stop : Stop) (u : State) → Ends stop u one → Ends stop u whole
     scan_stops k stop u e = subst (Ends stop u) scan_at (ended_then stop u one (scanned l at gs c key (i + 1) (drop (i + 1) ts)) (λ xs. goes_scanned l k at gs c key (i + 1) (drop (i + 1) ts) xs) e)
@@ -109,7 +107,7 @@ module _ {l : Level} {at : Place} {gs : List Shape} {c key : Shape} {x : Option 
         let paid : next.cost ≡ part.cost + scored.cost = ap (λ p. p.cost) made ∙ costs_more m.scores scored ∙ ap (λ n. n + scored.cost) (sym (ap (λ p. p.cost) m.made)) in record {
           scores = m.scores ++ scored ∷ [];
           rest =
-              ap (λ xs. scanned l at gs c key (i + 1) (drop (i + 1) ts) xs u) (kept_more 0 m.scores scored ∙ ap (λ n. rated_by n scored.end (kept_of 0 m.scores)) (let z : 0 + length m.scores ≡ i = m.many in z))
+              ap (λ xs. scanned l at gs c key (i + 1) (drop (i + 1) ts) xs u) (kept_more 0 m.scores scored ∙ ap (λ n. rated_by n scored.end (kept_of 0 m.scores)) (let many = m.many in let z : 0 + length m.scores ≡ i = omega (arith, many) in z))
               ∙ sym (went_then (scanned l at gs c key (i + 1) (drop (i + 1) ts)) e) ∙ scan_at;
           made = made;
           many = length-append m.scores (scored ∷ []) ∙ ap (λ n. n + 1) m.many;
@@ -119,13 +117,4 @@ module _ {l : Level} {at : Place} {gs : List Shape} {c key : Shape} {x : Option 
 
   pub scan_ends : length ts ≤ i → ScansTo x (Ok part) s whole
   unfolding scanned
-  scan_ends h = (kept_of 0 m.scores, ap (λ p. p.ties) m.made ∙ ties_are x m.scores, sym m.rest ∙ none_left ts i h (kept_of 0 m.scores))
-    where
-      none_left : (ts : List Candidate) (i : ℕ) → length ts ≤ i → (xs : List Rated) → scanned l at gs c key i (drop i ts) xs s ≡ Went xs s
-      none_left ts i h xs = ap (λ us. scanned l at gs c key i us xs s) (none ts i h)
-        where
-          none : (ts : List Candidate) (i : ℕ) → length ts ≤ i → drop i ts ≡ []
-          none [] 0 h = refl
-          none [] (suc i) h = refl
-          none (y ∷ ts) 0 h = absurd (omega (arith, h))
-          none (y ∷ ts) (suc i) h = none ts i (omega (arith, h))
+  scan_ends h = (kept_of 0 m.scores, ap (λ p. p.ties) m.made ∙ ties_are x m.scores, sym m.rest ∙ at_drop_all (λ us. scanned l at gs c key i us (kept_of 0 m.scores) s) ts i h)

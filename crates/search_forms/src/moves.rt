@@ -76,6 +76,7 @@ fn run_kept<O: Out, W: Within<O>>(
     number: usize,
 ) -> Result<(), Stop>
     requires ready { W.is_ready inside.now }
+    ensures did { Does (λ _. tt) result (state_seen s.new (O.taken out.new)) (moves.run_move (level (W.code inside.now) (W.depth inside.now)) (moves.kept_in (state_seen s.old (O.taken out.old)) number) (state_seen s.old (O.taken out.old))) }
 {
     let kept = s.kept_closure(number)?;
     match kept {

@@ -120,6 +120,7 @@ fn rate<O: Out, W: Within<O>>(
 }
 
 /// The key of a candidate.
+#[tactic(auto, unfolding(comet_meaning::specs::Selection::key_form))]
 fn key_asked<O: Out, W: Within<O>>(
     s: &mut State,
     out: &mut O,
