@@ -19,6 +19,7 @@ numbers_in (Went xs s) ys = xs
 numbers_in (Halted h t) ys = ys
 
 kept_law : (b : Bool) (at : Place) (xs values : List ℤ) (s : State) (f : List ℤ → Act Value) → (unless b at NotClosed >>= λ _. give xs) s ≡ Went values s → (unless b at NotClosed >>= λ _. f xs) s ≡ f values s
+unfolding numbers_in
 kept_law true at xs values s f e = ap (λ zs. f zs s) (ap (λ o. numbers_in o xs) e)
 kept_law false at xs values s f e = cc
 

@@ -1,14 +1,11 @@
 -- What an act on a solver changes is queued behind it.
-use Rattle.std.proofs.Common.{◌≡◌, refl, sym, ap, ◌∙◌, subst, ℕ, List, map, Result, Ok, Err, Vec, Global}
-use Rattle.std.specs.Prelude.{IfOk, IfErr}
-use Rattle.ls_events.specs.declared.change.VarChange.{VarChange}
+use Rattle.std.proofs.Common.{◌≡◌, sym, ap, subst, ℕ, Result}
 use Rattle.comet_meaning.specs.Changes.{changes_of, notice, noticed}
-use Rattle.comet_meaning.specs.Outcome.{Act, Outcome, Went, Halted, then_do}
+use Rattle.comet_meaning.specs.Outcome.{Act, Went, then_do}
 use Rattle.comet_meaning.specs.Parts.{solver_at}
 use Rattle.comet_meaning.specs.State.{State}
-use Rattle.run_solvers.specs.Told.{told}
 use Rattle.run_state.specs.SearchActs.{queued}
-use Rattle.run_values.specs.Did.{Did, Stopped, IsFaultOrMemory}
+use Rattle.run_values.specs.Did.{Did, Stopped}
 use Rattle.run_values.specs.declared.stop.Stop.{Stop}
 use Rattle.run_values.specs.declared.stop.Stop.TheVariants as stops
 use Rattle.run_values.specs.declared.stop.Stop.TheVariants.{Fault, Spent, NoMemory, Output}
