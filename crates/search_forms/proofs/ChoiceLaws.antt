@@ -1,14 +1,17 @@
 -- A candidate that is rated, the scan of all, the choice, and the body with the chosen one's names.
 use Rattle.std.proofs.Common.{◌≡◌, refl, sym, ap, ◌∙◌, subst, ℕ, ℤ, Bool, true, false, List, [], ◌∷◌, ◌++◌, Option, Some, None, Result, Ok, Err, map, length, get_or, min, ◌<◌, ◌≤◌, arith}
-use Rattle.std.specs.Prelude.{if◌then◌else◌, zip, IsErrAnd}
+use Rattle.std.proofs.Common.{of_z, to_z, w64}
+use Rattle.std.proofs.lemmas.Int.{to_z-of_z}
+use Rattle.std.specs.Prelude.{if◌then◌else◌, zip, FitsSigned, IsErrAnd}
 use Rattle.std.proofs.lemmas.Slice.Zip.{get_or-zip, length-zip}
 use Rattle.cbl_base.specs.declared.place.Place.{Place}
 use Rattle.checked_tree.specs.declared.expressions.Generator.{Generator}
+use Rattle.checked_tree.specs.declared.expressions.Slot.{Slot}
 use Rattle.checked_tree.specs.Shape.{Shape, shape_of_generator}
 use Rattle.checked_tree.specs.Tasks.{Work}
 use Rattle.comet_syntax.specs.declared.tree.expressions.Extreme.{Extreme}
 use Rattle.comet_meaning.specs.Candidates.{Candidate, candidates_form, named}
-use Rattle.comet_meaning.specs.Cells.{back_in, in_scope}
+use Rattle.comet_meaning.specs.Cells.{back_in, in_scope, put}
 use Rattle.comet_meaning.specs.Generators.{Bound, bind, generated}
 use Rattle.comet_meaning.specs.Levels.{Flow, Level}
 use Rattle.comet_meaning.specs.Outcome.{Act, Outcome, Went, charge, give, then_do, ◌>>=◌}
@@ -17,15 +20,16 @@ use Rattle.comet_meaning.specs.Selection.{Rated, Scan, candidate_at, choice_form
 use Rattle.comet_meaning.specs.State.{State}
 use Rattle.comet_meaning.specs.Values as values
 use Rattle.comet_meaning.specs.Onward.{GoesOn}
-use Rattle.comet_meaning.proofs.Endings.{went_then}
+use Rattle.comet_meaning.proofs.Endings.{Passes, halted_then, went_then}
 use Rattle.comet_meaning.proofs.GoingOn.{goes_back_in, goes_charge, goes_give, goes_if, goes_then}
 use Rattle.comet_meaning.proofs.GoingParts.{LevelGoesOn, goes_bind}
 use Rattle.comet_meaning.proofs.GoingSearch.{goes_chosen, goes_key, goes_scanned}
 use Rattle.run_steps.specs.Does.{Ends}
 use Rattle.run_steps.proofs.Forms.{generator_is}
 use Rattle.run_steps.proofs.Stops.{ended_then, stopped_then}
-use Rattle.run_values.specs.Did.{Stopped}
+use Rattle.run_values.specs.Did.{Did, Stopped}
 use Rattle.run_values.specs.declared.stop.Stop.{Stop}
+use Rattle.run_values.specs.declared.stop.Stop.TheVariants.{Cyclic, Fault, NoMemory, Output, Spent}
 use Rattle.ls_select.specs.declared.part.Part.{Part}
 use Rattle.search_forms.specs.Scans.{ScansAs, ScansTo}
 use Rattle.search_forms.specs.Tables.{AreRows}
@@ -41,6 +45,27 @@ part_exit x (Err y) s o stop h e = subst (λ z. Ends z s o) (sym h) e
 pub scan_exit : (x : Option Extreme) (r : Result Scanned Stop) (s : State) (o : Outcome Scan) (stop : Stop) → IsErrAnd r (λ y. y ≡ stop) → Ends stop s o → ScansAs x r s o
 scan_exit x (Ok scan) s o stop h e = absurd h
 scan_exit x (Err y) s o stop h e = subst (λ z. Ends z s o) (sym h) e
+
+-- ---- acts that print nothing
+
+pub stopped_passes : (stop : Stop) (t : State) → Passes (λ A o. Stopped stop t o)
+stopped_passes (Fault place f) t A B o g k e = halted_then g e
+stopped_passes (Spent place) t A B o g k e = halted_then g e
+stopped_passes (Cyclic place names) t A B o g k e = halted_then g e
+stopped_passes NoMemory t A B o g k e = tt
+stopped_passes (Output stop) t A B o g k e = tt
+
+pub did_exit : {X A : Type 0} (view : X → A) (r : Result X Stop) (t : State) (o : Outcome A) (stop : Stop) → IsErrAnd r (λ y. y ≡ stop) → Stopped stop t o → Did view r t o
+did_exit view (Ok x) t o stop h e = absurd h
+did_exit view (Err y) t o stop h e = subst (λ z. Stopped z t o) (sym h) e
+
+-- a number that is held in a word gets into a cell
+module _ (slot : Slot) (z : ℤ) (s t : State) (f : FitsSigned w64 z) where
+  pub put_stops : (stop : Stop) → Stopped stop t (put slot (values.Number (to_z w64 (of_z w64 z))) s) → Stopped stop t (put slot (values.Number z) s)
+  put_stops stop h = subst (λ x. Stopped stop t (put slot (values.Number x) s)) (to_z-of_z w64 z f) h
+
+  pub put_went : put slot (values.Number (to_z w64 (of_z w64 z))) s ≡ Went tt t → put slot (values.Number z) s ≡ Went tt t
+  put_went h = subst (λ x. put slot (values.Number x) s ≡ Went tt t) (to_z-of_z w64 z f) h
 
 -- ---- names and their values
 

@@ -4,8 +4,7 @@ use Rattle.std.specs.Prelude.{FitsSigned, zip}
 use Rattle.std.proofs.lemmas.List.{length_push}
 use Rattle.std.proofs.lemmas.Slice.Zip.{zip_end, zip_turn}
 use Rattle.comet_meaning.proofs.Rows.{NamesLeft, names_end, names_err, names_start, names_step}
-use Rattle.run_steps.proofs.BeginLaws.{did_exit, put_stops, put_went, stopped_passes}
-use Rattle.search_forms.proofs.ChoiceLaws.{named_pairs, pair_bound, pair_there, pairs_end}
+use Rattle.search_forms.proofs.ChoiceLaws.{did_exit, named_pairs, pair_bound, pair_there, pairs_end, put_stops, put_went, stopped_passes}
 use Rattle.search_forms.proofs.scanning.bind_values.Goals as goal
 
 pub loop-generator-init : goal.loop-generator-init
