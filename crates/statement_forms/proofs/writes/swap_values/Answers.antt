@@ -1,10 +1,12 @@
-use Rattle.std.proofs.Common.{subst}
 use Rattle.comet_meaning.proofs.GoingEvents.{goes_behind_commit}
 use Rattle.comet_meaning.proofs.GoingOn.{goes_then}
-use Rattle.run_steps.specs.Does.{Does}
-use Rattle.statement_forms.proofs.WriteLaws.{grouped}
+use Rattle.statement_forms.proofs.WriteLaws.{follows_both}
 use Rattle.comet_meaning.proofs.GoingStatements.{goes_level, goes_swapped_at}
-use Rattle.comet_meaning.specs.Writes.{swap_form}
+use Rattle.comet_meaning.specs.Events.{behind_commit}
+use Rattle.comet_meaning.specs.Levels.{Level, Target}
+use Rattle.comet_meaning.specs.Program.{level}
+use Rattle.comet_meaning.specs.Writes.{swap_form, swapped_at}
+use Rattle.run_state.specs.Targets.{target_seen}
 use Rattle.std.proofs.lemmas.Result.{err_from_is_err_and}
 use Rattle.run_steps.proofs.Stops.{ended_then}
 use Rattle.statement_forms.proofs.writes.swap_values.Goals as goal
@@ -15,4 +17,7 @@ returns-in_err-left g c = let p = err_from_is_err_and c.from_residual.result c.f
 
 pub returns : goal.returns
 unfolding swap_form
-returns g c = record { did = rw c.in_ok-left.ensures.did (subst (Does _ _ _) (grouped _ _ _) (c.behind_commit.ensures.did _ (c.swap_part-done.ensures.did _ _ c.target_of-right.ensures.did))) }
+returns g c =
+    let l : Level = level (g.W.Within.code c.args.inside.now) (g.W.Within.depth c.args.inside.now) in
+    let target : Target = target_seen c.in_ok-left.left in
+    record { did = rw c.in_ok-left.ensures.did (follows_both _ _ _ _ _ _ _ _ _ _ _ _ _ _ _ _ (λ other. swapped_at c.args.at target other) (λ (u : Unit {0}). behind_commit l c.args.at target) c.target_of-right.ensures.did (c.swap_part-done.ensures.did _) c.behind_commit.ensures.did) }
