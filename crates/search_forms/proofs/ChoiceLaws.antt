@@ -24,6 +24,7 @@ use Rattle.comet_meaning.proofs.Endings.{Passes, halted_then, went_then}
 use Rattle.comet_meaning.proofs.GoingOn.{goes_back_in, goes_charge, goes_give, goes_if, goes_then}
 use Rattle.comet_meaning.proofs.GoingParts.{LevelGoesOn, goes_bind}
 use Rattle.comet_meaning.proofs.GoingSearch.{goes_chosen, goes_key, goes_scanned}
+use Rattle.comet_meaning.proofs.Rows.{NamesLeft}
 use Rattle.run_steps.specs.Does.{Ends}
 use Rattle.run_steps.proofs.Forms.{generator_is}
 use Rattle.run_steps.proofs.Stops.{ended_then, stopped_then}
@@ -79,6 +80,9 @@ named_pairs (g ∷ gs) [] = ap (λ x. named (x ∷ map shape_of_generator gs) []
 named_pairs (g ∷ gs) (v ∷ vs) =
     ap (λ x. named (x ∷ map shape_of_generator gs) (v ∷ vs)) (generator_is g) ∙ ap (λ bs. record { slot = g.slot; value = v } ∷ bs) (named_pairs gs vs)
 
+pub names_moved : {X : Type 0} {f : X → Bound} {xs : List X} {i : ℕ} {s : State} {w : Outcome (Unit {0})} (j : ℕ) → NamesLeft f xs i s w → j ≡ i → NamesLeft f xs j s w
+names_moved {f = f} {xs} {s = s} {w} j m e = subst (λ i. NamesLeft f xs i s w) (sym e) m
+
 -- a pair of two lists
 pub pair_there : (gs : List Generator) (vs : List ℤ) (i : ℕ) (g : Generator) (v : ℤ) → i < length gs → i < length vs → ((d : Generator) → g ≡ get_or gs i d) → ((d : ℤ) → v ≡ get_or vs i d) →
     (i < length (zip gs vs)) × (◌≡◌ {A = Generator × ℤ} (g, v) (get_or (zip gs vs) i (g, v)))
@@ -123,6 +127,9 @@ module _ {A : Type 0} (at : Place) (bs : List Bound) (next : Act A) (s : State) 
   pub generated_is : {t u : State} → charge 1 at s ≡ Went tt t → bind bs t ≡ Went tt u → generated at bs next s ≡ next u
   unfolding generated
   generated_is e f = went_then (λ _. bind bs >>= λ _. next) e ∙ went_then (λ _. next) f
+
+  pub generated_ends : {t u : State} → charge 1 at s ≡ Went tt t → bind bs t ≡ Went tt u → (stop : Stop) (w : State) → Ends stop w (next u) → Ends stop w (generated at bs next s)
+  generated_ends e f stop w d = subst (Ends stop w) (sym (generated_is e f)) d
 
   pub generated_uncharged : GoesOn next → (stop : Stop) (t : State) → t.printed ≡ s.printed → Stopped stop t (charge 1 at s) → Ends stop t (generated at bs next s)
   unfolding generated
