@@ -17,9 +17,9 @@ use Rattle.comet_meaning.specs.Levels.{Flow, Level}
 use Rattle.comet_meaning.specs.Outcome.{Act, Outcome, Went, charge, give, then_do, ◌>>=◌}
 use Rattle.comet_meaning.specs.Parts.{condition}
 use Rattle.comet_meaning.specs.Selection.{Rated, Scan, candidate_at, choice_form, chosen_of, key_form, rated_form, scan_form, scanned, ties_of, with_chosen}
-use Rattle.comet_meaning.specs.State.{State}
+use Rattle.comet_meaning.specs.State.{State, left}
 use Rattle.comet_meaning.specs.Values as values
-use Rattle.comet_meaning.specs.Onward.{GoesOn}
+use Rattle.comet_meaning.specs.Onward.{GoesOn, IsOnward, left_by}
 use Rattle.comet_meaning.proofs.Endings.{Passes, halted_then, went_then}
 use Rattle.comet_meaning.proofs.GoingOn.{goes_back_in, goes_charge, goes_give, goes_if, goes_then}
 use Rattle.comet_meaning.proofs.GoingParts.{LevelGoesOn, goes_bind}
@@ -42,6 +42,10 @@ use Rattle.search_forms.specs.declared.scanning.Scanned.{Scanned}
 pub part_exit : (x : Option Extreme) (r : Result Part Stop) (s : State) (o : Outcome (List Rated)) (stop : Stop) → IsErrAnd r (λ y. y ≡ stop) → Ends stop s o → ScansTo x r s o
 part_exit x (Ok part) s o stop h e = absurd h
 part_exit x (Err y) s o stop h e = subst (λ z. Ends z s o) (sym h) e
+
+-- where there was no memory, what was printed is a front of what the whole prints
+pub part_unkept : (x : Option Extreme) (r : Result Part Stop) (s : State) (o : Outcome (List Rated)) → IsErrAnd r (λ y. y ≡ NoMemory) → IsOnward (left s) (left_by o) → ScansTo x r s o
+part_unkept x r s o h on = part_exit x r s o NoMemory h on.printed
 
 pub scan_exit : (x : Option Extreme) (r : Result Scanned Stop) (s : State) (o : Outcome Scan) (stop : Stop) → IsErrAnd r (λ y. y ≡ stop) → Ends stop s o → ScansAs x r s o
 scan_exit x (Ok scan) s o stop h e = absurd h
