@@ -24,7 +24,7 @@ add-requires g c =
 pub returns-in_err-add : goal.returns-in_err-add
 returns-in_err-add g c =
     let h : c.loop-number.number < length (candidates_seen c.args.candidates.now) = subst (λ n. c.loop-number.number < n) c.len-number-end.ensures c.loop-number-test.true in
-    record { did = part_unkept _ _ _ _ c.from_residual-in_err-add.ensures.1 (scan_onward c.loop-number.invariant _ h (stands _ _ _ h c.get-values.ensures) (goes_level _ _) _ _ _ (c.in_ok-scored.ensures.did _ _)) }
+    record { did = part_unkept _ _ _ _ c.from_residual-in_err-add.ensures.1 (scan_onward c.loop-number.invariant _ h (stands _ _ _ h c.get-values.ensures) (goes_level _ _) _ _ (c.in_ok-scored.ensures.did _ _)) }
 
 pub loop-number-preserved : goal.loop-number-preserved
 loop-number-preserved g c =
