@@ -17,13 +17,14 @@ use Rattle.comet_meaning.specs.Levels.{Flow, Level}
 use Rattle.comet_meaning.specs.Outcome.{Act, Outcome, Went, charge, give, then_do, ◌>>=◌}
 use Rattle.comet_meaning.specs.Parts.{condition}
 use Rattle.comet_meaning.specs.Selection.{Rated, Scan, candidate_at, choice_form, chosen_of, key_form, rated_form, scan_form, scanned, ties_of, with_chosen}
-use Rattle.comet_meaning.specs.State.{State}
+use Rattle.comet_meaning.specs.State.{State, left}
 use Rattle.comet_meaning.specs.Values as values
-use Rattle.comet_meaning.specs.Onward.{GoesOn}
+use Rattle.comet_meaning.specs.Onward.{GoesOn, IsOnward, left_by}
 use Rattle.comet_meaning.proofs.Endings.{Passes, halted_then, went_then}
 use Rattle.comet_meaning.proofs.GoingOn.{goes_back_in, goes_charge, goes_give, goes_if, goes_then}
 use Rattle.comet_meaning.proofs.GoingParts.{LevelGoesOn, goes_bind}
 use Rattle.comet_meaning.proofs.GoingSearch.{goes_chosen, goes_key, goes_scanned}
+use Rattle.comet_meaning.proofs.Rows.{NamesLeft}
 use Rattle.run_steps.specs.Does.{Ends}
 use Rattle.run_steps.proofs.Forms.{generator_is}
 use Rattle.run_steps.proofs.Stops.{ended_then, stopped_then}
@@ -41,6 +42,10 @@ use Rattle.search_forms.specs.declared.scanning.Scanned.{Scanned}
 pub part_exit : (x : Option Extreme) (r : Result Part Stop) (s : State) (o : Outcome (List Rated)) (stop : Stop) → IsErrAnd r (λ y. y ≡ stop) → Ends stop s o → ScansTo x r s o
 part_exit x (Ok part) s o stop h e = absurd h
 part_exit x (Err y) s o stop h e = subst (λ z. Ends z s o) (sym h) e
+
+-- where there was no memory, what was printed is a front of what the whole prints
+pub part_unkept : (x : Option Extreme) (r : Result Part Stop) (s : State) (o : Outcome (List Rated)) → IsErrAnd r (λ y. y ≡ NoMemory) → IsOnward (left s) (left_by o) → ScansTo x r s o
+part_unkept x r s o h on = part_exit x r s o NoMemory h on.printed
 
 pub scan_exit : (x : Option Extreme) (r : Result Scanned Stop) (s : State) (o : Outcome Scan) (stop : Stop) → IsErrAnd r (λ y. y ≡ stop) → Ends stop s o → ScansAs x r s o
 scan_exit x (Ok scan) s o stop h e = absurd h
@@ -78,6 +83,9 @@ named_pairs [] vs = refl
 named_pairs (g ∷ gs) [] = ap (λ x. named (x ∷ map shape_of_generator gs) []) (generator_is g)
 named_pairs (g ∷ gs) (v ∷ vs) =
     ap (λ x. named (x ∷ map shape_of_generator gs) (v ∷ vs)) (generator_is g) ∙ ap (λ bs. record { slot = g.slot; value = v } ∷ bs) (named_pairs gs vs)
+
+pub names_moved : {X : Type 0} {f : X → Bound} {xs : List X} {i : ℕ} {s : State} {w : Outcome (Unit {0})} (j : ℕ) → NamesLeft f xs i s w → j ≡ i → NamesLeft f xs j s w
+names_moved {f = f} {xs} {s = s} {w} j m e = subst (λ i. NamesLeft f xs i s w) (sym e) m
 
 -- a pair of two lists
 pub pair_there : (gs : List Generator) (vs : List ℤ) (i : ℕ) (g : Generator) (v : ℤ) → i < length gs → i < length vs → ((d : Generator) → g ≡ get_or gs i d) → ((d : ℤ) → v ≡ get_or vs i d) →
@@ -123,6 +131,9 @@ module _ {A : Type 0} (at : Place) (bs : List Bound) (next : Act A) (s : State) 
   pub generated_is : {t u : State} → charge 1 at s ≡ Went tt t → bind bs t ≡ Went tt u → generated at bs next s ≡ next u
   unfolding generated
   generated_is e f = went_then (λ _. bind bs >>= λ _. next) e ∙ went_then (λ _. next) f
+
+  pub generated_ends : {t u : State} → charge 1 at s ≡ Went tt t → bind bs t ≡ Went tt u → (stop : Stop) (w : State) → Ends stop w (next u) → Ends stop w (generated at bs next s)
+  generated_ends e f stop w d = subst (Ends stop w) (sym (generated_is e f)) d
 
   pub generated_uncharged : GoesOn next → (stop : Stop) (t : State) → t.printed ≡ s.printed → Stopped stop t (charge 1 at s) → Ends stop t (generated at bs next s)
   unfolding generated

@@ -95,8 +95,8 @@ module _ {l : Level} {at : Place} {gs : List Shape} {c key : Shape} {x : Option 
     pub scan_stops : LevelGoesOn l → (stop : Stop) (u : State) → Ends stop u one → Ends stop u whole
     scan_stops k stop u e = subst (Ends stop u) scan_at (ended_then stop u one (scanned l at gs c key (i + 1) (drop (i + 1) ts)) (λ xs. goes_scanned l k at gs c key (i + 1) (drop (i + 1) ts) xs) e)
 
-    pub scan_onward : LevelGoesOn l → (o : Outcome (List Rated)) (u : State) (xs : List Rated) → one ≡ Went xs u → IsOnward (left u) (left_by whole)
-    scan_onward k o u xs e = subst (λ w. IsOnward (left u) (left_by w)) (sym (went_then (scanned l at gs c key (i + 1) (drop (i + 1) ts)) e) ∙ scan_at) ((goes_scanned l k at gs c key (i + 1) (drop (i + 1) ts) xs).from u)
+    pub scan_onward : LevelGoesOn l → (u : State) (xs : List Rated) → one ≡ Went xs u → IsOnward (left u) (left_by whole)
+    scan_onward k u xs e = subst (λ w. IsOnward (left u) (left_by w)) (sym (went_then (scanned l at gs c key (i + 1) (drop (i + 1) ts)) e) ∙ scan_at) ((goes_scanned l k at gs c key (i + 1) (drop (i + 1) ts) xs).from u)
 
     pub scan_goes_on : (scored : Scored) (next : Part) (rest : ℕ) (u : State) → one ≡ Went (rated_by i scored.end (kept_of 0 m.scores)) u → scored.cost + rest ≡ fuel → stop_in scored.end ≡ None →
         ((scores : List Scored) → part ≡ part_of (want_of x) part.first scores → next ≡ part_of (want_of x) part.first (scores ++ scored ∷ [])) →

@@ -54,6 +54,7 @@ pub(crate) fn scan<O: Out, W: Within<O>>(
     requires rows { AreRows candidates.now candidates.now.width }
     ensures did { ScansTo asked.entry.extreme result (state_seen s.new (O.taken out.new)) (scanned (level (W.code inside.now) (W.depth inside.now)) at (map shape_of_generator generators.now) (condition_of asked.entry) (key_of asked.entry) 0 (candidates_seen candidates.now) [] (state_seen s.old (O.taken out.old))) }
 {
+    let _start = s.fuel;
     let want = wanted(asked.extreme);
     let mut part = Part::new(s.alloc, 0);
     for number in 0..candidates.len() {

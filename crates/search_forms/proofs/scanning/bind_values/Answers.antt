@@ -1,10 +1,10 @@
 -- Each name gets its value.
-use Rattle.std.proofs.Common.{◌∙◌, refl, rules, sym, subst, length, w64}
-use Rattle.std.specs.Prelude.{FitsSigned, zip}
+use Rattle.std.proofs.Common.{◌∙◌, refl, rules, length, w64}
+use Rattle.std.specs.Prelude.{FitsSigned}
 use Rattle.std.proofs.lemmas.List.{length_push}
 use Rattle.std.proofs.lemmas.Slice.Zip.{zip_end, zip_turn}
-use Rattle.comet_meaning.proofs.Rows.{NamesLeft, names_end, names_err, names_start, names_step}
-use Rattle.search_forms.proofs.ChoiceLaws.{did_exit, named_pairs, pair_bound, pair_there, pairs_end, put_stops, put_went, stopped_passes}
+use Rattle.comet_meaning.proofs.Rows.{names_end, names_err, names_start, names_step}
+use Rattle.search_forms.proofs.ChoiceLaws.{did_exit, named_pairs, names_moved, pair_there, pairs_end, put_stops, put_went, stopped_passes}
 use Rattle.search_forms.proofs.scanning.bind_values.Goals as goal
 
 pub loop-generator-init : goal.loop-generator-init
@@ -22,7 +22,7 @@ loop-generator-preserved c =
     let f : FitsSigned w64 c.in-Some.value.now = search rules in
     let t = zip_turn c.args.generators.now c.args.values.now c.loop-generator.yielded c.into_iter-generator-iterator.result c.loop-generator.generator-iterator c.next.new.self c.next.result (search rules) (search rules) c.loop-generator.yielded_by _ c.in-Some.is c.next.ensures.steps in
     let p = pair_there c.args.generators.now c.args.values.now (length c.loop-generator.yielded) c.in-Some.generator.now c.in-Some.value.now t.0 t.1 t.2 t.3 in record {
-      left = λ printed. subst (λ i. NamesLeft pair_bound (zip c.args.generators.now c.args.values.now) i _ _) (sym (length_push c.loop-generator.yielded _)) (names_step (c.loop-generator.invariant.left printed) _ p.0 p.1 (put_went _ _ _ _ f (c.in_ok-put.ensures.did printed)));
+      left = λ printed. names_moved _ (names_step (c.loop-generator.invariant.left printed) _ p.0 p.1 (put_went _ _ _ _ f (c.in_ok-put.ensures.did printed))) (length_push c.loop-generator.yielded _);
       fuel = c.in_ok-put.ensures.fuel ∙ c.loop-generator.invariant.fuel;
     }
 

@@ -6,8 +6,8 @@ use Rattle.run_steps.proofs.Exits.{after, exit}
 use Rattle.run_steps.proofs.Stops.{stopped_then}
 use Rattle.search_forms.proofs.selectors.execute_chosen.Goals as goal
 
-pub returns-in_err-bind_values : goal.returns-in_err-bind_values
-returns-in_err-bind_values g c = record { did = exit _ _ _ _ _ c.from_residual.ensures.1 (stopped_then _ _ _ _ (goes_bind _) refl (λ _. (goes_level _ _).stmt _) (rw c.deref.ensures.value at (c.in_err-bind_values.ensures.did _))) }
+pub returns-in_err-bind_values-in-Some : goal.returns-in_err-bind_values-in-Some
+returns-in_err-bind_values-in-Some g c = record { did = exit _ _ _ _ _ c.from_residual.ensures.1 (stopped_then _ _ _ _ (goes_bind _) refl (λ _. (goes_level _ _).stmt _) (rw c.deref.ensures.value at (c.in_err-bind_values-in-Some.ensures.did _))) }
 
-pub returns-in-Some : goal.returns-in-Some
-returns-in-Some g c = record { did = after _ _ _ _ (rw c.deref.ensures.value at (c.in_ok-bind_values.ensures.did _)) c.execute.ensures.did }
+pub returns-in_ok-bind_values-in-Some : goal.returns-in_ok-bind_values-in-Some
+returns-in_ok-bind_values-in-Some g c = record { did = after _ _ _ _ (rw c.deref.ensures.value at (c.in_ok-bind_values-in-Some.ensures.did _)) c.execute.ensures.did }
