@@ -90,9 +90,10 @@ names_moved {f = f} {xs} {s = s} {w} j m e = subst (λ i. NamesLeft f xs i s w) 
 -- a pair of two lists
 pub pair_there : (gs : List Generator) (vs : List ℤ) (i : ℕ) (g : Generator) (v : ℤ) → i < length gs → i < length vs → ((d : Generator) → g ≡ get_or gs i d) → ((d : ℤ) → v ≡ get_or vs i d) →
     (i < length (zip gs vs)) × (◌≡◌ {A = Generator × ℤ} (g, v) (get_or (zip gs vs) i (g, v)))
-pair_there gs vs i g v h k e f =
-    (let z = length-zip gs vs in omega (arith, z),
-    (ap (λ (x : Generator). (x, v)) (e g) ∙ ap (λ (y : ℤ). (get_or gs i g, y)) (f v)) ∙ sym (get_or-zip gs vs i (g, v) h k))
+pair_there gs vs i g v h k e f = (
+  let z = length-zip gs vs in omega (arith, z),
+  (ap (λ (x : Generator). (x, v)) (e g) ∙ ap (λ (y : ℤ). (get_or gs i g, y)) (f v)) ∙ sym (get_or-zip gs vs i (g, v) h k),
+)
 
 pub pairs_end : (gs : List Generator) (vs : List ℤ) (i : ℕ) → i ≡ min (length gs) (length vs) → length (zip gs vs) ≤ i
 pairs_end gs vs i h = let z = length-zip gs vs in omega (arith, z, h)
