@@ -5,12 +5,11 @@ use Rattle.cbl_io.specs.Appended.{Appends, AppendsFront}
 use Rattle.cbl_io.specs.Faults.{HasRisen}
 use Rattle.cbl_io.specs.Held.{Held}
 use Rattle.checked_tree.specs.Tasks.{Whole}
-use Rattle.comet_meaning.specs.Program.{meaning}
 use Rattle.comet_words.specs.Asked.{asked}
 use Rattle.comet.specs.Headline.{Taken, RunHeadline, JobHeadline, IsCalm}
 use Rattle.comet.specs.Line.{line_of}
 use Rattle.comet.specs.Loading.{IsJob, IsFrontStop}
-use Rattle.comet.specs.Output.{Runs, RunOutput, Decides, EndsAsMeant}
+use Rattle.comet.specs.Output.{Runs, RunOutput, Decides, EndsAsMeant, meant_with}
 use Rattle.comet.specs.Status.{status_of, cause_of}
 use Rattle.comet.specs.declared.report.Cause.{Cause}
 use Rattle.comet.specs.declared.report.Cause.TheVariants as causes
@@ -29,8 +28,8 @@ ends_or_wants status {E} {Risen} read write risen decided =
 pub job_headline : (program : Whole) (seed fuel : ℕ) (text : List ℕ) (report : Report) (out out_after err err_after : Taken) →
     report.status ≡ status_of report.cause →
     (report.status ≢ 1) × (report.status ≢ 8) →
-    (Decides report.status → (report.cause ≡ cause_of (meaning program seed fuel text).end) × Appends out.bytes out_after.bytes (meaning program seed fuel text).printed) →
-    AppendsFront out.bytes out_after.bytes (meaning program seed fuel text).printed →
+    (Decides report.status → (report.cause ≡ cause_of (meant_with program seed fuel text).end) × Appends out.bytes out_after.bytes (meant_with program seed fuel text).printed) →
+    AppendsFront out.bytes out_after.bytes (meant_with program seed fuel text).printed →
     (report.status ≡ 9 → HasRisen out.faults out_after.faults) →
     (¬ HasRisen err.faults err_after.faults → Appends err.bytes err_after.bytes (line_of report.cause)) →
     AppendsFront err.bytes err_after.bytes (line_of report.cause) →
@@ -49,7 +48,7 @@ job_headline program seed fuel text report out out_after err err_after status ra
 }
   where
     meant : Decides report.status → EndsAsMeant (Runs program seed fuel text) report.cause out.bytes out_after.bytes
-    meant decides = record { printed = (meaning program seed fuel text).printed; given = ((exact decides).0, refl); written = (exact decides).1 }
+    meant decides = record { printed = (meant_with program seed fuel text).printed; given = ((exact decides).0, refl); written = (exact decides).1 }
 
     unwritten : (report.status ≡ 1) ⊎ (report.status ≡ 8) → out_after.bytes ≡ out.bytes
     unwritten (inl e) = absurd (ran.0 e)

@@ -9,7 +9,8 @@ use Rattle.cbl_io.specs.Held.{Held}
 use Rattle.checked_tree.specs.Tasks.{Whole}
 use Rattle.comet_front.specs.Reading.{HasProgram, IsIllFormed, IsIllTyped}
 use Rattle.comet_meaning.specs.Limits.{most_data}
-use Rattle.comet_meaning.specs.Program.{meaning}
+use Rattle.comet_meaning.specs.Program.{Meant, run}
+use Rattle.comet_meaning.specs.State.{State, first_state}
 use Rattle.comet_syntax.specs.Place.{first_place}
 use Rattle.comet_syntax.specs.declared.stop.FormCause.{FormCause}
 use Rattle.comet_syntax.specs.declared.stop.FormCause.TheVariants.{NotBuilt}
@@ -25,9 +26,17 @@ abbrev pub data_of : Option (List ℕ) → Held → Option (List ℕ)
 data_of None held = Some []
 data_of (Some name) held = option_map (take (most_data + 1)) (map.get held name)
 
+-- the state at the start of a run with this seed, this fuel and this data
+unfoldable pub start_with : ℕ → ℕ → List ℕ → State
+start_with seed fuel text = first_state seed fuel text
+
+-- what a program does from there: its meaning with this seed, this fuel and this data
+abbrev pub meant_with : Whole → ℕ → ℕ → List ℕ → Meant
+meant_with program seed fuel text = run program (start_with seed fuel text)
+
 -- what a program gives with this seed, this fuel and this data
 abbrev pub Runs : Whole → ℕ → ℕ → List ℕ → Cause → List ℕ → Type 0
-Runs program seed fuel text cause printed = (cause ≡ cause_of (meaning program seed fuel text).end) × (printed ≡ (meaning program seed fuel text).printed)
+Runs program seed fuel text cause printed = (cause ≡ cause_of (meant_with program seed fuel text).end) × (printed ≡ (meant_with program seed fuel text).printed)
 
 -- the same, where the data may not be there
 abbrev pub RunsWith : Whole → ℕ → ℕ → Option (List ℕ) → Cause → List ℕ → Type 0
