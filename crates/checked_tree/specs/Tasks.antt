@@ -60,8 +60,8 @@ act_layer (acts.For c t x b) = counting (option_map counter_of c) (option_map se
 act_layer (acts.ForAll gs c b) = for_all (map shape_of_generator gs.items) (option_map seen c) b.value
 act_layer (acts.Select gs c b) = selecting (map shape_of_generator gs.items) (option_map seen c) b.value
 act_layer (acts.SelectBy x gs c k b) = selecting_by x (map shape_of_generator gs.items) (option_map seen c) (seen k) b.value
-act_layer (acts.Neighbor k s b) = submitting (seen k) s b.value
-act_layer (acts.Whenever v ns b) = watching (seen v) ns b.value
+act_layer (acts.Neighbor k s b) = submitting (seen k) s b.value.value
+act_layer (acts.Whenever v ns b) = watching (seen v) ns b.value.value
 act_layer (acts.With m s b) = at_once m s b.value
 act_layer (acts.Parall s d b) = in_threads s (seen d) b.value
 

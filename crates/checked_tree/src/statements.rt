@@ -3,6 +3,7 @@ use crate::expressions::{Generator, Slot, Typed};
 use crate::kind::Kind;
 use cbl_base::{Place, Text};
 use comet_syntax::tree::{Extreme, Step, WithMode, WriteOperator};
+use std::sync::Arc;
 
 /// How the cells of what is declared get their first values.
 #[derive(Clone, Copy)]
@@ -119,6 +120,9 @@ pub struct Task {
     pub act: Act,
 }
 
+/// A statement that runs later. Who keeps it for then has it, too, so it isn't copied.
+pub type Later = Arc<Box<Task>>;
+
 /// What a statement does.
 #[cycle(task)]
 #[derive(Drop)]
@@ -164,12 +168,12 @@ pub enum Act {
     Neighbor {
         key: Typed,
         selector: Slot,
-        body: Box<Task>,
+        body: Later,
     },
     Whenever {
         variable: Typed,
         names: Option<EventSlots>,
-        body: Box<Task>,
+        body: Later,
     },
     With {
         mode: WithMode,

@@ -5,12 +5,11 @@ use Rattle.cbl_io.specs.Appended.{Appends, AppendsFront}
 use Rattle.cbl_io.specs.Faults.{HasRisen}
 use Rattle.cbl_io.specs.Held.{Held}
 use Rattle.checked_tree.specs.Tasks.{Whole}
-use Rattle.comet_meaning.specs.Program.{meaning}
 use Rattle.comet_words.specs.Asked.{asked}
 use Rattle.comet.specs.Headline.{Taken, RunHeadline, JobHeadline, IsCalm}
 use Rattle.comet.specs.Line.{line_of}
 use Rattle.comet.specs.Loading.{IsJob, IsFrontStop}
-use Rattle.comet.specs.Output.{Runs, RunOutput, Decides, EndsAsMeant}
+use Rattle.comet.specs.Output.{Runs, RunOutput, Decides, EndsAsMeant, meant_with}
 use Rattle.comet.specs.Status.{status_of, cause_of}
 use Rattle.comet.specs.declared.report.Cause.{Cause}
 use Rattle.comet.specs.declared.report.Cause.TheVariants as causes
@@ -26,16 +25,16 @@ ends_or_wants status {E} {Risen} read write risen decided =
       | inr ends ↦ inr (decided (ends.1, read, λ is_write. risen (write is_write)))
     ]
 
-pub job_headline : (program : Whole) (fuel : ℕ) (text : List ℕ) (report : Report) (out out_after err err_after : Taken) →
+pub job_headline : (program : Whole) (seed fuel : ℕ) (text : List ℕ) (report : Report) (out out_after err err_after : Taken) →
     report.status ≡ status_of report.cause →
     (report.status ≢ 1) × (report.status ≢ 8) →
-    (Decides report.status → (report.cause ≡ cause_of (meaning program fuel text).end) × Appends out.bytes out_after.bytes (meaning program fuel text).printed) →
-    AppendsFront out.bytes out_after.bytes (meaning program fuel text).printed →
+    (Decides report.status → (report.cause ≡ cause_of (meant_with program seed fuel text).end) × Appends out.bytes out_after.bytes (meant_with program seed fuel text).printed) →
+    AppendsFront out.bytes out_after.bytes (meant_with program seed fuel text).printed →
     (report.status ≡ 9 → HasRisen out.faults out_after.faults) →
     (¬ HasRisen err.faults err_after.faults → Appends err.bytes err_after.bytes (line_of report.cause)) →
     AppendsFront err.bytes err_after.bytes (line_of report.cause) →
-    JobHeadline program fuel text report out out_after err err_after
-job_headline program fuel text report out out_after err err_after status ran exact front write said said_front = record {
+    JobHeadline program seed fuel text report out out_after err err_after
+job_headline program seed fuel text report out out_after err err_after status ran exact front write said said_front = record {
   status = status;
   words = (λ e. ran.0 e, λ e. absurd e);
   unwritten = λ e. unwritten e;
@@ -48,31 +47,31 @@ job_headline program fuel text report out out_after err err_after status ran exa
   said_front = said_front;
 }
   where
-    meant : Decides report.status → EndsAsMeant (Runs program fuel text) report.cause out.bytes out_after.bytes
-    meant decides = record { printed = (meaning program fuel text).printed; given = ((exact decides).0, refl); written = (exact decides).1 }
+    meant : Decides report.status → EndsAsMeant (Runs program seed fuel text) report.cause out.bytes out_after.bytes
+    meant decides = record { printed = (meant_with program seed fuel text).printed; given = ((exact decides).0, refl); written = (exact decides).1 }
 
     unwritten : (report.status ≡ 1) ⊎ (report.status ≡ 8) → out_after.bytes ≡ out.bytes
     unwritten (inl e) = absurd (ran.0 e)
     unwritten (inr e) = absurd (ran.1 e)
 
 -- a run of the job that the words ask for
-meant_by_words : (words : List (List ℕ)) (held : Held) (program : Whole) (fuel : ℕ) (text : List ℕ) (cause : Cause) (old new : Option (List ℕ)) → IsJob words held program fuel text →
-    EndsAsMeant (Runs program fuel text) cause old new → EndsAsMeant (RunOutput words held) cause old new
-meant_by_words words held program fuel text cause old new job m = record {
+meant_by_words : (words : List (List ℕ)) (held : Held) (program : Whole) (seed fuel : ℕ) (text : List ℕ) (cause : Cause) (old new : Option (List ℕ)) → IsJob words held program seed fuel text →
+    EndsAsMeant (Runs program seed fuel text) cause old new → EndsAsMeant (RunOutput words held) cause old new
+meant_by_words words held program seed fuel text cause old new job m = record {
   printed = m.printed;
-  given = job_gives words held program fuel text cause m.printed job m.given;
+  given = job_gives words held program seed fuel text cause m.printed job m.given;
   written = m.written;
 }
 
-pub from_job : (words : List (List ℕ)) (told : Option Held) (old new : List ℕ → ℕ) (program : Whole) (fuel : ℕ) (text : List ℕ) (report : Report) (out out_after err err_after : Taken) →
-    ((held : Held) → told ≡ Some held → IsJob words held program fuel text) → asked words ≢ None →
-    JobHeadline program fuel text report out out_after err err_after → RunHeadline words told old new report out out_after err err_after
-from_job words told old new program fuel text report out out_after err err_after job in_form h = record {
+pub from_job : (words : List (List ℕ)) (told : Option Held) (old new : List ℕ → ℕ) (program : Whole) (seed fuel : ℕ) (text : List ℕ) (report : Report) (out out_after err err_after : Taken) →
+    ((held : Held) → told ≡ Some held → IsJob words held program seed fuel text) → asked words ≢ None →
+    JobHeadline program seed fuel text report out out_after err err_after → RunHeadline words told old new report out out_after err err_after
+from_job words told old new program seed fuel text report out out_after err err_after job in_form h = record {
   status = h.status;
   words = (λ e. absurd (h.words.0 e), λ e. absurd (in_form e));
   unwritten = h.unwritten;
-  exact = λ held is_told decides. meant_by_words words held program fuel text _ _ _ (job held is_told) (h.exact tt refl decides);
-  front = λ held is_told cause printed given. h.front tt refl cause printed (job_only words held program fuel text cause printed (job held is_told) given);
+  exact = λ held is_told decides. meant_by_words words held program seed fuel text _ _ _ (job held is_told) (h.exact tt refl decides);
+  front = λ held is_told cause printed given. h.front tt refl cause printed (job_only words held program seed fuel text cause printed (job held is_told) given);
   read = λ role is. absurd (h.read role is);
   write = h.write;
   complete = λ held is_told calm still. or_wants held is_told (h.complete tt refl tt still);
@@ -80,10 +79,10 @@ from_job words told old new program fuel text report out out_after err err_after
   said_front = h.said_front;
 }
   where
-    or_wants : (held : Held) → told ≡ Some held → (report.status ≡ 7) ⊎ EndsAsMeant (Runs program fuel text) report.cause out.bytes out_after.bytes →
+    or_wants : (held : Held) → told ≡ Some held → (report.status ≡ 7) ⊎ EndsAsMeant (Runs program seed fuel text) report.cause out.bytes out_after.bytes →
         (report.status ≡ 7) ⊎ EndsAsMeant (RunOutput words held) report.cause out.bytes out_after.bytes
     or_wants held is_told (inl e) = inl e
-    or_wants held is_told (inr m) = inr (meant_by_words words held program fuel text _ _ _ (job held is_told) m)
+    or_wants held is_told (inr m) = inr (meant_by_words words held program seed fuel text _ _ _ (job held is_told) m)
 
 -- nothing is a front of anything
 nothing_front : (bytes : Option (List ℕ)) (printed : List ℕ) → AppendsFront bytes bytes printed

@@ -71,12 +71,12 @@ data_stops_files name data_file told old middle new program causes.Write low hol
 
 -- what the program's file gives is what the words give
 pub gives_words : (words : List (List ℕ)) (asks : Asked) (name : List ℕ) (held : Held) (cause : Cause) (printed : List ℕ) → Some asks ≡ asked words → Some name ≡ program_named asks →
-    GivesHeld (map.get held name) asks.fuel (data_of asks.data_file held) cause printed → RunOutput words held cause printed
+    GivesHeld (map.get held name) asks.seed asks.fuel (data_of asks.data_file held) cause printed → RunOutput words held cause printed
 gives_words words asks name held cause printed is_asked named given =
     subst (λ o. GivesAsked o held cause printed) is_asked (subst (λ o. GivesNamed o asks held cause printed) named given)
 
 pub words_give : (words : List (List ℕ)) (asks : Asked) (name : List ℕ) (held : Held) (cause : Cause) (printed : List ℕ) → Some asks ≡ asked words → Some name ≡ program_named asks →
-    RunOutput words held cause printed → GivesHeld (map.get held name) asks.fuel (data_of asks.data_file held) cause printed
+    RunOutput words held cause printed → GivesHeld (map.get held name) asks.seed asks.fuel (data_of asks.data_file held) cause printed
 words_give words asks name held cause printed is_asked named given =
     subst (λ o. GivesNamed o asks held cause printed) (sym named) (subst (λ o. GivesAsked o held cause printed) (sym is_asked) given)
 
@@ -98,23 +98,23 @@ blamed : (words : List (List ℕ)) (told : Option Held) (old new : List ℕ → 
     (role : FileRole) → causes.Read mine ≡ causes.Read role → IsBlamed words told old new role
 blamed words told old new mine b role e = subst (λ r. IsBlamed words told old new r) (ap (role_or mine) e) b
 
-refused_gives : (name : List ℕ) (held : Held) (fuel : ℕ) (text : Option (List ℕ)) (cause : Cause) → IsRefused name held cause → ((found : List ℕ) → IsTextStop found cause → Gives found fuel text cause []) →
-    GivesHeld (map.get held name) fuel text cause []
-refused_gives name held fuel text cause r gives = subst (λ o. GivesHeld o fuel text cause []) (sym r.found) (gives r.text r.stop)
+refused_gives : (name : List ℕ) (held : Held) (seed fuel : ℕ) (text : Option (List ℕ)) (cause : Cause) → IsRefused name held cause → ((found : List ℕ) → IsTextStop found cause → Gives found seed fuel text cause []) →
+    GivesHeld (map.get held name) seed fuel text cause []
+refused_gives name held seed fuel text cause r gives = subst (λ o. GivesHeld o seed fuel text cause []) (sym r.found) (gives r.text r.stop)
 
 pub files_stop : (words : List (List ℕ)) (told : Option Held) (old new : List ℕ → ℕ) (asks : Asked) (name : List ℕ) (cause : Cause) → Some asks ≡ asked words → Some name ≡ program_named asks →
     IsFilesStop name asks.data_file told old new cause → IsFrontStop words told old new cause
 files_stop words told old new asks name (causes.IllFormed place form) is_asked named stop = record {
   wordless = never words asks 2 is_asked (λ e. absurd cc);
   given = λ held is_told decides. gives_words words asks name held _ [] is_asked named
-      (refused_gives name held _ _ _ (stop held is_told) (λ found s. ill_formed (record { place = place; form = form; refused = s; ends = refl; prints = refl })));
+      (refused_gives name held _ _ _ _ (stop held is_told) (λ found s. ill_formed (record { place = place; form = form; refused = s; ends = refl; prints = refl })));
   read = λ role e. absurd cc;
   reads_only = λ e. absurd cc;
 }
 files_stop words told old new asks name (causes.IllTyped place code) is_asked named stop = record {
   wordless = never words asks 3 is_asked (λ e. absurd cc);
   given = λ held is_told decides. gives_words words asks name held _ [] is_asked named
-      (refused_gives name held _ _ _ (stop held is_told) (λ found s. ill_typed (record { place = place; code = code; refused = s; ends = refl; prints = refl })));
+      (refused_gives name held _ _ _ _ (stop held is_told) (λ found s. ill_typed (record { place = place; code = code; refused = s; ends = refl; prints = refl })));
   read = λ role e. absurd cc;
   reads_only = λ e. absurd cc;
 }
@@ -170,6 +170,6 @@ not_built_stop words told old new asks is_asked none = record {
 }
 
 -- what is loaded is the job that the words ask for
-pub job_of : (words : List (List ℕ)) (asks : Asked) (name : List ℕ) (held : Held) (program : Whole) (fuel : ℕ) (text : List ℕ) → Some asks ≡ asked words → Some name ≡ program_named asks →
-    fuel ≡ asks.fuel → IsLoaded name asks.data_file held program text → IsJob words held program fuel text
-job_of words asks name held program fuel text is_asked named fuel_is loaded = record { asks = asks; asked_is = sym is_asked; name = name; named = sym named; loaded = loaded; fuel_is = fuel_is }
+pub job_of : (words : List (List ℕ)) (asks : Asked) (name : List ℕ) (held : Held) (program : Whole) (seed fuel : ℕ) (text : List ℕ) → Some asks ≡ asked words → Some name ≡ program_named asks →
+    seed ≡ asks.seed → fuel ≡ asks.fuel → IsLoaded name asks.data_file held program text → IsJob words held program seed fuel text
+job_of words asks name held program seed fuel text is_asked named seed_is fuel_is loaded = record { asks = asks; asked_is = sym is_asked; name = name; named = sym named; loaded = loaded; seed_is = seed_is; fuel_is = fuel_is }

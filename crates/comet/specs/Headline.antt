@@ -84,6 +84,6 @@ abbrev pub RunHeadline : List (List ℕ) → Option Held → (List ℕ → ℕ) 
 RunHeadline words told faults faults_after =
     Headline told (RunOutput words) (asked words ≡ None) (IsBlamed words told faults faults_after) (IsCalm words faults faults_after)
 
--- the headline of a run from a program, its fuel and its data: nothing of it depends on words or files
-abbrev pub JobHeadline : Whole → ℕ → List ℕ → Report → Taken → Taken → Taken → Taken → Type 0
-JobHeadline program fuel text = Headline (Some tt) (λ (outside : Unit {0}). Runs program fuel text) ⊥ (λ role. ⊥) (Unit {0})
+-- the headline of a run from a program, its seed, its fuel and its data: nothing of it depends on words or files
+abbrev pub JobHeadline : Whole → ℕ → ℕ → List ℕ → Report → Taken → Taken → Taken → Taken → Type 0
+JobHeadline program seed fuel text = Headline (Some tt) (λ (outside : Unit {0}). Runs program seed fuel text) ⊥ (λ role. ⊥) (Unit {0})

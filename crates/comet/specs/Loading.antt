@@ -20,13 +20,14 @@ pub record IsLoaded (name : List ℕ) (data_file : Option (List ℕ)) (held : He
   pub holds : IsHeldProgram name held program
   pub data_is : data_of data_file held ≡ Some text
 
--- a job is what the words ask for: the program of the file, the fuel and the data
-pub record IsJob (words : List (List ℕ)) (held : Held) (program : Whole) (fuel : ℕ) (text : List ℕ) : Type 0 where
+-- a job is what the words ask for: the program of the file, the seed, the fuel and the data
+pub record IsJob (words : List (List ℕ)) (held : Held) (program : Whole) (seed fuel : ℕ) (text : List ℕ) : Type 0 where
   pub asks : Asked
   pub asked_is : asked words ≡ Some asks
   pub name : List ℕ
   pub named : program_named asks ≡ Some name
   pub loaded : IsLoaded name asks.data_file held program text
+  pub seed_is : seed ≡ asks.seed
   pub fuel_is : fuel ≡ asks.fuel
 
 -- why there is no job: the words aren't in form, what they ask for isn't built, or it is refused; a file can't be read; or

@@ -1,5 +1,5 @@
 -- The output of a whole run: the words ask for files, the program's text is at most one checked program, and that program's
--- meaning, with the fuel and the data that the words ask for, says what is printed and how the run ends. Every other text is
+-- meaning, with the seed, the fuel and the data that the words ask for, says what is printed and how the run ends. Every other text is
 -- refused at one place. A rule of this project.
 use Rattle.std.specs.Prelude.{◌≡◌, ◌≢◌, ◌+◌, ℕ, List, [], Option, Some, None, option_map, take}
 use Rattle.std.specs.FinMap as map
@@ -9,7 +9,8 @@ use Rattle.cbl_io.specs.Held.{Held}
 use Rattle.checked_tree.specs.Tasks.{Whole}
 use Rattle.comet_front.specs.Reading.{HasProgram, IsIllFormed, IsIllTyped}
 use Rattle.comet_meaning.specs.Limits.{most_data}
-use Rattle.comet_meaning.specs.Program.{meaning}
+use Rattle.comet_meaning.specs.Program.{Meant, run}
+use Rattle.comet_meaning.specs.State.{State, first_state}
 use Rattle.comet_syntax.specs.Place.{first_place}
 use Rattle.comet_syntax.specs.declared.stop.FormCause.{FormCause}
 use Rattle.comet_syntax.specs.declared.stop.FormCause.TheVariants.{NotBuilt}
@@ -25,20 +26,28 @@ abbrev pub data_of : Option (List ℕ) → Held → Option (List ℕ)
 data_of None held = Some []
 data_of (Some name) held = option_map (take (most_data + 1)) (map.get held name)
 
--- what a program gives with this fuel and this data
-abbrev pub Runs : Whole → ℕ → List ℕ → Cause → List ℕ → Type 0
-Runs program fuel text cause printed = (cause ≡ cause_of (meaning program fuel text).end) × (printed ≡ (meaning program fuel text).printed)
+-- the state at the start of a run with this seed, this fuel and this data
+unfoldable pub start_with : ℕ → ℕ → List ℕ → State
+start_with seed fuel text = first_state seed fuel text
+
+-- what a program does from there: its meaning with this seed, this fuel and this data
+abbrev pub meant_with : Whole → ℕ → ℕ → List ℕ → Meant
+meant_with program seed fuel text = run program (start_with seed fuel text)
+
+-- what a program gives with this seed, this fuel and this data
+abbrev pub Runs : Whole → ℕ → ℕ → List ℕ → Cause → List ℕ → Type 0
+Runs program seed fuel text cause printed = (cause ≡ cause_of (meant_with program seed fuel text).end) × (printed ≡ (meant_with program seed fuel text).printed)
 
 -- the same, where the data may not be there
-abbrev pub RunsWith : Whole → ℕ → Option (List ℕ) → Cause → List ℕ → Type 0
-RunsWith program fuel None cause printed = (cause ≡ causes.Read Data) × (printed ≡ [])
-RunsWith program fuel (Some text) cause printed = Runs program fuel text cause printed
+abbrev pub RunsWith : Whole → ℕ → ℕ → Option (List ℕ) → Cause → List ℕ → Type 0
+RunsWith program seed fuel None cause printed = (cause ≡ causes.Read Data) × (printed ≡ [])
+RunsWith program seed fuel (Some text) cause printed = Runs program seed fuel text cause printed
 
 -- what a text gives that is a checked program
-pub record Accepts (text : List ℕ) (fuel : ℕ) (data_text : Option (List ℕ)) (cause : Cause) (printed : List ℕ) : Type 0 where
+pub record Accepts (text : List ℕ) (seed fuel : ℕ) (data_text : Option (List ℕ)) (cause : Cause) (printed : List ℕ) : Type 0 where
   pub program : Whole
   pub has : HasProgram text program
-  pub runs : RunsWith program fuel data_text cause printed
+  pub runs : RunsWith program seed fuel data_text cause printed
 
 -- what a text gives that is refused
 pub record Refuses (text : List ℕ) (cause : Cause) (printed : List ℕ) : Type 0 where
@@ -56,20 +65,20 @@ pub record RefusesType (text : List ℕ) (cause : Cause) (printed : List ℕ) : 
   pub ends : cause ≡ causes.IllTyped place code
   pub prints : printed ≡ []
 
-pub data Gives (text : List ℕ) (fuel : ℕ) (data_text : Option (List ℕ)) (cause : Cause) (printed : List ℕ) : Type 0 where
-  accepted : Accepts text fuel data_text cause printed → Gives text fuel data_text cause printed
-  ill_formed : Refuses text cause printed → Gives text fuel data_text cause printed
-  ill_typed : RefusesType text cause printed → Gives text fuel data_text cause printed
+pub data Gives (text : List ℕ) (seed fuel : ℕ) (data_text : Option (List ℕ)) (cause : Cause) (printed : List ℕ) : Type 0 where
+  accepted : Accepts text seed fuel data_text cause printed → Gives text seed fuel data_text cause printed
+  ill_formed : Refuses text cause printed → Gives text seed fuel data_text cause printed
+  ill_typed : RefusesType text cause printed → Gives text seed fuel data_text cause printed
 
 -- what a program's file gives, by what it holds
-abbrev pub GivesHeld : Option (List ℕ) → ℕ → Option (List ℕ) → Cause → List ℕ → Type 0
-GivesHeld None fuel data_text cause printed = (cause ≡ causes.Read Program) × (printed ≡ [])
-GivesHeld (Some text) fuel data_text cause printed = Gives text fuel data_text cause printed
+abbrev pub GivesHeld : Option (List ℕ) → ℕ → ℕ → Option (List ℕ) → Cause → List ℕ → Type 0
+GivesHeld None seed fuel data_text cause printed = (cause ≡ causes.Read Program) × (printed ≡ [])
+GivesHeld (Some text) seed fuel data_text cause printed = Gives text seed fuel data_text cause printed
 
 -- what words give, by the program's file, where all that they ask for is built
 abbrev pub GivesNamed : Option (List ℕ) → Asked → Held → Cause → List ℕ → Type 0
 GivesNamed None asks held cause printed = (cause ≡ causes.IllFormed first_place NotBuilt) × (printed ≡ [])
-GivesNamed (Some name) asks held cause printed = GivesHeld (map.get held name) asks.fuel (data_of asks.data_file held) cause printed
+GivesNamed (Some name) asks held cause printed = GivesHeld (map.get held name) asks.seed asks.fuel (data_of asks.data_file held) cause printed
 
 -- what words give, by what they ask for, where they are in form
 abbrev pub GivesAsked : Option Asked → Held → Cause → List ℕ → Type 0

@@ -16,10 +16,11 @@ use comet_syntax::FormCause;
 use comet_words::{Source, Words, read_words};
 use std::alloc::Global;
 
-/// A program that is to run, the fuel that it may spend, and the data that it may read.
+/// A program that is to run, the seed of its draws, the fuel that it may spend, and the data that it may read.
 #[derive(Drop)]
 pub struct Job {
     pub(crate) program: Checked,
+    pub(crate) seed: u64,
     pub(crate) fuel: u64,
     pub(crate) data: Vec<u8>,
 }
@@ -33,12 +34,12 @@ impl Job {
     }
 }
 
-/// What the words ask for: the checked program of the file that they name, with the fuel, and with the data of the other
-/// file. `Words` exactly where they aren't in form; `IllFormed` and `IllTyped` exactly where the program is refused, or the
+/// What the words ask for: the checked program of the file that they name, with the seed, the fuel, and the data of the
+/// other file. `Words` exactly where they aren't in form; `IllFormed` and `IllTyped` exactly where the program is refused, or the
 /// words ask for what isn't built; `Read` only where reading a named file failed, and the data's only where the program isn't
-/// refused; `NoMemory` where there was none. The seed and the number of workers have no effect.
+/// refused; `NoMemory` where there was none. The number of workers has no effect.
 pub fn front<F: Files>(alloc: Global, words: &[String], files: &mut F) -> Result<Job, Cause>
-    ensures job { IfOk result (λ job. (held : Held) → F.held files.old ≡ Some held → IsJob (texts words.now) held (program_of job.program) job.fuel job.data.items) }
+    ensures job { IfOk result (λ job. (held : Held) → F.held files.old ≡ Some held → IsJob (texts words.now) held (program_of job.program) job.seed job.fuel job.data.items) }
     ensures in_form { IfOk result (λ _. asked (texts words.now) ≢ None) }
     ensures refused { IfErr result (IsFrontStop (texts words.now) (F.held files.old) (F.faults files.old) (F.faults files.new)) }
 {
@@ -49,7 +50,7 @@ pub fn front<F: Files>(alloc: Global, words: &[String], files: &mut F) -> Result
         let place = Place { line: 1, col: 1 };
         return Err(Cause::IllFormed(place, FormCause::NotBuilt));
     };
-    load(alloc, files, name, words.fuel, words.data)
+    load(alloc, files, name, words.seed, words.fuel, words.data)
 }
 
 /// The program's file, where nothing is asked for that isn't built.
@@ -65,16 +66,18 @@ fn program_name(words: Words<'_>) -> Option<&str>
     }
 }
 
-/// The program of a file, with this fuel and the data of a file.
+/// The program of a file, with this seed, this fuel and the data of a file.
 fn load<F: Files>(
     alloc: Global,
     files: &mut F,
     name: &str,
+    seed: u64,
     fuel: u64,
     data_file: Option<&str>,
 ) -> Result<Job, Cause>
     ensures loaded { IfOk result (λ job. (held : Held) → F.held files.old ≡ Some held →
         IsLoaded name.now (option_map (λ file. file.now) data_file.entry) held (program_of job.program) job.data.items) }
+    ensures seed { IfOk result (λ job. job.seed ≡ seed) }
     ensures fuel { IfOk result (λ job. job.fuel ≡ fuel) }
     ensures refused { IfErr result (IsFilesStop name.now (option_map (λ file. file.now) data_file.entry) (F.held files.old) (F.faults files.old) (F.faults files.new)) }
 {
@@ -82,6 +85,7 @@ fn load<F: Files>(
     let data = load_data(alloc, files, data_file)?;
     Ok(Job {
         program,
+        seed,
         fuel,
         data,
     })

@@ -1,13 +1,13 @@
 //! The top call.
-ghost use Rattle.std.specs.Prelude.{◌≡◌, ◌≢◌};
+ghost use Rattle.std.specs.Prelude.{◌≡◌, ◌≢◌, []};
 ghost use Rattle.cbl_io.specs.Appended.{Appends, AppendsFront};
 ghost use Rattle.cbl_io.specs.Faults.{HasRisen};
 ghost use Rattle.checked_tree.specs.Tasks.{program_of};
-ghost use Rattle.comet_meaning.specs.Program.{meaning};
 ghost use Rattle.comet_words.specs.View.{texts};
+ghost use Rattle.run_state.specs.Views.{state_seen};
 ghost use Rattle.comet.specs.Headline.{JobHeadline, RunHeadline, taken};
 ghost use Rattle.comet.specs.Line.{line_of};
-ghost use Rattle.comet.specs.Output.{Decides};
+ghost use Rattle.comet.specs.Output.{Decides, meant_with, start_with};
 ghost use Rattle.comet.specs.Status.{cause_of, status_of};
 
 use crate::job::{Job, front};
@@ -41,12 +41,12 @@ pub fn comet_run<F: Files, O: Sink, E: Sink>(
 /// Runs a job, which waits for nobody, writes what it prints to `out`, and a line that tells why it ended, where it isn't
 /// done, to `err`. A fault of `err` changes nothing else.
 pub fn run_still<O: Sink, E: Sink>(alloc: Global, job: Job, out: &mut O, err: &mut E) -> Report
-    ensures headline { JobHeadline (program_of job.program) job.fuel job.data.items result
+    ensures headline { JobHeadline (program_of job.program) job.seed job.fuel job.data.items result
         (taken (O.bytes out.old) (O.faults out.old)) (taken (O.bytes out.new) (O.faults out.new))
         (taken (E.bytes err.old) (E.faults err.old)) (taken (E.bytes err.new) (E.faults err.new)) }
 {
     let text = job.data;
-    let report = run_to(alloc, &job.program, job.fuel, text, out);
+    let report = run_to(alloc, &job.program, job.seed, job.fuel, text, out);
     say(&report.cause, err);
     report
 }
@@ -62,10 +62,18 @@ fn refuse<E: Sink>(cause: Cause, err: &mut E) -> Report
     Report::of(cause)
 }
 
-/// Runs a program with this fuel and this data, and writes what it printed, whatever way it ended.
+/// The state at the start of a run with this seed, this fuel and this data.
+fn begin(alloc: Global, seed: u64, fuel: u64, text: Vec<u8>) -> State
+    ensures { state_seen result [] ≡ start_with seed fuel text.items }
+{
+    State::new(alloc, seed, fuel, text)
+}
+
+/// Runs a program with this seed, this fuel and this data, and writes what it printed, whatever way it ended.
 fn run_to<O: Sink>(
     alloc: Global,
     program: &Checked,
+    seed: u64,
     fuel: u64,
     text: Vec<u8>,
     out: &mut O,
@@ -73,15 +81,15 @@ fn run_to<O: Sink>(
     ensures status { result.status ≡ status_of result.cause }
     ensures ran { (result.status ≢ 1) × (result.status ≢ 8) }
     ensures exact { Decides result.status →
-        (result.cause ≡ cause_of (meaning (program_of program.now) fuel text.items).end)
-        × Appends (O.bytes out.old) (O.bytes out.new) (meaning (program_of program.now) fuel text.items).printed }
-    ensures front { AppendsFront (O.bytes out.old) (O.bytes out.new) (meaning (program_of program.now) fuel text.items).printed }
+        (result.cause ≡ cause_of (meant_with (program_of program.now) seed fuel text.items).end)
+        × Appends (O.bytes out.old) (O.bytes out.new) (meant_with (program_of program.now) seed fuel text.items).printed }
+    ensures front { AppendsFront (O.bytes out.old) (O.bytes out.new) (meant_with (program_of program.now) seed fuel text.items).printed }
     ensures write { result.status ≡ 9 → HasRisen (O.faults out.old) (O.faults out.new) }
 {
     let mut printed = Bytes {
         bytes: Vec::new(alloc),
     };
-    let ended = run(alloc, program, State::new(alloc, fuel, text), &mut printed);
+    let ended = run(alloc, program, begin(alloc, seed, fuel, text), &mut printed);
     let cause = Cause::from(ended.end);
     match write_all(out, printed.bytes.as_slice()) {
         Ok(()) => Report::of(cause),

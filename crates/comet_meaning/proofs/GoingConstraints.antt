@@ -1,5 +1,5 @@
 -- Constraints go onward where the parts in them do, and so does what stands in a term.
-use Rattle.std.proofs.Common.{ℤ, List, [], ◌∷◌, ◌++◌}
+use Rattle.std.proofs.Common.{List, [], ◌∷◌, ◌++◌}
 use Rattle.cbl_base.specs.declared.place.Place.{Place}
 use Rattle.term_model.specs.declared.term.Term.{Term}
 use Rattle.comet_syntax.specs.declared.tree.expressions.Aggregate.{Aggregate}

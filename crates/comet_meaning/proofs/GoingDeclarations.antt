@@ -12,13 +12,15 @@ use Rattle.comet_meaning.specs.Values.{Value}
 use Rattle.comet_meaning.specs.State.{left}
 use Rattle.comet_meaning.specs.Outcome.{Act}
 use Rattle.comet_meaning.specs.Levels.{Level}
-use Rattle.comet_meaning.specs.Declarations.{Dimension, copied_form, scalar_form, dimensions_form, put_named, cell_count, each_cell, every_cell, start_number, next_cell, listed_form, started_cells, numbers_form, array_form, make_input, made_in, made_of_term, object_form}
+use Rattle.comet_meaning.specs.Declarations.{Dimension, copied_form, scalar_form, dimensions_form, put_named, cell_count, each_cell, every_cell, start_number, next_cell, listed_form, started_cells, numbers_form, array_form, make_input, made_in, made_of_term, made_of_range, object_form}
 use Rattle.comet_meaning.specs.Models.{make_solver}
 use Rattle.comet_meaning.specs.Systems.{make_system, make_sum}
+use Rattle.comet_meaning.specs.Solutions.{make_solution}
 use Rattle.comet_meaning.specs.Onward.{GoesOn}
 use Rattle.comet_meaning.proofs.GoingOn.{onward_refl, goes_then, goes_give, goes_if, goes_unless, goes_charge, goes_put, goes_new_array, goes_each_in}
 use Rattle.comet_meaning.proofs.GoingParts.{LevelGoesOn, goes_value, goes_number, goes_bounds, goes_read_array, goes_one_term}
 use Rattle.comet_meaning.proofs.GoingSystems.{goes_make_system, goes_make_sum, goes_make_objective}
+use Rattle.comet_meaning.proofs.GoingSearch.{goes_make_selector, goes_make_solution}
 
 pub goes_copied : (l : Level) → LevelGoesOn l → (at : Place) (slot : Slot) (e : Seen) → GoesOn (copied_form l at slot e)
 unfolding copied_form
@@ -97,6 +99,11 @@ unfolding made_of_term
 goes_made_of_term l h at (e ∷ []) = goes_then (goes_one_term l h (whole e)) (λ t. goes_make_objective at t)
 goes_made_of_term l h at es = goes_give
 
+pub goes_made_of_range : (l : Level) → LevelGoesOn l → (es : List Seen) → GoesOn (made_of_range l es)
+unfolding made_of_range
+goes_made_of_range l h (e ∷ []) = goes_then (goes_value l h (whole e)) (λ v. goes_give)
+goes_made_of_range l h es = goes_give
+
 pub goes_object : (l : Level) → LevelGoesOn l → (at : Place) (slot : Slot) (k : Kind) (es : List Seen) → GoesOn (object_form l at slot k es)
 unfolding object_form
 goes_object l h at slot kinds.Solver es = goes_then goes_make_solver (λ v. goes_put slot v)
@@ -104,4 +111,7 @@ goes_object l h at slot kinds.Input es = goes_then goes_make_input (λ v. goes_p
 goes_object l h at slot kinds.System es = goes_then (goes_made_in l h (make_system at) es (goes_make_system at)) (λ v. goes_put slot v)
 goes_object l h at slot kinds.Total es = goes_then (goes_made_in l h (make_sum at) es (goes_make_sum at)) (λ v. goes_put slot v)
 goes_object l h at slot kinds.Objective es = goes_then (goes_made_of_term l h at es) (λ v. goes_put slot v)
+goes_object l h at slot kinds.Distribution es = goes_then (goes_made_of_range l h es) (λ v. goes_put slot v)
+goes_object l h at slot kinds.Selector es = goes_then goes_make_selector (λ v. goes_put slot v)
+goes_object l h at slot kinds.Solution es = goes_then (goes_made_in l h (make_solution at) es (goes_make_solution at)) (λ v. goes_put slot v)
 goes_object l h at slot k es = goes_give

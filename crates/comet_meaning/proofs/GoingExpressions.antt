@@ -23,13 +23,15 @@ use Rattle.comet_meaning.specs.Builtins.{builtin_value, builtin_form}
 use Rattle.comet_meaning.specs.Aggregates.{Element, with_element, element_form, aggregate_value, aggregate_form}
 use Rattle.comet_meaning.specs.Data.{spelled, behind_blanks, word_of, behind_word, unread, first_word, fitting, word_value, went_on, next_number}
 use Rattle.comet_meaning.specs.Posting.{weight_form, post_constraint, post_part}
-use Rattle.comet_meaning.specs.Methods.{fitting_number, put_set, method_value, object_value, asked_value, asked_values, called_form, method_form}
+use Rattle.comet_meaning.specs.Methods.{fitting_number, put_set, method_value, object_value, asked_value, asked_values, called_form, restore_form, method_form}
 use Rattle.comet_meaning.specs.Calls.{argument_form, arguments_form, own_array, own_arrays, handed, body_form, called, call_form}
 use Rattle.comet_meaning.specs.Expressions.{set_form, value_of_form, value_of_expression}
 use Rattle.comet_meaning.specs.Onward.{GoesOn}
 use Rattle.comet_meaning.proofs.GoingOn.{onward_refl, goes_then, goes_give, goes_fault, goes_if, goes_give_or, goes_unless, goes_charge, goes_at, goes_look, goes_put, goes_in_scope, goes_in_frame, goes_count_cells, goes_new_array}
 use Rattle.comet_meaning.proofs.GoingModels.{goes_close, goes_domain_of}
 use Rattle.comet_meaning.proofs.GoingSystems.{goes_value_of, goes_violations, goes_assign_delta, goes_swap_delta, goes_post}
+use Rattle.comet_meaning.proofs.GoingEvents.{goes_run_queue}
+use Rattle.comet_meaning.proofs.GoingSearch.{goes_draw, goes_has_move, goes_get_move, goes_restore}
 use Rattle.comet_meaning.proofs.GoingParts.{LevelGoesOn, goes_value, goes_number, goes_condition, goes_values, goes_one_term, goes_constraint, goes_unary, goes_chain, goes_compare, goes_range, goes_conditional, goes_list, goes_index, goes_cell, goes_count, goes_each_tuple}
 
 -- functions of the language
@@ -123,6 +125,10 @@ goes_method_value at methods.ObjectiveValue o v vs = goes_value_of at v
 goes_method_value at methods.ObjectiveEvaluation o v vs = goes_value_of at v
 goes_method_value at methods.ObjectiveAssignDelta o v vs = goes_assign_delta at v vs
 goes_method_value at methods.ObjectiveSwapDelta o v vs = goes_swap_delta at v vs
+goes_method_value at methods.Draw o v vs = goes_draw at v
+goes_method_value at methods.HasMove o v vs = goes_has_move v
+goes_method_value at methods.GetMove o v vs = goes_get_move at v
+goes_method_value at methods.Restore o v vs = goes_restore at v
 goes_method_value at m o v vs = goes_give
 
 pub goes_object_value : (l : Level) → LevelGoesOn l → (m : Method) (o : Shape) → GoesOn (object_value l m o)
@@ -161,10 +167,15 @@ goes_post_part l h at o [] = goes_give
 goes_post_part l h at o (e ∷ ws) =
     goes_then (goes_value l h o) (λ v. goes_then (goes_one_term l h e) (λ t. goes_then (goes_weight l h ws) (λ weight. goes_then (goes_charge 1 at) (λ _. goes_post at t weight v))))
 
+pub goes_restore_form : (l : Level) → LevelGoesOn l → (at : Place) (o : Shape) (es : List Shape) → GoesOn (restore_form l at o es)
+unfolding restore_form
+goes_restore_form l h at o es = goes_then (goes_called_on l h at methods.Restore o es) (λ v. goes_then (goes_run_queue l h at) (λ _. goes_give {x = v}))
+
 pub goes_method : (l : Level) → LevelGoesOn l → (at : Place) (m : Method) (o : Shape) (es : List Shape) → GoesOn (method_form l at m o es)
 unfolding method_form
 goes_method l h at methods.Post o es = goes_post_constraint l h at o es
 goes_method l h at methods.PostPart o es = goes_post_part l h at o es
+goes_method l h at methods.Restore o es = goes_restore_form l h at o es
 goes_method l h at m o es = goes_called_on l h at m o es
 
 -- calls

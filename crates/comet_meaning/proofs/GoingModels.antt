@@ -37,7 +37,7 @@ goes_moving : (k : ℕ) (moves : List (ℕ × ℤ)) (m : SolverState) (waiting :
 goes_moving k moves m None = goes_put_evaluated k _
 goes_moving k moves m (Some a) = goes_put_solver k _
 
-goes_move : (k : ℕ) (moves : List (ℕ × ℤ)) → GoesOn (move k moves)
+pub goes_move : (k : ℕ) (moves : List (ℕ × ℤ)) → GoesOn (move k moves)
 unfolding move
 goes_move k moves = goes_at (λ s. goes_moving k moves _ _)
 

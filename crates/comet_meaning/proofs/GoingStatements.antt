@@ -20,13 +20,15 @@ use Rattle.comet_meaning.specs.Outcome.{Outcome, Went, Halted, Act}
 use Rattle.comet_meaning.specs.Levels.{Code, Level, Flow, Next, Returned, Target, Nowhere, Name, Element, Moved}
 use Rattle.comet_meaning.specs.Writes.{element_of, name_target, index_target, cell_target, target_of_form, target_of_expression, old_value, write, assign_form, changed, add_form, defined_at, define_form, swapped_at, swap_form, write_form, stepped, step_form}
 use Rattle.comet_meaning.specs.Printing.{array_text, variables_text, value_text, print, shown_form, print_form}
-use Rattle.comet_meaning.specs.Loops.{tasks, then_next, tasks_form, if_form, if_else_form, end_or, turns, repeated, behind_body, turn_form, while_form, counter_form, for_form, is_next, visited, for_all_form}
+use Rattle.comet_meaning.specs.Loops.{tasks, then_next, tasks_form, if_form, if_else_form, behind_body, turn_form, while_form, counter_form, for_form, is_next, visited, for_all_form}
 use Rattle.comet_meaning.specs.Statements.{alone_form, deed_form, return_form, action_form, step_of, meaning_of_form, meaning_of_statement}
 use Rattle.comet_meaning.specs.Program.{level, meaning_of_program, meant, run}
 use Rattle.comet_meaning.specs.Onward.{IsOnward, IsFront, left_by, GoesOn}
-use Rattle.comet_meaning.proofs.GoingOn.{onward_refl, goes_then, goes_give, goes_fault, goes_if, goes_give_or, goes_charge, goes_at, goes_look, goes_put, goes_cells, goes_variables, goes_extent, goes_cell_of, goes_found_at, goes_put_number}
+use Rattle.comet_meaning.proofs.GoingOn.{goes_then, goes_give, goes_fault, goes_if, goes_give_or, goes_charge, goes_look, goes_put, goes_cells, goes_variables, goes_extent, goes_cell_of, goes_found_at, goes_put_number}
 use Rattle.comet_meaning.proofs.GoingParts.{LevelGoesOn, goes_value, goes_number, goes_truth, goes_condition, goes_one_term, goes_each_tuple, goes_read_each}
 use Rattle.comet_meaning.proofs.GoingModels.{goes_assign, goes_swap, goes_define}
+use Rattle.comet_meaning.proofs.GoingEvents.{goes_repeated, goes_noticed, goes_whenever, goes_behind_commit}
+use Rattle.comet_meaning.proofs.GoingSearch.{goes_select, goes_select_by, goes_neighbor, goes_choose}
 use Rattle.comet_meaning.proofs.GoingExpressions.{goes_expression}
 use Rattle.comet_meaning.proofs.GoingConstraints.{goes_term}
 use Rattle.comet_meaning.proofs.GoingDeclarations.{goes_scalar, goes_array, goes_object}
@@ -80,11 +82,12 @@ unfolding write
 goes_write at Nowhere v = goes_give
 goes_write at (Name slot) v = goes_put slot v
 goes_write at (Element n k) v = goes_put_number n k _
-goes_write at (Moved x) v = goes_assign at x _
+goes_write at (Moved x) v = goes_noticed x.solver (goes_assign at x _)
 
 pub goes_assigning : (l : Level) → LevelGoesOn l → (at : Place) (t e : Seen) → GoesOn (assign_form l at t e)
 unfolding assign_form
-goes_assigning l h at t e = goes_then (h.target (whole t)) (λ x. goes_then (goes_value l h (whole e)) (λ v. goes_write at x _))
+goes_assigning l h at t e =
+    goes_then (h.target (whole t)) (λ x. goes_then (goes_value l h (whole e)) (λ v. goes_then (goes_write at x _) (λ _. goes_behind_commit l h at x)))
 
 pub goes_changed : (at : Place) (t : Target) (z : ℤ) → GoesOn (changed at t z)
 goes_changed at t z = goes_then (goes_give_or at _) (λ x. goes_write at t _)
@@ -103,12 +106,13 @@ unfolding define_form
 goes_definition l h at t e = goes_then (h.target (whole t)) (λ x. goes_then (goes_one_term l h (whole e)) (λ u. goes_defined_at at x u))
 
 pub goes_swapped_at : (at : Place) (t u : Target) → GoesOn (swapped_at at t u)
-goes_swapped_at at (Moved x) (Moved y) = goes_swap at x y
+goes_swapped_at at (Moved x) (Moved y) = goes_noticed x.solver (goes_swap at x y)
 goes_swapped_at at t u = goes_give
 
 pub goes_swapping : (l : Level) → LevelGoesOn l → (at : Place) (a b : Seen) → GoesOn (swap_form l at a b)
 unfolding swap_form
-goes_swapping l h at a b = goes_then (h.target (whole a)) (λ x. goes_then (h.target (whole b)) (λ y. goes_swapped_at at x y))
+goes_swapping l h at a b =
+    goes_then (h.target (whole a)) (λ x. goes_then (h.target (whole b)) (λ y. goes_then (goes_swapped_at at x y) (λ _. goes_behind_commit l h at x)))
 
 pub goes_writing : (l : Level) → LevelGoesOn l → (at : Place) (o : WriteOperator) (t e : Seen) → GoesOn (write_form l at o t e)
 unfolding write_form
@@ -174,19 +178,6 @@ pub goes_when_else : (l : Level) → LevelGoesOn l → (e : Seen) (a b : Work) �
 unfolding if_else_form
 goes_when_else l h e a b = goes_then (goes_truth l h (whole e)) (λ t. goes_if t (h.stmt a) (h.stmt b))
 
-pub goes_end_or : {next : Act Flow} → GoesOn next → (end : Option Flow) → GoesOn (end_or next end)
-goes_end_or k None = k
-goes_end_or k (Some flow) = goes_give
-
-pub goes_turns : (at : Place) {turn : Act (Option Flow)} → GoesOn turn → (n : ℕ) → GoesOn (turns at turn n)
-unfolding turns
-goes_turns at k zero = record { from = λ s. onward_refl (left s) }
-goes_turns at k (suc n) = goes_then k (λ end. goes_end_or (goes_turns at k n) end)
-
-pub goes_repeated : (at : Place) {turn : Act (Option Flow)} → GoesOn turn → GoesOn (repeated at turn)
-unfolding repeated
-goes_repeated at k = goes_at (λ s. goes_turns at k (suc s.fuel))
-
 pub goes_behind_body : {step : Act (Unit {0})} → GoesOn step → (flow : Flow) → GoesOn (behind_body step flow)
 goes_behind_body k Next = goes_then k (λ _. goes_give)
 goes_behind_body k (Returned v) = goes_give
@@ -234,6 +225,7 @@ goes_deed l h at (deeds.writing o t e) = goes_writing l h at o t e
 goes_deed l h at (deeds.swapping a b) = goes_swapping l h at a b
 goes_deed l h at (deeds.stepping x t) = goes_stepping l h at x t
 goes_deed l h at (deeds.doing e) = goes_alone l h e
+goes_deed l h at (deeds.choosing e) = goes_choose l h e
 goes_deed l h at (deeds.printing xs) = goes_printing l h xs
 goes_deed l h at d = goes_give
 
@@ -260,6 +252,10 @@ goes_meaning_of_form l h at (works.when_else e a b) = goes_when_else l h e a b
 goes_meaning_of_form l h at (works.loop test body) = goes_while l h at test body
 goes_meaning_of_form l h at (works.counting c test step body) = goes_for l h at c test (goes_step l h at step) body
 goes_meaning_of_form l h at (works.for_all gs c body) = goes_for_all l h at gs c body
+goes_meaning_of_form l h at (works.selecting gs c body) = goes_select l h at gs c body
+goes_meaning_of_form l h at (works.selecting_by x gs c key body) = goes_select_by l h at x gs c key body
+goes_meaning_of_form l h at (works.submitting e slot body) = goes_neighbor l h e slot body
+goes_meaning_of_form l h at (works.watching x names body) = goes_whenever l h x names body
 goes_meaning_of_form l h at (works.at_once mode slot body) = goes_together l h at slot body
 goes_meaning_of_form l h at w = goes_give
 

@@ -24,6 +24,7 @@ use Rattle.comet_meaning.specs.Onward.{GoesOn}
 use Rattle.comet_meaning.proofs.GoingOn.{goes_then, goes_give, goes_if, goes_unless, goes_charge, goes_at, goes_look, goes_put, goes_new_variables}
 use Rattle.comet_meaning.proofs.GoingParts.{LevelGoesOn, goes_value, goes_number, goes_bounds, goes_one_term, goes_read_array}
 use Rattle.comet_meaning.proofs.GoingModels.{goes_put_solver, goes_put_evaluated, goes_defining}
+use Rattle.comet_meaning.proofs.GoingEvents.{goes_noticed, goes_run_queue}
 use Rattle.comet_meaning.proofs.GoingDeclarations.{goes_dimensions, goes_every_cell}
 
 pub goes_domain : (l : Level) → LevelGoesOn l → (d : Option Seen) → GoesOn (domain_form l d)
@@ -112,14 +113,16 @@ pub goes_commit_waiting : (k : ℕ) → GoesOn (commit_waiting k)
 unfolding commit_waiting
 goes_commit_waiting k = goes_at (λ s. goes_committed k (solver_at s k) _)
 
-pub goes_outermost : (l : Level) → LevelGoesOn l → (k : ℕ) (body : Work) (m : SolverState) → GoesOn (outermost l k body m)
+pub goes_outermost : (l : Level) → LevelGoesOn l → (at : Place) (k : ℕ) (body : Work) (m : SolverState) → GoesOn (outermost l at k body m)
 unfolding outermost
-goes_outermost l h k body m = goes_then (goes_put_solver k _) (λ _. goes_then (h.stmt body) (λ flow. goes_then (goes_commit_waiting k) (λ _. goes_give {x = flow})))
+goes_outermost l h at k body m =
+    goes_then (goes_put_solver k _) (λ _. goes_then (h.stmt body) (λ flow.
+    goes_then (goes_noticed k (goes_commit_waiting k)) (λ _. goes_then (goes_run_queue l h at) (λ _. goes_give {x = flow}))))
 
 goes_within_solver : (l : Level) → LevelGoesOn l → (at : Place) (k : ℕ) (body : Work) (m : SolverState) → GoesOn (within_solver l at k body m)
 unfolding within_solver
 goes_within_solver l h at k body m =
-    goes_then (goes_unless m.closed at NotClosed) (λ _. goes_if (is_some m.waiting) (h.stmt body) (goes_outermost l h k body m))
+    goes_then (goes_unless m.closed at NotClosed) (λ _. goes_if (is_some m.waiting) (h.stmt body) (goes_outermost l h at k body m))
 
 goes_together_in : (l : Level) → LevelGoesOn l → (at : Place) (k : ℕ) (body : Work) → GoesOn (together_in l at k body)
 goes_together_in l h at k body = goes_at (λ s. goes_within_solver l h at k body _)

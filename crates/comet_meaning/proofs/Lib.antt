@@ -2,6 +2,8 @@ pub mod GoingOn
 pub mod GoingParts
 pub mod GoingModels
 pub mod GoingSystems
+pub mod GoingEvents
+pub mod GoingSearch
 pub mod GoingExpressions
 pub mod GoingTerms
 pub mod GoingConstraints
@@ -14,8 +16,12 @@ pub mod SpendingForms
 pub mod SpendingTerms
 pub mod SpendingConstraints
 pub mod SpendingPrograms
+pub mod SpendingSelection
 pub mod Computing
 pub mod Turns
+pub mod QueueTurns
+pub mod ChangeLaws
+pub mod WordLaws
 pub mod Endings
 pub mod Tuples
 pub mod TupleSteps

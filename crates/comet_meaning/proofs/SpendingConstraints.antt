@@ -1,5 +1,5 @@
 -- Pure constraints only spend fuel where the pure parts in them do, and so does what stands in a term.
-use Rattle.std.proofs.Common.{◌≡◌, ℤ, Bool, true, ◌&&◌, List, [], ◌∷◌, ◌++◌}
+use Rattle.std.proofs.Common.{◌≡◌, Bool, true, ◌&&◌, List, [], ◌∷◌, ◌++◌}
 use Rattle.cbl_base.specs.declared.place.Place.{Place}
 use Rattle.term_model.specs.declared.term.Term.{Term}
 use Rattle.comet_syntax.specs.declared.tree.expressions.Aggregate.{Aggregate}

@@ -1,5 +1,5 @@
 -- Pure expressions only spend fuel where the pure parts in them do.
-use Rattle.std.proofs.Common.{◌≡◌, refl, sym, ℕ, ◌-◌, nat_lt, ℤ, pos, Bool, true, false, not, ◌&&◌, List, [], ◌∷◌, ◌++◌, Option, Some, None, slice_get, slice_index_or, subst}
+use Rattle.std.proofs.Common.{◌≡◌, refl, sym, ℕ, ◌-◌, nat_lt, ℤ, pos, Bool, true, false, not, ◌&&◌, List, [], ◌∷◌, ◌++◌, Option, Some, None, is_some, slice_get, slice_index_or, subst}
 use Rattle.cbl_base.specs.declared.place.Place.{Place}
 use Rattle.comet_syntax.specs.declared.tree.expressions.ChainOperator.{ChainOperator}
 use Rattle.comet_syntax.specs.declared.tree.expressions.ChainOperator.TheVariants as chains
@@ -22,11 +22,13 @@ use Rattle.checked_tree.specs.Actions as deeds
 use Rattle.checked_tree.specs.Tasks as works
 use Rattle.checked_tree.specs.Tasks.{Work, Coded}
 use Rattle.type_rules.specs.Rows.{method_row}
-use Rattle.comet_meaning.specs.Values.{Value, Range, Variable, Variables, bounds_of, size_of}
+use Rattle.comet_meaning.specs.Values.{Value, Range, Variable, Variables, Selector, Move, bounds_of, size_of}
 use Rattle.cbl_base.specs.declared.ids.VarId.{VarId}
 use Rattle.cbl_base.specs.declared.faults.RunFault.TheVariants.{WrongSolver}
 use Rattle.comet_meaning.specs.Solvers.{SolverState, has_variable}
-use Rattle.comet_meaning.specs.Outcome.{Act, always}
+use Rattle.comet_meaning.specs.Moves.{kept_in, has_move, get_move}
+use Rattle.cbl_base.specs.declared.faults.RunFault.TheVariants as faults
+use Rattle.comet_meaning.specs.Outcome.{Act, ◌>>=◌, give, unless, always}
 use Rattle.comet_meaning.specs.Cells.{put}
 use Rattle.comet_meaning.specs.Levels.{Code, Level}
 use Rattle.comet_meaning.specs.Parts.{items, solver_at, needs_close, variable_value, read, value, number, truth, condition, values}
@@ -216,12 +218,12 @@ binds_local : (slot : Slot) (v : Value) → is_local slot ≡ true → OnlyBinds
 binds_local (Local i) v p = binds_put i v
 binds_local (Global i) v p = (let no : false ≡ true = p in absurd cc)
 
-binds_bind : (known : List Bound) → AllLocal known → OnlyBinds (bind known)
+pub binds_bind : (known : List Bound) → AllLocal known → OnlyBinds (bind known)
 unfolding bind
 binds_bind [] p = binds spends_give
 binds_bind (b ∷ bs) p = binds_then (binds_local b.slot _ p.0) (λ _. binds_bind bs p.1)
 
-binds_generated : {A : Type 0} (at : Place) (known : List Bound) {next : Act A} → AllLocal known → OnlyBinds next → OnlyBinds (generated at known next)
+pub binds_generated : {A : Type 0} (at : Place) (known : List Bound) {next : Act A} → AllLocal known → OnlyBinds next → OnlyBinds (generated at known next)
 unfolding generated
 binds_generated at known p k = binds_then (binds (spends_charge 1 at)) (λ _. binds_then (binds_bind known p) (λ _. k))
 
@@ -278,6 +280,16 @@ unfolding domain_of
 spends_domain_of at (Variable x) = spends_at {f = λ s. domain_at at x (solver_at s x.solver)} (λ o s. refl) (λ s. spends_domain_at at x _)
 spends_domain_of at v = spends_give
 
+spends_has_move : (v : Value) → OnlySpends (has_move v)
+unfolding has_move
+spends_has_move (Selector n) = record { from = λ s. refl; inside = λ o s. refl }
+spends_has_move v = spends_give
+
+spends_get_move : (at : Place) (v : Value) → OnlySpends (get_move at v)
+unfolding get_move
+spends_get_move at (Selector n) = spends_at {f = λ s. unless (is_some (kept_in s n)) at faults.NoMove >>= λ _. give (Move n)} (λ o s. refl) (λ s. spends_then (spends_unless _ at faults.NoMove) (λ _. spends_give {x = Move n}))
+spends_get_move at v = spends_give
+
 spends_method_value : (at : Place) (m : Method) (o : Shape) (v : Value) (vs : List Value) → not (method_row m).impure ≡ true → OnlySpends (method_value at m o v vs)
 unfolding method_value
 spends_method_value at methods.Low o v vs p = spends_give
@@ -298,6 +310,10 @@ spends_method_value at methods.ObjectiveValue o v vs p = spends_value_of at v
 spends_method_value at methods.ObjectiveEvaluation o v vs p = spends_value_of at v
 spends_method_value at methods.ObjectiveAssignDelta o v vs p = spends_assign_delta at v vs
 spends_method_value at methods.ObjectiveSwapDelta o v vs p = spends_swap_delta at v vs
+spends_method_value at methods.Draw o v vs p = impure methods.Draw p refl
+spends_method_value at methods.HasMove o v vs p = spends_has_move v
+spends_method_value at methods.GetMove o v vs p = spends_get_move at v
+spends_method_value at methods.Restore o v vs p = impure methods.Restore p refl
 spends_method_value at m o v vs p = spends_give
 
 spends_object_value : (k : List Bool) (l : Level) → LevelSpends k l → (m : Method) (o : Shape) → is_pure k o ≡ true → OnlySpends (object_value l m o)
@@ -323,6 +339,7 @@ spends_method : (k : List Bool) (l : Level) → LevelSpends k l → (at : Place)
 unfolding method_form
 spends_method k l h at methods.Post o es p q r = impure methods.Post p refl
 spends_method k l h at methods.PostPart o es p q r = impure methods.PostPart p refl
+spends_method k l h at methods.Restore o es p q r = impure methods.Restore p refl
 spends_method k l h at m o es p q r = spends_called_on k l h at m o es p q r
 
 -- calls

@@ -1,5 +1,5 @@
 -- Questions about systems and objectives change nothing.
-use Rattle.std.proofs.Common.{refl, ℕ, ℤ, Bool, ◌&&◌, List, [], ◌∷◌, Result, Ok, Err}
+use Rattle.std.proofs.Common.{refl, ℕ, ℤ, ◌&&◌, List, [], ◌∷◌, Result, Ok, Err}
 use Rattle.std.specs.List.{list_all}
 use Rattle.cbl_base.specs.declared.ids.VarId.{VarId}
 use Rattle.cbl_base.specs.declared.place.Place.{Place}

@@ -39,24 +39,43 @@ unfolding turn_form
 takes_turn l h at test k body =
     takes_charge at _ (λ _. goes_then (goes_condition l h test) (λ t. goes_if t (goes_then (h.stmt body) (λ flow. goes_behind_body k flow)) goes_give))
 
+-- where another turn follows, there is less fuel
+abbrev pub IsLessBefore : State → Outcome (Option Flow) → Type 0
+IsLessBefore s (Went None t) = t.fuel < s.fuel
+IsLessBefore s (Went (Some flow) t) = Unit {0}
+IsLessBefore s (Halted h t) = Unit {0}
+
+pub record TurnTakesFuel (turn : Act (Option Flow)) : Type 0 where
+  pub from : (s : State) → IsLessBefore s (turn s)
+
+pub turn_takes : {turn : Act (Option Flow)} → TakesFuel turn → TurnTakesFuel turn
+turn_takes {turn} k = record { from = λ s. before s (turn s) (k.from s) } where
+  before : (s : State) (o : Outcome (Option Flow)) → IsLess s o → IsLessBefore s o
+  before s (Went None t) h = h
+  before s (Went (Some flow) t) h = tt
+  before s (Halted e t) h = tt
+
 -- more turns than there is fuel make no difference
-turns_same : (at : Place) (turn : Act (Option Flow)) → TakesFuel turn → (n m : ℕ) (s : State) → s.fuel < n → s.fuel < m → turns at turn n s ≡ turns at turn m s
+turns_same : (at : Place) (turn : Act (Option Flow)) → TurnTakesFuel turn → (n m : ℕ) (s : State) → s.fuel < n → s.fuel < m → turns at turn n s ≡ turns at turn m s
 unfolding turns
 turns_same at turn k zero m s p q = absurd (omega arith)
 turns_same at turn k (suc n) zero s p q = absurd (omega arith)
 turns_same at turn k (suc n) (suc m) s p q = same (turn s) (k.from s) (λ t v w. turns_same at turn k n m t v w) where
-  same : (o : Outcome (Option Flow)) → IsLess s o → ((t : State) → t.fuel < n → t.fuel < m → turns at turn n t ≡ turns at turn m t) → then_do o (λ end. end_or (turns at turn n) end) ≡ then_do o (λ end. end_or (turns at turn m) end)
+  same : (o : Outcome (Option Flow)) → IsLessBefore s o → ((t : State) → t.fuel < n → t.fuel < m → turns at turn n t ≡ turns at turn m t) → then_do o (λ end. end_or (turns at turn n) end) ≡ then_do o (λ end. end_or (turns at turn m) end)
   same (Went None t) h again = again t (omega arith) (omega arith)
   same (Went (Some flow) t) h again = refl
   same (Halted e t) h again = refl
 
-pub repeated_again : (at : Place) (turn : Act (Option Flow)) → TakesFuel turn → (s : State) → repeated at turn s ≡ then_do (turn s) (end_or (repeated at turn))
+pub repeats_again : (at : Place) (turn : Act (Option Flow)) → TurnTakesFuel turn → (s : State) → repeated at turn s ≡ then_do (turn s) (end_or (repeated at turn))
 unfolding repeated turns
-repeated_again at turn k s = same (turn s) (k.from s) where
-  same : (o : Outcome (Option Flow)) → IsLess s o → then_do o (λ end. end_or (turns at turn s.fuel) end) ≡ then_do o (end_or (repeated at turn))
+repeats_again at turn k s = same (turn s) (k.from s) where
+  same : (o : Outcome (Option Flow)) → IsLessBefore s o → then_do o (λ end. end_or (turns at turn s.fuel) end) ≡ then_do o (end_or (repeated at turn))
   same (Went None t) h = turns_same at turn k s.fuel (suc t.fuel) t (omega arith) (omega arith)
   same (Went (Some flow) t) h = refl
   same (Halted e t) h = refl
+
+pub repeated_again : (at : Place) (turn : Act (Option Flow)) → TakesFuel turn → (s : State) → repeated at turn s ≡ then_do (turn s) (end_or (repeated at turn))
+repeated_again at turn k s = repeats_again at turn (turn_takes k) s
 
 pub while_again : (functions : List Coded) (room : ℕ) (at : Place) (test : Seen) (body : Work) (s : State) → while_form (level (code_of functions) room) at test body s ≡ then_do (turn_form (level (code_of functions) room) at (whole test) (give tt) body s) (end_or (while_form (level (code_of functions) room) at test body))
 unfolding while_form

@@ -1,6 +1,6 @@
--- The forms that run by now. A checked program that holds any other one is refused before it runs: selectors and moves;
--- events; a user's constraint; distributions, solutions and monitors, as declarations or as parameters; and `parall`. What
--- such an object is asked stands only where there is one. A rule of this project.
+-- The forms that run by now. A checked program that holds any other one is refused before it runs: a user's constraint;
+-- monitors, as declarations or as parameters; and `parall`. What a monitor is asked stands only where there is one. A rule
+-- of this project.
 use Rattle.std.specs.Prelude.{Bool, true, false, ◌&&◌, List, Option, Some, None}
 use Rattle.std.specs.List.{list_all}
 use Rattle.checked_tree.specs.declared.kind.Kind.{Kind}
@@ -39,6 +39,10 @@ is_built_method methods.ObjectiveSwapDelta = true
 is_built_method methods.ObjectiveValue = true
 is_built_method methods.ObjectiveEvaluation = true
 is_built_method methods.PostPart = true
+is_built_method methods.Draw = true
+is_built_method methods.HasMove = true
+is_built_method methods.GetMove = true
+is_built_method methods.Restore = true
 is_built_method m = false
 
 abbrev pub is_built_builtin : Builtin → Bool
@@ -91,6 +95,9 @@ is_built_object kinds.Solver = true
 is_built_object kinds.System = true
 is_built_object kinds.Objective = true
 is_built_object kinds.Total = true
+is_built_object kinds.Distribution = true
+is_built_object kinds.Selector = true
+is_built_object kinds.Solution = true
 is_built_object k = false
 
 abbrev pub is_built_shown : Shown → Bool
@@ -107,7 +114,7 @@ is_built_deed (deeds.writing o t e) = is_built_part t && is_built_part e
 is_built_deed (deeds.swapping a b) = is_built_part a && is_built_part b
 is_built_deed (deeds.stepping x t) = is_built_part t
 is_built_deed (deeds.doing e) = is_built_part e
-is_built_deed (deeds.choosing e) = false
+is_built_deed (deeds.choosing e) = is_built_part e
 is_built_deed (deeds.printing xs) = list_all is_built_shown xs
 is_built_deed (deeds.returning e) = is_built_option is_built_part e
 
@@ -125,6 +132,11 @@ is_built_work (works.loop e body) = is_built_part e && is_built_work body
 is_built_work (works.counting c e d body) =
     is_built_option (λ x. is_built_part x.start) c && is_built_option is_built_part e && is_built_option is_built_deed d && is_built_work body
 is_built_work (works.for_all gs c body) = list_all is_built_expression gs && is_built_option is_built_part c && is_built_work body
+is_built_work (works.selecting gs c body) = list_all is_built_expression gs && is_built_option is_built_part c && is_built_work body
+is_built_work (works.selecting_by x gs c key body) =
+    list_all is_built_expression gs && is_built_option is_built_part c && is_built_part key && is_built_work body
+is_built_work (works.submitting e slot body) = is_built_part e && is_built_work body
+is_built_work (works.watching x names body) = is_built_part x && is_built_work body
 is_built_work (works.at_once mode slot body) = is_built_work body
 is_built_work w = false
 

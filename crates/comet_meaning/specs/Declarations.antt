@@ -1,6 +1,6 @@
 -- Declarations of numbers, truth values, ranges, sets, arrays of numbers and objects. An array's dimensions are
 -- evaluated first; then each cell costs a unit, and gets its first value. A system and a sum are made from a solver, and
--- an objective from a term. From the language.
+-- an objective from a term; a distribution is made from a range, and a solution from a closed solver. From the language.
 use Rattle.std.specs.Prelude.{ℕ, ◌*◌, ℤ, pos, List, [], ◌∷◌, ◌++◌, length, Option, Some, None, nat_le, nat_eq, if◌then◌else◌}
 use Rattle.cbl_base.specs.declared.place.Place.{Place}
 use Rattle.cbl_base.specs.declared.faults.Limit.TheVariants as limits
@@ -12,7 +12,7 @@ use Rattle.checked_tree.specs.declared.statements.Way.{Way}
 use Rattle.checked_tree.specs.declared.statements.Way.TheVariants as ways
 use Rattle.checked_tree.specs.Shape.{Seen, whole}
 use Rattle.checked_tree.specs.Actions.{Started, Sized}
-use Rattle.comet_meaning.specs.Values.{Value, Nothing, Number, Input, Range, Bounds, size_of, as_kind, first_value, solver_of}
+use Rattle.comet_meaning.specs.Values.{Value, Nothing, Number, Input, Range, Distribution, Bounds, size_of, as_kind, first_value, bounds_of, solver_of}
 use Rattle.comet_meaning.specs.Limits.{most_cells}
 use Rattle.comet_meaning.specs.State.{Cells}
 use Rattle.comet_meaning.specs.Outcome.{Went, Act, ◌>>=◌, give, unless, charge, each_in, always}
@@ -22,6 +22,8 @@ use Rattle.comet_meaning.specs.Parts.{value, number, bounds, term}
 use Rattle.comet_meaning.specs.Taking.{read_array}
 use Rattle.comet_meaning.specs.Models.{make_solver}
 use Rattle.comet_meaning.specs.Systems.{make_system, make_sum, make_objective}
+use Rattle.comet_meaning.specs.Moves.{make_selector}
+use Rattle.comet_meaning.specs.Solutions.{make_solution}
 
 -- names of one value
 
@@ -127,11 +129,20 @@ unfoldable pub made_of_term : Level → Place → List Seen → Act Value
 made_of_term l at (e ∷ []) = term l (whole e) >>= make_objective at
 made_of_term l at es = give Nothing
 
--- an object that is declared, or that a name is given by `new`; the statement is the place of a system and of an objective
+-- a distribution over the range that stands there
+unfoldable pub made_of_range : Level → List Seen → Act Value
+made_of_range l (e ∷ []) = value l (whole e) >>= λ v. give (Distribution (bounds_of v))
+made_of_range l es = give Nothing
+
+-- an object that is declared, or that a name is given by `new`; the statement is the place of a system, of an objective
+-- and of a solution
 unfoldable pub object_form : Level → Place → Slot → Kind → List Seen → Act (Unit {0})
 object_form l at slot kinds.Solver es = make_solver >>= put slot
 object_form l at slot kinds.Input es = make_input >>= put slot
 object_form l at slot kinds.System es = made_in l (make_system at) es >>= put slot
 object_form l at slot kinds.Total es = made_in l (make_sum at) es >>= put slot
 object_form l at slot kinds.Objective es = made_of_term l at es >>= put slot
+object_form l at slot kinds.Distribution es = made_of_range l es >>= put slot
+object_form l at slot kinds.Selector es = make_selector >>= put slot
+object_form l at slot kinds.Solution es = made_in l (make_solution at) es >>= put slot
 object_form l at slot k es = give tt

@@ -50,7 +50,7 @@ program ws = record { functions = []; tasks = ws }
 
 -- `int x = 7; x = x / -2; cout << x << " " << 7 % -2 << " " << -7 % 2 << endl;`
 
-abbrev of_two : ℕ → Seen → Shape → Seen
+abbrev pub of_two : ℕ → Seen → Shape → Seen
 of_two n a next = part n kinds.Int (shapes.chain (whole a) (rows (next ∷ [])))
 
 abbrev negative : ℕ → ℤ → Seen
@@ -134,17 +134,17 @@ with_two ws = program (
 abbrev pub closing : ℕ → Work
 closing n = statement n (deeds.doing (record { start = column n; place = column (n + 2); kind = kinds.Nothing; moving = false; form = shapes.method methods.Close (whole (use_of n kinds.Solver (Global 0))) (wholes []) }))
 
-abbrev printing_both : ℕ → Work
+abbrev pub printing_both : ℕ → Work
 printing_both n = statement n (deeds.printing (deeds.value (x_read (n + 8)) ∷ deeds.text (codes " ") ∷ deeds.value (y_read (n + 13)) ∷ deeds.end_line ∷ []))
 
-abbrev assigning : ℕ → Seen → Seen → Work
+abbrev pub assigning : ℕ → Seen → Seen → Work
 assigning n t e = statement n (deeds.writing writes.Assign t e)
 
-abbrev at_once : ℕ → List Work → Work
+abbrev pub at_once : ℕ → List Work → Work
 at_once n ws = works.task (column n) (works.at_once modes.Atomic (Global 0) (works.task (column (n + 15)) (works.block (row_of ws))))
 
 -- `x := y; y := x;`
-abbrev taking : ℕ → List Work
+abbrev pub taking : ℕ → List Work
 taking n = assigning n (x_read n) (y_read (n + 5)) ∷ assigning (n + 8) (y_read (n + 8)) (x_read (n + 13)) ∷ []
 
 -- `m.close(); with atomic(m) { x := y; y := x; } cout << x << " " << y << endl;`
@@ -246,7 +246,7 @@ handing_over = record {
 
 -- `forall(i in 1..2, j in i..2) cout << i << j << endl;`
 
-abbrev span : ℕ → Seen → Seen → Seen
+abbrev pub span : ℕ → Seen → Seen → Seen
 span n a b = record { start = column n; place = column (n + 1); kind = kinds.Range; moving = false; form = shapes.range (whole a) (whole b) }
 
 abbrev pub pairing : Whole

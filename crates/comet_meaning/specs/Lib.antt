@@ -2,6 +2,8 @@ pub mod Values
 pub mod Arithmetic
 pub mod Limits
 pub mod Solvers
+pub mod Words
+pub mod Search
 pub mod State
 pub mod Outcome
 pub mod Cells
@@ -19,6 +21,13 @@ pub mod Data
 pub mod Models
 pub mod Members
 pub mod Systems
+pub mod Draws
+pub mod Candidates
+pub mod Selection
+pub mod Changes
+pub mod Events
+pub mod Moves
+pub mod Solutions
 pub mod Posting
 pub mod Methods
 pub mod Purity
@@ -41,3 +50,4 @@ pub mod OneEnd
 pub mod Spending
 pub mod Examples
 pub mod SystemExamples
+pub mod SearchExamples

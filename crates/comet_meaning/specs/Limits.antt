@@ -1,6 +1,6 @@
 -- The limits of a run. A rule of this project.
 use Rattle.std.specs.Prelude.{ℕ}
-use Rattle.cbl_base.specs.declared.limits.TheConstants.{MAX_TERM_DEPTH, MAX_TERM_NODES, MAX_VARIABLES}
+use Rattle.cbl_base.specs.declared.limits.TheConstants.{MAX_CANDIDATES, MAX_TERM_DEPTH, MAX_TERM_NODES, MAX_VARIABLES}
 
 -- how many statements and expressions may be executed inside each other
 abbrev pub most_depth : ℕ
@@ -22,3 +22,7 @@ most_cells = 16777216
 -- how many bytes of data are read
 abbrev pub most_data : ℕ
 most_data = 16777216
+
+-- how many candidates a selector may have
+abbrev pub most_candidates : ℕ
+most_candidates = MAX_CANDIDATES

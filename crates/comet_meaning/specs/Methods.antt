@@ -1,4 +1,5 @@
 -- Methods: the object, the arguments from the left, a unit for the call at the method's name, and then what it does.
+-- `restore` is a commit: handlers run behind it.
 -- From the language.
 use Rattle.std.specs.Prelude.{ℕ, ◌-◌, ℤ, pos, Bool, List, [], ◌∷◌, ◌++◌, length, nat_lt, if◌then◌else◌}
 use Rattle.cbl_base.specs.Arithmetic.{exact}
@@ -17,6 +18,10 @@ use Rattle.comet_meaning.specs.Data.{next_number}
 use Rattle.comet_meaning.specs.Models.{close, domain_of}
 use Rattle.comet_meaning.specs.Systems.{of_whole, whole_value, violations, assign_delta, swap_delta}
 use Rattle.comet_meaning.specs.Posting.{post_constraint, post_part}
+use Rattle.comet_meaning.specs.Draws.{draw}
+use Rattle.comet_meaning.specs.Events.{run_queue}
+use Rattle.comet_meaning.specs.Moves.{has_move, get_move}
+use Rattle.comet_meaning.specs.Solutions.{restore}
 
 -- a number that an object gives must fit
 abbrev pub fitting_number : Place → ℤ → Act Value
@@ -53,6 +58,10 @@ method_value at methods.ObjectiveValue o v vs = of_whole (whole_value at) v
 method_value at methods.ObjectiveEvaluation o v vs = of_whole (whole_value at) v
 method_value at methods.ObjectiveAssignDelta o v vs = assign_delta at v vs
 method_value at methods.ObjectiveSwapDelta o v vs = swap_delta at v vs
+method_value at methods.Draw o v vs = draw at v
+method_value at methods.HasMove o v vs = has_move v
+method_value at methods.GetMove o v vs = get_move at v
+method_value at methods.Restore o v vs = restore at v
 method_value at m o v vs = give Nothing
 
 -- the object's value; of a variable whose domain is asked the variable itself
@@ -85,7 +94,14 @@ called_form l at m o es = do
   _ ← charge 1 at
   method_value at m o v vs
 
+unfoldable pub restore_form : Level → Place → Shape → List Shape → Act Value
+restore_form l at o es = do
+  v ← called_form l at methods.Restore o es
+  _ ← run_queue l at
+  give v
+
 unfoldable pub method_form : Level → Place → Method → Shape → List Shape → Act Value
 method_form l at methods.Post o es = post_constraint l at o es
 method_form l at methods.PostPart o es = post_part l at o es
+method_form l at methods.Restore o es = restore_form l at o es
 method_form l at m o es = called_form l at m o es

@@ -58,6 +58,6 @@ meaning_of_program p = tasks_form (level (code_of p.functions) most_depth) p.tas
 unfoldable pub run : Whole → State → Meant
 run p s = meant (meaning_of_program p s)
 
--- what a program does with this fuel and this data
-abbrev pub meaning : Whole → ℕ → List ℕ → Meant
-meaning p fuel text = run p (first_state fuel text)
+-- what a program does with this seed, this fuel and this data
+abbrev pub meaning : Whole → ℕ → ℕ → List ℕ → Meant
+meaning p seed fuel text = run p (first_state seed fuel text)

@@ -14,6 +14,9 @@ use Rattle.comet_meaning.specs.Declarations.{scalar_form, array_form, object_for
 use Rattle.comet_meaning.specs.Variables.{variable_form}
 use Rattle.comet_meaning.specs.Blocks.{together_form}
 use Rattle.comet_meaning.specs.Printing.{print_form}
+use Rattle.comet_meaning.specs.Selection.{select_form, select_by_form}
+use Rattle.comet_meaning.specs.Moves.{neighbor_form, choose_form}
+use Rattle.comet_meaning.specs.Events.{whenever_form}
 use Rattle.comet_meaning.specs.Loops.{tasks, tasks_form, if_form, if_else_form, while_form, for_form, for_all_form}
 
 -- a statement that is an expression: its value is read and dropped
@@ -31,6 +34,7 @@ deed_form l at (deeds.writing o t e) = write_form l at o t e
 deed_form l at (deeds.swapping a b) = swap_form l at a b
 deed_form l at (deeds.stepping x t) = step_form l at x t
 deed_form l at (deeds.doing e) = alone_form l e
+deed_form l at (deeds.choosing e) = choose_form l e
 deed_form l at (deeds.printing xs) = print_form l xs
 deed_form l at d = give tt
 
@@ -57,6 +61,10 @@ meaning_of_form l at (works.when_else e a b) = if_else_form l e a b
 meaning_of_form l at (works.loop test body) = while_form l at test body
 meaning_of_form l at (works.counting c test step body) = for_form l at c test (step_of l at step) body
 meaning_of_form l at (works.for_all gs c body) = for_all_form l at gs c body
+meaning_of_form l at (works.selecting gs c body) = select_form l at gs c body
+meaning_of_form l at (works.selecting_by x gs c key body) = select_by_form l at x gs c key body
+meaning_of_form l at (works.submitting e slot body) = neighbor_form l e slot body
+meaning_of_form l at (works.watching x names body) = whenever_form l x names body
 meaning_of_form l at (works.at_once mode slot body) = together_form l at slot body
 meaning_of_form l at w = give Next
 

@@ -37,6 +37,11 @@ pub data Value : Type 0 where
   System : ℕ → ℕ → Value
   Objective : ℕ → ℕ → Value
   Input : ℕ → Value
+  -- a distribution over a range; a `MinNeighborSelector`, and its move, by its number; and a solution, by its number
+  Distribution : Bounds → Value
+  Selector : ℕ → Value
+  Move : ℕ → Value
+  Solution : ℕ → Value
 
 -- What is asked of a value. A checked program asks it only of a value that has it; of any other the answer is
 -- harmless, and no run of a checked program meets it.

@@ -1,5 +1,6 @@
 -- Writes: first what is written, the test of an index included, then the right side, and then the write. `+=` and its
--- like read the old value before the right side; an overflow of theirs stands at the statement. From the language.
+-- like read the old value before the right side; an overflow of theirs stands at the statement. A number that is assigned
+-- to a variable is a commit, and so is a swap: handlers run behind it. From the language.
 use Rattle.std.specs.Prelude.{ℕ, ℤ, pos, ◌+ℤ◌, ◌-ℤ◌}
 use Rattle.cbl_base.specs.Arithmetic.{exact}
 use Rattle.cbl_base.specs.declared.place.Place.{Place}
@@ -19,6 +20,8 @@ use Rattle.comet_meaning.specs.Cells.{look, put, cells, extent, cell, at_index, 
 use Rattle.comet_meaning.specs.Levels.{Level, Target, Nowhere, Name, Element, Moved}
 use Rattle.comet_meaning.specs.Parts.{value, number, term}
 use Rattle.comet_meaning.specs.Models.{assign, swap, define}
+use Rattle.comet_meaning.specs.Changes.{noticed}
+use Rattle.comet_meaning.specs.Events.{behind_commit}
 
 -- what is written
 
@@ -77,7 +80,7 @@ unfoldable pub write : Place → Target → Value → Act (Unit {0})
 write at Nowhere v = give tt
 write at (Name slot) v = put slot v
 write at (Element n k) v = put_number n k (number_of v)
-write at (Moved x) v = assign at x (number_of v)
+write at (Moved x) v = noticed x.solver (assign at x (number_of v))
 
 -- `t = e` and `t := e`
 
@@ -85,7 +88,8 @@ unfoldable pub assign_form : Level → Place → Seen → Seen → Act (Unit {0}
 assign_form l at t e = do
   target ← l.target (whole t)
   v ← value l (whole e)
-  write at target (as_kind t.kind v)
+  _ ← write at target (as_kind t.kind v)
+  behind_commit l at target
 
 -- `t += e` and `t -= e`
 
@@ -114,14 +118,15 @@ define_form l at t e = do
 -- `a :=: b`
 
 abbrev pub swapped_at : Place → Target → Target → Act (Unit {0})
-swapped_at at (Moved x) (Moved y) = swap at x y
+swapped_at at (Moved x) (Moved y) = noticed x.solver (swap at x y)
 swapped_at at target other = give tt
 
 unfoldable pub swap_form : Level → Place → Seen → Seen → Act (Unit {0})
 swap_form l at a b = do
   target ← l.target (whole a)
   other ← l.target (whole b)
-  swapped_at at target other
+  _ ← swapped_at at target other
+  behind_commit l at target
 
 unfoldable pub write_form : Level → Place → WriteOperator → Seen → Seen → Act (Unit {0})
 write_form l at writes.Set t e = assign_form l at t e

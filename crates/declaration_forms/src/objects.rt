@@ -4,6 +4,7 @@ ghost use Rattle.checked_tree.specs.Shape.{seen};
 ghost use Rattle.comet_meaning.specs.Declarations as declarations;
 ghost use Rattle.comet_meaning.specs.Declarations.{object_form};
 ghost use Rattle.comet_meaning.specs.Program.{level};
+ghost use Rattle.comet_meaning.specs.Solutions.{make_solution};
 ghost use Rattle.comet_meaning.specs.Systems.{make_sum, make_system};
 ghost use Rattle.run_steps.specs.Does.{Does};
 ghost use Rattle.run_state.specs.Views.{state_seen};
@@ -15,13 +16,14 @@ use expression_forms::expressions::value_of;
 use expression_forms::parts::single_term;
 use run_state::{Out, State};
 use run_steps::effects::{
-    input_made, objective_made, put_made, solver_made, sum_made, system_made,
+    distribution_made, input_made, objective_made, put_made, selector_made, solution_made,
+    solver_made, sum_made, system_made,
 };
 use run_steps::inside::{Defining, Within};
 use run_values::{Stop, Value};
 
-/// A name gets a new object of this kind: a system and a sum are made in the solver that stands among the arguments, and
-/// an objective of the term there. Where it is no object nothing is done.
+/// A name gets a new object of this kind: a system, a sum and a solution are made in the solver that stands among the
+/// arguments, an objective of the term there, and a distribution of the range there. Where it is no object nothing is done.
 pub fn declare_object<O: Out, W: Defining<O>>(
     s: &mut State,
     out: &mut O,
@@ -54,6 +56,18 @@ pub fn declare_object<O: Out, W: Defining<O>>(
         }
         Kind::Objective => {
             let made = new_objective(s, out, inside, at, arguments);
+            put_made(s, slot, made)
+        }
+        Kind::Distribution => {
+            let made = new_distribution(s, out, inside, arguments);
+            put_made(s, slot, made)
+        }
+        Kind::Selector => {
+            let made = selector_made(s);
+            put_made(s, slot, made)
+        }
+        Kind::Solution => {
+            let made = new_solution(s, out, inside, at, arguments);
             put_made(s, slot, made)
         }
         _ => Ok(()),
@@ -115,4 +129,41 @@ fn new_objective<O: Out, W: Defining<O>>(
     }
     let term = single_term(s, out, inside, &arguments[0]);
     objective_made(s, at, term)
+}
+
+/// A solution of the solver that stands among the arguments.
+#[tactic(auto, unfolding(comet_meaning::specs::Declarations::made_in))]
+fn new_solution<O: Out, W: Within<O>>(
+    s: &mut State,
+    out: &mut O,
+    inside: &W,
+    at: Place,
+    arguments: &[Typed],
+) -> Result<Value, Stop>
+    requires ready { W.is_ready inside.now }
+    ensures did { Does value_seen result (state_seen s.new (O.taken out.new)) (declarations.made_in (level (W.code inside.now) (W.depth inside.now)) (make_solution at) (map seen arguments.now) (state_seen s.old (O.taken out.old))) }
+{
+    if arguments.len() != 1 {
+        return Ok(Value::Nothing);
+    }
+    let solver = value_of(s, out, inside, &arguments[0]);
+    solution_made(s, at, solver)
+}
+
+/// A distribution over the range that stands among the arguments.
+#[tactic(auto, unfolding(comet_meaning::specs::Declarations::made_of_range))]
+fn new_distribution<O: Out, W: Within<O>>(
+    s: &mut State,
+    out: &mut O,
+    inside: &W,
+    arguments: &[Typed],
+) -> Result<Value, Stop>
+    requires ready { W.is_ready inside.now }
+    ensures did { Does value_seen result (state_seen s.new (O.taken out.new)) (declarations.made_of_range (level (W.code inside.now) (W.depth inside.now)) (map seen arguments.now) (state_seen s.old (O.taken out.old))) }
+{
+    if arguments.len() != 1 {
+        return Ok(Value::Nothing);
+    }
+    let range = value_of(s, out, inside, &arguments[0]);
+    distribution_made(range)
 }

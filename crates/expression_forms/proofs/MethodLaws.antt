@@ -23,12 +23,13 @@ use Rattle.run_values.specs.Views.{value_seen}
 use Rattle.run_steps.specs.Views.{part}
 use Rattle.run_steps.proofs.Forms.{map_push}
 
--- a method that posts nothing
-pub method_called : (l : Level) (at : Place) (m : Method) (o : Shape) (es : List Shape) (s : State) → (m ≡ methods.Post → ⊥) → (m ≡ methods.PostPart → ⊥) → method_form l at m o es s ≡ called_form l at m o es s
+-- a method that posts and restores nothing
+pub method_called : (l : Level) (at : Place) (m : Method) (o : Shape) (es : List Shape) (s : State) → (m ≡ methods.Post → ⊥) → (m ≡ methods.PostPart → ⊥) → (m ≡ methods.Restore → ⊥) → method_form l at m o es s ≡ called_form l at m o es s
 unfolding method_form
-method_called l at methods.Post o es s h k = absurd (h refl)
-method_called l at methods.PostPart o es s h k = absurd (k refl)
-method_called l at m o es s h k = refl
+method_called l at methods.Post o es s h k r = absurd (h refl)
+method_called l at methods.PostPart o es s h k r = absurd (k refl)
+method_called l at methods.Restore o es s h k r = absurd (r refl)
+method_called l at m o es s h k r = refl
 
 -- a method that asks no variable itself
 pub none_asked : (m : Method) → (m ≡ methods.Violations → ⊥) → (m ≡ methods.SystemAssignDelta → ⊥) → (m ≡ methods.SystemSwapDelta → ⊥) → (m ≡ methods.ObjectiveAssignDelta → ⊥) → (m ≡ methods.ObjectiveSwapDelta → ⊥) → 0 ≡ variables_asked m

@@ -1,7 +1,7 @@
 //! Calls of methods.
 ghost use Rattle.std.specs.Prelude.{◌≡◌, ℕ, List, [], map, nat_lt};
 ghost use Rattle.comet_meaning.specs.Methods as methods;
-ghost use Rattle.comet_meaning.specs.Methods.{called_form, method_form, object_value, variables_asked};
+ghost use Rattle.comet_meaning.specs.Methods.{called_form, method_form, object_value, restore_form, variables_asked};
 ghost use Rattle.comet_meaning.specs.Program.{level};
 ghost use Rattle.run_steps.specs.Does.{Does};
 ghost use Rattle.run_steps.specs.Views.{part, row};
@@ -12,13 +12,14 @@ use crate::expressions::value_of;
 use crate::posting::{post_constraint, post_part};
 use cbl_base::Place;
 use checked_tree::{Method, Typed};
+use event_forms::behind_restore;
 use run_state::{Out, State};
 use run_steps::inside::{Defining, Within};
 use run_steps::operands::call_on;
 use run_values::{Stop, Value};
 
-/// A call of a method. A constraint or a term is posted as it is, and of the arguments of any other method the values are
-/// asked.
+/// A call of a method. A constraint or a term is posted as it is, handlers run behind a `restore`, and of the arguments of
+/// any other method the values are asked.
 pub fn evaluate_method<O: Out, W: Defining<O>>(
     s: &mut State,
     out: &mut O,
@@ -35,8 +36,26 @@ pub fn evaluate_method<O: Out, W: Defining<O>>(
     match method {
         Method::Post => post_constraint(s, out, inside, at, object, arguments),
         Method::PostPart => post_part(s, out, inside, at, object, arguments),
+        Method::Restore => restore(s, out, inside, at, object, arguments),
         _ => call_method(s, out, inside, at, method, object, arguments),
     }
+}
+
+/// A `restore`, and then the handlers of what it changed.
+#[tactic(auto, unfolding(comet_meaning::specs::Methods::restore_form))]
+fn restore<O: Out, W: Within<O>>(
+    s: &mut State,
+    out: &mut O,
+    inside: &W,
+    at: Place,
+    object: &Typed,
+    arguments: &[Typed],
+) -> Result<Value, Stop>
+    requires ready { W.is_ready inside.now }
+    ensures did { Does value_seen result (state_seen s.new (O.taken out.new)) (restore_form (level (W.code inside.now) (W.depth inside.now)) at (part object.now) (row arguments.now) (state_seen s.old (O.taken out.old))) }
+{
+    let restored = call_method(s, out, inside, at, Method::Restore, object, arguments);
+    behind_restore(s, out, inside, at, restored)
 }
 
 /// The object, the arguments, a unit for the call, and then what the method does.

@@ -1,5 +1,5 @@
 -- What a call that isn't refused answers is the reply.
-use Rattle.std.proofs.Common.{◌≡◌, ℤ, List, Option, Some, None, Result, Ok, Err, refl, sym, ap, ◌∙◌, subst}
+use Rattle.std.proofs.Common.{◌≡◌, ℤ, Option, None, Result, sym, subst}
 use Rattle.cbl_base.specs.declared.faults.RunFault.{RunFault}
 use Rattle.model_values.specs.Asked.{IsAnswer}
 use Rattle.model_values.specs.declared.asked.AskStop.{AskStop}
@@ -7,7 +7,6 @@ use Rattle.solver_models.specs.Replying.{replied}
 use Rattle.solver_models.specs.State.{SolverState}
 use Rattle.ls_solver.specs.Answers.{IsReply}
 use Rattle.ls_solver.specs.declared.fault.SolverFault.{SolverFault}
-use Rattle.ls_solver.specs.declared.fault.SolverFault.TheVariants.{Run}
 
 -- the answer under what is kept is the reply in the state that is seen
 pub answered_there : (refusal : SolverState → Option RunFault) (reply : SolverState → Result ℤ AskStop) (kept s : SolverState) → kept ≡ s → refusal s ≡ None → (answer : Result ℤ AskStop) (result : Result ℤ SolverFault) →

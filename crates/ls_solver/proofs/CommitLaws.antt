@@ -1,5 +1,5 @@
 -- What a commit leaves and tells.
-use Rattle.std.proofs.Common.{◌≡◌, ℕ, ℤ, Bool, true, false, List, [], ◌∷◌, Option, Some, None, Result, Ok, Err, Vec, Global, length, refl, sym, ap, ◌∙◌, subst, true≢false}
+use Rattle.std.proofs.Common.{◌≡◌, ℕ, ℤ, Bool, true, false, List, [], None, Ok, Err, Vec, Global, length, refl, sym, ap, ◌∙◌, subst, true≢false}
 use Rattle.std.specs.Prelude.{is_ok, filter_map}
 use Rattle.std.specs.List.{range_with_len}
 use Rattle.cbl_base.specs.declared.faults.RunFault.{RunFault}
@@ -13,8 +13,7 @@ use Rattle.solver_models.specs.KeptChanges.{change_in}
 use Rattle.solver_models.specs.State.{SolverState}
 use Rattle.solver_models.specs.Telling.{TellsChanges}
 use Rattle.solver_models.specs.declared.telling.Told.{Told}
-use Rattle.ls_solver.specs.declared.fault.SolverFault.{SolverFault}
-use Rattle.ls_solver.specs.declared.fault.SolverFault.TheVariants.{At, NoMemory}
+use Rattle.ls_solver.specs.declared.fault.SolverFault.TheVariants.{At}
 use Rattle.solver_models.proofs.ChangeLaws.{changes_are}
 use Rattle.model_values.specs.Fresh.{fresh_of, seen_values}
 use Rattle.term_model.specs.Users.{no_users}

@@ -1,5 +1,6 @@
 pub mod AnswerLaws
 pub mod CommitLaws
+pub mod RestoreLaws
 pub use Rattle.solver_models.proofs.DefinitionLaws
 pub use Rattle.solver_models.proofs.ListLaws
 pub use Rattle.solver_models.proofs.ModelLaws

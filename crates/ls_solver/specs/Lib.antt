@@ -2,10 +2,12 @@ pub mod Answers
 pub mod Asking
 pub mod Closing
 pub mod Committing
+pub mod Restoring
 pub use Rattle.solver_models.specs.Adding
 pub use Rattle.solver_models.specs.Changes
 pub use Rattle.solver_models.specs.Declaring
 pub use Rattle.solver_models.specs.Defining
+pub use Rattle.solver_models.specs.FreeVariables
 pub use Rattle.solver_models.specs.Ids
 pub use Rattle.solver_models.specs.NamedCycle
 pub use Rattle.solver_models.specs.Reading

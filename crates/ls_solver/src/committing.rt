@@ -65,7 +65,10 @@ impl Solver {
     }
 
     /// The same of moves that aren't refused.
-    fn commit_own(&mut self, moves: &[(VarId, i64)]) -> Result<Vec<VarChange>, SolverFault>
+    pub(crate) fn commit_own(
+        &mut self,
+        moves: &[(VarId, i64)],
+    ) -> Result<Vec<VarChange>, SolverFault>
         requires usable { self.old.usable ≡ true }
         requires refusal { commit_refusal self.old moves.now ≡ None }
         ensures { Commits self.old moves.now self.new result }

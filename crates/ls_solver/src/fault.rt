@@ -7,7 +7,7 @@ pub enum SolverFault {
     /// The call is refused, and the solver is as before.
     Run(RunFault),
     /// The model, or what is asked of it, has no value: the fault of the least numbered subterm that fails, with its
-    /// place. From `close` and `commit` the solver can't be used any more.
+    /// place. From `close`, `commit` and `restore` the solver can't be used any more.
     At(Place, RunFault),
     /// Variables depend on one another in a circle: each on the next, and the last on the first. The solver is as
     /// before.

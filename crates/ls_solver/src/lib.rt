@@ -3,8 +3,9 @@
 //! It knows nothing of programs, statements or handlers. The layers above use that a solver is seen as its model, its
 //! assignment, and whether it is closed and usable; that each call makes of these exactly what it says, or refuses
 //! exactly where and as it says; that what is read of a variable, a system or an objective is its fresh value; that a
-//! delta, and a variable's violations, are what the definitions say of the asked system or objective alone; and that a
-//! commit tells the variables whose fresh values differ, in order of declaration.
+//! delta, and a variable's violations, are what the definitions say of the asked system or objective alone; that a
+//! commit tells the variables whose fresh values differ, in order of declaration; and that a solution keeps the values of
+//! the free variables, and restoring it is one commit of them all.
 //!
 //! Each commit of a closed solver evaluates the whole model, and each delta twice what is asked. What is read is kept, and
 //! wants no memory.
@@ -19,6 +20,7 @@ mod defining;
 mod fault;
 mod reading;
 mod replying;
+mod restoring;
 mod solver;
 mod totals;
 mod trial;

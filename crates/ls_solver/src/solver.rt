@@ -105,7 +105,8 @@ impl Solver {
         self.closed
     }
 
-    /// Whether it may still be used: `false` exactly after `At` and `NoMemory` from `close` and `commit`.
+    /// Whether it may still be used: `false` exactly after `At` and `NoMemory` from `close`, `commit` and
+    /// `restore`.
     pub fn usable(&self) -> bool
         ensures { result ≡ self.now.usable }
     {

@@ -51,7 +51,14 @@ fn is_built_object(kind: Kind) -> bool
 {
     matches!(
         kind,
-        Kind::Input | Kind::Solver | Kind::System | Kind::Objective | Kind::Total
+        Kind::Input
+            | Kind::Solver
+            | Kind::System
+            | Kind::Objective
+            | Kind::Total
+            | Kind::Distribution
+            | Kind::Selector
+            | Kind::Solution
     )
 }
 
@@ -109,7 +116,7 @@ pub(crate) fn is_built_action(action: &Action) -> bool
         Action::Swap { left, right } => is_built_part(left) && is_built_part(right),
         Action::Step { target, .. } => is_built_part(target),
         Action::Do(expression) => is_built_part(expression),
-        Action::Choose(_) => false,
+        Action::Choose(chosen) => is_built_part(chosen),
         Action::Print(printed) => are_built_shown(printed),
         Action::Return(value) => is_built_option(value),
     }

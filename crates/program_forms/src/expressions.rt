@@ -30,6 +30,10 @@ fn is_built_method(method: Method) -> bool
             | Method::ObjectiveValue
             | Method::ObjectiveEvaluation
             | Method::PostPart
+            | Method::Draw
+            | Method::HasMove
+            | Method::GetMove
+            | Method::Restore
     )
 }
 

@@ -73,10 +73,20 @@ fn is_built_act(act: &Act) -> bool
             condition,
             body,
         } => is_built_head(generators, condition) && is_built_task(body),
-        Act::Select { .. } => false,
-        Act::SelectBy { .. } => false,
-        Act::Neighbor { .. } => false,
-        Act::Whenever { .. } => false,
+        Act::Select {
+            generators,
+            condition,
+            body,
+        } => is_built_head(generators, condition) && is_built_task(body),
+        Act::SelectBy {
+            generators,
+            condition,
+            key,
+            body,
+            ..
+        } => { is_built_head(generators, condition) && is_built_part(key) && is_built_task(body) }
+        Act::Neighbor { key, body, .. } => is_built_part(key) && is_built_task(body),
+        Act::Whenever { variable, body, .. } => is_built_part(variable) && is_built_task(body),
         Act::With { body, .. } => is_built_task(body),
         Act::Parall { .. } => false,
     }

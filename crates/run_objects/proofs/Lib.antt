@@ -1,3 +1,5 @@
+pub mod KeepLaws
 pub mod MethodStops
+pub mod NoticeLaws
 pub mod SystemLaws
 pub mod WithLaws

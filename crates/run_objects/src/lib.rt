@@ -6,12 +6,14 @@
 
 pub mod methods;
 pub mod objects;
+pub mod solutions;
 pub mod systems;
 pub mod variables;
 pub mod writes;
 
 pub use methods::method;
 pub use objects::{make_objective, make_solver, make_sum, make_system};
+pub use solutions::{make_solution, restore};
 pub use systems::post;
 pub use variables::{
     assign, close, commit_waiting, define, domain_of, new_variable, open_with, swap, variable_in,

@@ -1,4 +1,4 @@
-//! Methods of ranges, sets, arrays, inputs, solvers, constraint systems and objectives.
+//! Methods of ranges, sets, arrays, inputs, solvers, constraint systems, objectives, distributions, selectors and solutions.
 ghost use Rattle.std.specs.Prelude.{◌≡◌, ℕ, List, map, pos, IfOk, IfErr};
 ghost use Rattle.cbl_base.specs.Arithmetic.{exact};
 ghost use Rattle.cbl_base.specs.Sets.{is_member, with_member, without_member};
@@ -13,6 +13,7 @@ ghost use Rattle.run_values.specs.declared.stop.Stop.TheVariants.{NoMemory};
 ghost use Rattle.run_state.specs.Views.{state_seen};
 ghost use Rattle.run_objects.specs.SetChanges.{set_changed};
 
+use crate::solutions::restore;
 use crate::systems::{assign_delta, swap_delta, violations, whole_value};
 use crate::variables::{close, domain_of};
 use cbl_base::{IntSet, Place, RunFault};
@@ -23,8 +24,8 @@ use std::alloc::Global;
 
 /// What a method does, and what it gives of its object's value and those of its arguments. `Overflow` at this place
 /// exactly where a range has more numbers than fit 64 bits signed; `getInt` has the stops of `next_number`, `close` those
-/// of `close`, `getDomain` those of `domain_of`, and questions about systems and objectives those of `systems`. A method
-/// of what isn't run yet gives nothing, and so do `post` and a method with another number of arguments.
+/// of `close`, `getDomain` those of `domain_of`, questions about systems and objectives those of `systems`, `get` and `getMove`
+/// those of a state's `draw` and `get_move`, and `restore` those of `restore`. A method of what isn't run yet gives nothing, and so do `post` and a method with another number of arguments.
 #[tactic(auto, using(crate::proofs::MethodStops::stops_so), unfolding(comet_meaning::specs::Methods::method_value))]
 pub fn method(
     s: &mut State,
@@ -66,18 +67,18 @@ pub fn method(
         Method::ObjectiveEvaluation => whole_value(s, at, value),
         Method::ObjectiveAssignDelta => assign_delta(s, at, value, arguments),
         Method::ObjectiveSwapDelta => swap_delta(s, at, value, arguments),
+        Method::Draw => s.draw(at, value),
+        Method::HasMove => Ok(s.has_move(value)),
+        Method::GetMove => s.get_move(at, value),
+        Method::Restore => restore(s, at, value),
         Method::Post
         | Method::PostPart
-        | Method::Draw
-        | Method::HasMove
-        | Method::GetMove
         | Method::Report
         | Method::BestValue
         | Method::HasBest
         | Method::CopyBest
         | Method::Stop
-        | Method::IsStopped
-        | Method::Restore => Ok(Value::Nothing),
+        | Method::IsStopped => Ok(Value::Nothing),
     }
 }
 

@@ -71,7 +71,7 @@ fn size(s: &mut State, set: &Typed, slot: Slot) -> Result<i64, End> {
 /// A state with a solver that has `x` and then `x + x`.
 fn doubled(rt: &HostRuntime) -> Result<State, Fail> {
     let alloc = rt.alloc();
-    let mut s = State::new(alloc, 100, Vec::new(alloc));
+    let mut s = State::new(alloc, 0, 100, Vec::new(alloc));
     let solver = Value::Solver(0);
     let made = make_solver(&mut s);
     let x = new_variable(
@@ -134,7 +134,7 @@ fn assigned_numbers_wait(rt: HostRuntime) -> Result<(), Fail> {
 #[test]
 fn methods_give(rt: HostRuntime) -> Result<(), Fail> {
     let alloc = rt.alloc();
-    let mut s = State::new(alloc, 100, Vec::from_slice(alloc, b" -12 x")?);
+    let mut s = State::new(alloc, 0, 100, Vec::from_slice(alloc, b" -12 x")?);
     let slot = Slot::Local(1);
     let set = Typed {
         start: AT,

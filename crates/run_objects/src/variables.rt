@@ -1,6 +1,7 @@
 //! What changes solvers and their variables.
 ghost use Rattle.std.specs.Prelude.{◌≡◌, ℕ, List, IfErr};
 ghost use Rattle.comet_meaning.specs.Blocks as blocks;
+ghost use Rattle.comet_meaning.specs.Changes.{noticed};
 ghost use Rattle.comet_meaning.specs.Models as models;
 ghost use Rattle.comet_meaning.specs.Values as values;
 ghost use Rattle.comet_meaning.specs.Values.{solver_of};
@@ -33,25 +34,33 @@ pub fn close(s: &mut State, at: Place, solver: &Value) -> Result<Value, Stop>
     }
 }
 
-/// Gives a variable a number, which waits while a `with` is open, and else evaluates the variables of a closed solver. At
+/// Gives a variable a number, which waits while a `with` is open, and else evaluates the variables of a closed solver, and
+/// queues the events of what changes. At
 /// this place `WrongSolver` where there is no such variable, and then `DefinedVariable` where it has a definition; and
 /// else the first fault of the closed solver's variables, where it was met.
 pub fn assign(s: &mut State, at: Place, variable: VarId, number: i64) -> Result<(), Stop>
-    ensures did { (printed : List ℕ) → Did (λ _. tt) result (state_seen s.new printed) (models.assign at variable number (state_seen s.old printed)) }
+    ensures did { (printed : List ℕ) → Did (λ _. tt) result (state_seen s.new printed) (noticed variable.solver (models.assign at variable number) (state_seen s.old printed)) }
     ensures stop { IfErr result IsFaultOrMemory }
     ensures fuel { s.new.fuel ≡ s.old.fuel }
 {
-    s.solvers.assign(at, variable, number)
+    match s.solvers.assign(at, variable, number) {
+        Ok(changes) => s.notice(&changes),
+        Err(stop) => Err(stop),
+    }
 }
 
-/// Gives each of two variables the number that the other has, which wait while a `with` is open. The stops are those of
+/// Gives each of two variables the number that the other has, which wait while a `with` is open, and else queues the events
+/// of what changes. The stops are those of
 /// `assign`, of both variables; `WrongSolver` also where they aren't of one solver.
 pub fn swap(s: &mut State, at: Place, x: VarId, y: VarId) -> Result<(), Stop>
-    ensures did { (printed : List ℕ) → Did (λ _. tt) result (state_seen s.new printed) (models.swap at x y (state_seen s.old printed)) }
+    ensures did { (printed : List ℕ) → Did (λ _. tt) result (state_seen s.new printed) (noticed x.solver (models.swap at x y) (state_seen s.old printed)) }
     ensures stop { IfErr result IsFaultOrMemory }
     ensures fuel { s.new.fuel ≡ s.old.fuel }
 {
-    s.solvers.swap(at, x, y)
+    match s.solvers.swap(at, x, y) {
+        Ok(changes) => s.notice(&changes),
+        Err(stop) => Err(stop),
+    }
 }
 
 /// Defines a variable by a term. At this place `AlreadyClosed` where its solver is closed; then `WrongSolver` where the
@@ -139,12 +148,15 @@ pub fn open_with(s: &mut State, at: Place, solver: &Value) -> Result<bool, Stop>
     s.solvers.open_block(at, solver.solver())
 }
 
-/// Commits what waits in a solver, at the end of the outermost `with`. The stop is the first fault of the solver's
-/// variables, where it was met.
+/// Commits what waits in a solver, at the end of the outermost `with`, and queues the events of what changes. The stop is
+/// the first fault of the solver's variables, where it was met.
 pub fn commit_waiting(s: &mut State, solver: &Value) -> Result<(), Stop>
-    ensures did { (printed : List ℕ) → Did (λ _. tt) result (state_seen s.new printed) (blocks.commit_waiting (solver_of (value_seen solver.now)) (state_seen s.old printed)) }
+    ensures did { (printed : List ℕ) → Did (λ _. tt) result (state_seen s.new printed) (noticed (solver_of (value_seen solver.now)) (blocks.commit_waiting (solver_of (value_seen solver.now))) (state_seen s.old printed)) }
     ensures stop { IfErr result IsFaultOrMemory }
     ensures fuel { s.new.fuel ≡ s.old.fuel }
 {
-    s.solvers.commit_waiting(solver.solver())
+    match s.solvers.commit_waiting(s.alloc, solver.solver()) {
+        Ok(changes) => s.notice(&changes),
+        Err(stop) => Err(stop),
+    }
 }

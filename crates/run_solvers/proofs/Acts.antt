@@ -1,10 +1,10 @@
 -- Each act on a solver in a state is a change of that solver.
-use Rattle.std.proofs.Common.{◌≡◌, refl, ap, ◌∙◌, ℕ, ℤ, Bool, true, false, not, ◌&&◌, ◌||◌, List, [], ◌∷◌, Option, Some, None, Result, Ok, Err, nat_lt, if◌then◌else◌}
+use Rattle.std.proofs.Common.{◌≡◌, refl, sym, ap, length, nat_eq, zip, ◌∙◌, ℕ, ℤ, Bool, true, false, not, ◌&&◌, ◌||◌, List, [], ◌∷◌, Option, Some, None, Result, Ok, Err, nat_lt, if◌then◌else◌}
 use Rattle.cbl_base.specs.declared.ids.VarId.{VarId}
 use Rattle.cbl_base.specs.declared.place.Place.{Place}
 use Rattle.cbl_base.specs.declared.faults.Limit.TheVariants.{TermNodes, Variables}
 use Rattle.cbl_base.specs.declared.faults.RunFault.{RunFault}
-use Rattle.cbl_base.specs.declared.faults.RunFault.TheVariants.{AlreadyClosed, DefinedVariable, TooMany, WrongSolver}
+use Rattle.cbl_base.specs.declared.faults.RunFault.TheVariants.{AlreadyClosed, DefinedVariable, NotClosed, TooMany, WrongSolver}
 use Rattle.term_model.specs.declared.model.VarDecl.{VarDecl}
 use Rattle.term_model.specs.declared.term.Term.{Term}
 use Rattle.model_values.specs.Fresh.{Fresh}
@@ -19,6 +19,8 @@ use Rattle.comet_meaning.specs.Parts.{solver_at}
 use Rattle.comet_meaning.specs.Models.{put_solver, put_evaluated, closed_now, without_cycle, closing, close, moving, move, owns, assigning, assign, exchanged, swapping, swap, term_for, has_room, defined_by, defining, define}
 use Rattle.comet_meaning.specs.Variables.{Beginning, free, defined, first_number, with_variable, next_variable, begin, adding, new_variable}
 use Rattle.comet_meaning.specs.Blocks.{committed, commit_waiting}
+use Rattle.comet_meaning.specs.Solutions.{free_variables, restoring}
+use Rattle.run_solvers.specs.Solutions.{restored_one}
 use Rattle.run_solvers.specs.Changing.{Made, refused, by_values, evaluated, by_cycle, closed_one, moved_one, assigned_one, swapped_one, defined_one, begun_one, added_one, committed_one, changed, changed_where}
 
 -- a test before an act
@@ -90,6 +92,15 @@ swaps at x y s =
     tested (owns x.solver m x && owns x.solver m y) at WrongSolver tt x.solver _ _ s
     (ap (λ b. (unless b at DefinedVariable >>= λ _. move x.solver (exchanged m x.index y.index)) s) (both_not (is_defined m x.index) (is_defined m y.index))
     ∙ tested_not (is_defined m x.index || is_defined m y.index) at DefinedVariable tt x.solver _ _ s (moves x.solver (exchanged m x.index y.index) s))
+
+-- `restore`
+
+pub restores : (at : Place) (k : ℕ) (values : List ℤ) (m : SolverState) (s : State) → m ≡ solver_at s k → restoring at k values m s ≡ changed tt k (restored_one at values m) s
+unfolding restoring
+restores at k values m s is =
+    tested m.closed at NotClosed tt k _ _ s
+    (tested (nat_eq (length values) (length (free_variables m))) at WrongSolver tt k _ _ s
+    (moves k (zip (free_variables m) values) s ∙ ap (λ (n : SolverState). changed tt k (moved_one (zip (free_variables m) values) n n.waiting) s) (sym is)))
 
 -- the end of a `with`
 

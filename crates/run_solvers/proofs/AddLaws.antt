@@ -1,5 +1,5 @@
 -- A new variable of a solver, with its name, is what the meaning of programs says.
-use Rattle.std.proofs.Common.{◌≡◌, ℕ, zero, suc, ◌+◌, ◌<◌, ℤ, Bool, true, false, List, [], ◌∷◌, ◌++◌, Option, Some, None, Ok, Err, ◌⊎◌, inl, inr, length, refl, sym, ap, ◌∙◌, subst, true≢false, arith, slice_get, length-append}
+use Rattle.std.proofs.Common.{◌≡◌, ℕ, zero, suc, ◌+◌, ◌<◌, ℤ, Bool, true, false, List, [], ◌∷◌, ◌++◌, Option, Some, None, Ok, ◌⊎◌, inl, inr, length, refl, sym, ap, ◌∙◌, subst, true≢false, arith, length-append}
 use Rattle.std.specs.Prelude.{nat_lt, if◌then◌else◌}
 use Rattle.std.specs.Option.{option_map}
 use Rattle.cbl_base.specs.Inputs.{number_kind}
@@ -15,16 +15,13 @@ use Rattle.ls_solver.specs.declared.fault.SolverFault.{SolverFault}
 use Rattle.ls_solver.specs.declared.fault.SolverFault.TheVariants as faults
 use Rattle.ls_solver.proofs.ListLaws.{slice_front}
 use Rattle.ls_solver.proofs.ModelLaws.{definitions_same, grown_variable}
-use Rattle.model_view.specs.Building as building
-use Rattle.model_view.specs.Plain.{plain_model}
 use Rattle.model_view.proofs.PlainChanges.{gets_variable}
 use Rattle.term_model.specs.Definitions.{definition_of}
 use Rattle.term_model.specs.Kinds.{kind_of_var, kinds_in}
 use Rattle.term_model.specs.Wellformed.{HasDefinedSets}
 use Rattle.term_model.specs.declared.model.VarDecl.{VarDecl}
 use Rattle.term_model.specs.declared.model.VarKind.TheVariants.{Number}
-use Rattle.comet_meaning.specs.Solvers.{SolverState, variable_count}
-use Rattle.comet_meaning.specs.Limits.{most_variables}
+use Rattle.comet_meaning.specs.Solvers.{SolverState}
 use Rattle.comet_meaning.specs.Variables.{with_variable}
 use Rattle.run_values.specs.declared.stop.Stop.{Stop}
 use Rattle.run_solvers.specs.Changing.{Made, refused, declared_one}

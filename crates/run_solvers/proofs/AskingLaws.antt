@@ -1,5 +1,5 @@
 -- What is asked about a solver's systems and objectives is what the meaning of programs asks.
-use Rattle.std.proofs.Common.{◌≡◌, ℕ, ℤ, pos, Bool, true, false, ◌&&◌, List, [], ◌∷◌, Option, Some, None, Result, Ok, Err, refl, sym, ap, ◌∙◌, subst, true≢false, nat_eq}
+use Rattle.std.proofs.Common.{◌≡◌, ℕ, ℤ, pos, Bool, true, false, ◌&&◌, List, [], ◌∷◌, Option, Some, None, Result, Ok, refl, sym, ap, ◌∙◌, subst}
 use Rattle.std.specs.Prelude.{not, if◌then◌else◌}
 use Rattle.std.specs.List.{list_all}
 use Rattle.std.proofs.Math.Path.{fun_ext}
@@ -17,9 +17,8 @@ use Rattle.ls_solver.specs.declared.fault.SolverFault.TheVariants as faults
 use Rattle.solver_models.specs.declared.totals.SystemId.{SystemId}
 use Rattle.solver_models.specs.declared.totals.TotalId.{TotalId}
 use Rattle.term_model.specs.Users.{no_users}
-use Rattle.term_model.specs.declared.posting.Side.{Side}
 use Rattle.term_model.specs.declared.posting.Side.TheVariants.{Systems, Objectives}
-use Rattle.model_values.specs.Delta.{delta_of, value_of}
+use Rattle.model_values.specs.Delta.{value_of}
 use Rattle.model_values.specs.Fresh.{whole_by}
 use Rattle.model_values.specs.declared.asked.AskStop.{AskStop}
 use Rattle.model_values.specs.declared.deltas.Move.{Move}
@@ -62,6 +61,10 @@ whole_done f (values.Variable x) s = refl
 whole_done f (values.Variables n) s = refl
 whole_done f (values.Solver n) s = refl
 whole_done f (values.Input n) s = refl
+whole_done f (values.Distribution b) s = refl
+whole_done f (values.Selector n) s = refl
+whole_done f (values.Move n) s = refl
+whole_done f (values.Solution n) s = refl
 
 pub done_so : (f : ℕ → Whole → Act values.Value) (v : values.Value) (o : Option TotalId) (s : State) → o ≡ total_in v → of_whole f v s ≡ done_with f o s
 done_so f v o s e = whole_done f v s ∙ ap (λ p. done_with f p s) (sym e)

@@ -1,8 +1,7 @@
 -- What waits while a `with` is open, and its commit at the end.
-use Rattle.std.proofs.Common.{◌≡◌, ℕ, zero, suc, ◌+◌, ◌<◌, ℤ, Bool, true, false, ◌&&◌, Vec, Global, List, [], ◌∷◌, ◌++◌, Option, Some, None, Ok, is_some, length, length-set, set, drop, refl, sym, ap, ◌∙◌, subst, true≢false, nat_eq, arith, slice_get, append_assoc}
+use Rattle.std.proofs.Common.{◌≡◌, ℕ, zero, suc, ◌+◌, ◌<◌, ℤ, true, false, ◌&&◌, Vec, Global, List, [], ◌∷◌, ◌++◌, Option, Some, None, Ok, is_some, length, length-set, set, drop, refl, sym, ap, ◌∙◌, subst, true≢false, nat_eq, arith, slice_get, append_assoc}
 use Rattle.std.specs.Prelude.{nat_lt, replicate, if◌then◌else◌}
 use Rattle.std.specs.Option.{option_map}
-use Rattle.std.proofs.lemmas.List.{drop_more}
 use Rattle.cbl_base.proofs.PlaceLemmas.{others_stay}
 use native.Mathlib.Decide.{ℕ_discrete}
 use Rattle.cbl_base.specs.Inputs.{number_kind}
@@ -15,7 +14,6 @@ use Rattle.ls_solver.proofs.ReadLaws.{given_within}
 use Rattle.term_model.specs.Definitions.{definition_of}
 use Rattle.term_model.specs.Kinds.{kinds_in}
 use Rattle.term_model.specs.Wellformed.{HasDefinedSets}
-use Rattle.term_model.proofs.VarLaws.{set_same}
 use Rattle.comet_meaning.specs.Models as meant
 use Rattle.run_solvers.specs.Changing.{committed_one, evaluated, moved_one, opened_one, refused, waiting_now}
 use Rattle.run_solvers.specs.Kept.{AreWaiting}

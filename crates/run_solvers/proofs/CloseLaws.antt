@@ -18,7 +18,7 @@ use Rattle.comet_meaning.specs.Models.{closed_now}
 use Rattle.comet_meaning.specs.Outcome.{Faulted, Cyclic}
 use Rattle.comet_meaning.specs.Solvers.{SolverState, fresh_values, cycle_in}
 use Rattle.run_values.specs.declared.stop.Stop.{Stop}
-use Rattle.run_solvers.specs.Changing.{Made, refused, by_values, by_cycle, closed_one}
+use Rattle.run_solvers.specs.Changing.{refused, by_values, by_cycle, closed_one}
 use Rattle.run_solvers.specs.Kept.{AreWaiting, IsWhole}
 use Rattle.run_solvers.specs.Makes.{Ends}
 use Rattle.run_solvers.specs.Refusals.{StopsAs, names_at}

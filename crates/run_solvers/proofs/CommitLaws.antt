@@ -1,9 +1,8 @@
 -- What commits of a solver leave, and how they stop, is what the meaning of programs says.
-use Rattle.std.proofs.Common.{◌≡◌, ℕ, ℤ, Bool, true, false, Vec, Global, List, [], ◌∷◌, Option, Some, None, Result, Ok, Err, is_some, map, length, set, refl, sym, ap, ◌∙◌, subst, true≢false, slice_get}
-use Rattle.std.specs.Prelude.{is_ok, not, ◌&&◌, ◌||◌, if◌then◌else◌}
-use Rattle.cbl_base.specs.Inputs.{number_kind}
+use Rattle.std.proofs.Common.{◌≡◌, ℕ, ℤ, Bool, true, false, Vec, Global, List, [], ◌∷◌, Option, Some, None, Ok, Err, is_some, length, set, refl, sym, ap, ◌∙◌, subst, true≢false}
+use Rattle.std.specs.Prelude.{is_ok, ◌&&◌, ◌||◌, if◌then◌else◌}
 use Rattle.cbl_base.specs.declared.faults.RunFault.{RunFault}
-use Rattle.cbl_base.specs.declared.faults.RunFault.TheVariants.{DefinedVariable, NotClosed, WrongSolver}
+use Rattle.cbl_base.specs.declared.faults.RunFault.TheVariants.{DefinedVariable, WrongSolver}
 use Rattle.cbl_base.specs.declared.ids.VarId.{VarId}
 use Rattle.cbl_base.specs.declared.place.Place.{Place}
 use Rattle.ls_events.specs.declared.change.VarChange.{VarChange}
@@ -14,17 +13,16 @@ use Rattle.ls_solver.specs.State as solvers
 use Rattle.ls_solver.specs.declared.fault.SolverFault.TheVariants as faults
 use Rattle.model_values.specs.Fresh.{fresh_of}
 use Rattle.term_model.specs.Definitions.{definition_of}
-use Rattle.term_model.specs.Kinds.{kinds_in}
 use Rattle.term_model.specs.Users.{no_users}
 use Rattle.term_model.specs.Wellformed.{HasDefinedSets}
 use Rattle.comet_meaning.specs.Models as meant
 use Rattle.comet_meaning.specs.Models.{owns, exchanged}
 use Rattle.comet_meaning.specs.Outcome.{Faulted}
 use Rattle.comet_meaning.specs.Solvers.{SolverState, is_defined, fresh_values}
-use Rattle.run_solvers.specs.Changing.{Made, refused, by_values, evaluated, moved_one, assigned_one, swapped_one, opened_one}
+use Rattle.run_solvers.specs.Changing.{Made, refused, by_values, evaluated, moved_one, assigned_one, swapped_one}
 use Rattle.run_solvers.specs.Kept.{AreWaiting, IsWhole}
 use Rattle.run_solvers.specs.Views.{solver_seen}
-use Rattle.run_solvers.specs.Waiting.{indexed, overlaid}
+use Rattle.run_solvers.specs.Waiting.{indexed}
 use Rattle.run_solvers.proofs.CloseLaws.{valued}
 use Rattle.run_solvers.proofs.SeenLaws.{fresh_seen, owns_seen, defined_seen}
 use Rattle.run_solvers.proofs.WaitingLaws.{indexed_moves, overlaid_set}

@@ -1,5 +1,5 @@
 -- The cycle that a solver names is the one that the meaning of programs finds, and it finds none where there is none.
-use Rattle.std.proofs.Common.{◌≡◌, ℕ, zero, suc, ◌<◌, ◌≤◌, List, [], ◌∷◌, Option, Some, None, Vec, Global, Contains, length, refl, sym, ap, ◌∙◌, subst, arith}
+use Rattle.std.proofs.Common.{◌≡◌, ℕ, zero, suc, ◌<◌, List, [], ◌∷◌, Option, Some, None, Vec, Global, Contains, length, refl, ap, ◌∙◌, subst, arith}
 use Rattle.layer_plan.specs.Cycles as plans
 use Rattle.layer_plan.specs.Dependencies as plans_on
 use Rattle.layer_plan.specs.Dependencies.{list_of}

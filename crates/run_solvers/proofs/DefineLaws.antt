@@ -1,5 +1,5 @@
 -- What a definition makes of a solver, and how it stops, is what the meaning of programs says.
-use Rattle.std.proofs.Common.{◌≡◌, ℕ, ℤ, ◌<◌, ◌≤◌, Bool, true, false, ◌&&◌, ◌||◌, List, [], ◌∷◌, Option, Some, None, Ok, ◌⊎◌, inl, inr, is_some, fold, map, length, refl, sym, ap, ◌∙◌, subst, true≢false, nat_eq, arith}
+use Rattle.std.proofs.Common.{◌≡◌, ℕ, ℤ, ◌<◌, ◌≤◌, Bool, true, false, ◌&&◌, ◌||◌, List, Option, Some, None, Ok, ◌⊎◌, inl, inr, is_some, fold, map, length, refl, sym, ap, ◌∙◌, subst, true≢false, nat_eq, arith}
 use Rattle.std.specs.Prelude.{not, nat_le, if◌then◌else◌}
 use Rattle.std.proofs.lemmas.Bool.{le-leb}
 use Rattle.cbl_base.specs.Inputs.{number_kind}
@@ -10,7 +10,7 @@ use Rattle.cbl_base.specs.declared.ids.VarId.{VarId}
 use Rattle.cbl_base.specs.declared.limits.TheConstants.{MAX_TERM_DEPTH, MAX_TERM_NODES}
 use Rattle.cbl_base.specs.declared.place.Place.{Place}
 use Rattle.ls_solver.specs.Answers.{IsRefusal}
-use Rattle.ls_solver.specs.Defining.{Defines, are_too_many, define_refusal, distinct_with, early_refusal, first_refusal, is_own_definition, is_too_deep, size_refusal}
+use Rattle.ls_solver.specs.Defining.{Defines, are_too_many, define_refusal, distinct_with, early_refusal, first_refusal, is_own_definition, size_refusal}
 use Rattle.ls_solver.specs.Ids.{has_definition, is_own, names_only}
 use Rattle.ls_solver.specs.State as solvers
 use Rattle.ls_solver.specs.declared.fault.SolverFault.{SolverFault}
@@ -31,7 +31,7 @@ use Rattle.term_model.specs.Wellformed.{HasDefinedSets, IsWellFormed}
 use Rattle.term_model.specs.declared.model.Model.{Model}
 use Rattle.term_model.specs.declared.model.VarDecl.{VarDecl}
 use Rattle.term_model.specs.declared.term.Term.{Term}
-use Rattle.comet_meaning.specs.Models.{owns, term_for, has_room, defined_by}
+use Rattle.comet_meaning.specs.Models.{owns, term_for, has_room}
 use Rattle.comet_meaning.specs.Solvers.{SolverState, is_defined}
 use Rattle.run_values.specs.declared.stop.Stop.{Stop}
 use Rattle.run_solvers.specs.Changing.{Made, refused, defined_one}

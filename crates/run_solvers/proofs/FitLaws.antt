@@ -1,6 +1,6 @@
 -- A term that defines a variable is of its kind, or stands for one that is.
-use Rattle.std.proofs.Common.{◌≡◌, ℕ, ℤ, pos, ◌<◌, Bool, true, false, ◌&&◌, List, [], Option, Some, None, length, refl, sym, ap, ◌∙◌, subst, true≢false, nat_eq, arith}
-use Rattle.std.specs.Prelude.{nat_lt, if◌then◌else◌}
+use Rattle.std.proofs.Common.{◌≡◌, ℕ, ℤ, pos, Bool, true, false, ◌&&◌, List, [], Option, Some, None, length, refl, sym, ap, ◌∙◌, true≢false}
+use Rattle.std.specs.Prelude.{if◌then◌else◌}
 use Rattle.std.specs.Option.{option_map}
 use Rattle.cbl_base.specs.Inputs.{InputKind, number_kind, set_kind}
 use Rattle.cbl_base.specs.declared.faults.RunFault.{RunFault}

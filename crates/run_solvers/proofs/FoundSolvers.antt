@@ -1,14 +1,13 @@
 -- Solvers by their numbers: what is done to one that is there is done to the state, and one that isn't there has no
 -- variables.
-use Rattle.std.proofs.Common.{◌≡◌, ℕ, zero, suc, ◌<◌, ◌≤◌, ◌+◌, ℤ, Bool, true, false, not, ◌&&◌, ◌||◌, List, [], ◌∷◌, ◌++◌, Option, Some, None, Result, Ok, Err, IfOk, ◌⊎◌, inl, inr, length, get_or, set, map, refl, sym, ap, ◌∙◌, subst, arith, rules, slice_get, nat_eq}
+use Rattle.std.proofs.Common.{◌≡◌, ℕ, zero, suc, ◌<◌, ◌≤◌, ℤ, Bool, true, false, not, ◌&&◌, ◌||◌, List, [], ◌∷◌, ◌++◌, Option, Some, None, Result, Ok, Err, IfOk, ◌⊎◌, inl, inr, length, get_or, set, map, zip, refl, sym, ap, ◌∙◌, subst, arith, rules, slice_get, nat_eq}
 use Rattle.std.specs.Prelude.{IfErr, OnOk, is_some, nat_lt, if◌then◌else◌}
-use Rattle.std.proofs.lemmas.List.{get_or-map, get_or_past, length-map, map-set, set_past}
+use Rattle.std.proofs.lemmas.List.{get_or-map, get_or_past, length-map, map-set}
 use Rattle.std.proofs.lemmas.Option.{slice_get-get_or}
 use Rattle.cbl_base.proofs.PlaceLemmas.{others_stay}
 use native.Mathlib.Decide.{ℕ_discrete}
 use Rattle.cbl_base.specs.declared.ids.VarId.{VarId}
 use Rattle.cbl_base.specs.declared.place.Place.{Place}
-use Rattle.cbl_base.specs.declared.faults.RunFault.{RunFault}
 use Rattle.cbl_base.specs.declared.faults.Limit.TheVariants.{TermNodes}
 use Rattle.cbl_base.specs.declared.faults.RunFault.TheVariants.{AlreadyClosed, DefinedVariable, NotClosed, TooMany, WrongSolver}
 use Rattle.model_view.specs.Building.{empty_model}
@@ -26,8 +25,10 @@ use Rattle.term_model.proofs.VarLaws.{set_same}
 use Rattle.comet_meaning.specs.Values.{Value, Solver}
 use Rattle.comet_meaning.specs.Solvers.{SolverState, new_solver, has_variable, is_defined, fresh_values, variable_count}
 use Rattle.comet_meaning.specs.State.{State, left}
-use Rattle.comet_meaning.specs.Outcome.{Outcome, Went, Halted, Faulted, SpentAt, Cyclic, Act, ◌>>=◌, fault, give}
+use Rattle.comet_meaning.specs.Outcome.{Went, Halted, Faulted, SpentAt, Cyclic, Act, ◌>>=◌, fault, give}
 use Rattle.comet_meaning.specs.Parts.{solver_at, variable_value}
+use Rattle.comet_meaning.specs.Solutions.{free_variables}
+use Rattle.run_solvers.specs.Solutions.{restored_one}
 use Rattle.comet_meaning.specs.Limits.{most_variables}
 use Rattle.comet_meaning.specs.Models.{owns, exchanged, term_for, has_room, defined_by, make_solver, put_solver, domain_at}
 use Rattle.comet_meaning.specs.Variables.{Beginning, free, defined, next_variable, first_number, with_variable}
@@ -203,6 +204,9 @@ moved_none moves m (Some a) = tt
 
 pub assigned_none : (at : Place) (x : VarId) (z : ℤ) (m : SolverState) → IsNoCycle (assigned_one at x z m)
 assigned_none at x z m = either (owns x.solver m x) _ _ (either (is_defined m x.index) _ _ tt (moved_none ((x.index, z) ∷ []) m m.waiting)) tt
+
+pub restored_none : (at : Place) (values : List ℤ) (m : SolverState) → IsNoCycle (restored_one at values m)
+restored_none at values m = either m.closed _ _ (either (nat_eq (length values) (length (free_variables m))) _ _ (moved_none (zip (free_variables m) values) m m.waiting) tt) tt
 
 pub swapped_none : (at : Place) (x y : VarId) (m : SolverState) → IsNoCycle (swapped_one at x y m)
 swapped_none at x y m = either (owns x.solver m x && owns x.solver m y) _ _ (either (is_defined m x.index || is_defined m y.index) _ _ tt (moved_none (exchanged m x.index y.index) m m.waiting)) tt

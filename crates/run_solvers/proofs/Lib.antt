@@ -17,6 +17,8 @@ pub mod NodeLaws
 pub mod PostLaws
 pub mod ReadStops
 pub mod SeenLaws
+pub mod SolutionLaws
+pub mod ToldLaws
 pub mod TotalActs
 pub mod TotalLaws
 pub mod TotalStops

@@ -1,5 +1,5 @@
 -- A new solver is the one that the meaning of programs begins with.
-use Rattle.std.proofs.Common.{◌≡◌, ℕ, ◌<◌, ℤ, Bool, List, [], Option, None, length, refl, sym, ap, ◌∙◌, subst, map, arith}
+use Rattle.std.proofs.Common.{◌≡◌, ℕ, ℤ, Bool, List, [], None, length, sym, ap, ◌∙◌, map, arith}
 use Rattle.ls_solver.specs.State as solvers
 use Rattle.ls_solver.specs.State.{IsNew}
 use Rattle.model_view.specs.Building.{empty_model}

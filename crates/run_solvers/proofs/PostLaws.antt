@@ -9,7 +9,7 @@ use Rattle.cbl_base.specs.declared.limits.TheConstants.{MAX_TERM_DEPTH, MAX_TERM
 use Rattle.cbl_base.specs.declared.place.Place.{Place}
 use Rattle.ls_solver.specs.Adding.{Adds, early_member_refusal, is_own_member, member_refusal}
 use Rattle.ls_solver.specs.Answers.{IsRefusal}
-use Rattle.ls_solver.specs.Defining.{are_too_many, distinct_with, first_refusal, size_refusal}
+use Rattle.ls_solver.specs.Defining.{distinct_with, first_refusal, size_refusal}
 use Rattle.ls_solver.specs.Ids.{is_own, names_only}
 use Rattle.ls_solver.specs.State as solvers
 use Rattle.ls_solver.specs.Totals.{is_own_total, whole_of}
@@ -30,9 +30,9 @@ use Rattle.model_view.specs.Plain.{plain_member, plain_model, plain_term}
 use Rattle.model_view.specs.Variables.{all_variables}
 use Rattle.model_view.proofs.PlainParts as plain
 use Rattle.comet_meaning.specs.Members.{with_member}
-use Rattle.comet_meaning.specs.Models.{has_room, owns, same_kind}
+use Rattle.comet_meaning.specs.Models.{owns, same_kind}
 use Rattle.comet_meaning.specs.Solvers.{SolverState}
-use Rattle.comet_meaning.specs.Systems.{has_whole, number_for, posted_in}
+use Rattle.comet_meaning.specs.Systems.{number_for}
 use Rattle.run_values.specs.declared.stop.Stop.{Stop}
 use Rattle.run_solvers.specs.Changing.{Made, posted_one, refused}
 use Rattle.run_solvers.specs.Kept.{IsWhole}
@@ -41,7 +41,7 @@ use Rattle.run_solvers.specs.Refused.{sized_member}
 use Rattle.run_solvers.specs.Refusals.{StopsAs}
 use Rattle.run_solvers.specs.Views.{solver_seen}
 use Rattle.run_solvers.proofs.DefineLaws.{le_from, room_seen, seen_by}
-use Rattle.run_solvers.proofs.SeenLaws.{constant_names, kinds_seen, names_seen}
+use Rattle.run_solvers.proofs.SeenLaws.{kinds_seen, names_seen}
 use Rattle.run_solvers.proofs.TotalLaws.{got_member, has_seen, open_waiting, sets_stay}
 
 -- ---- before the size

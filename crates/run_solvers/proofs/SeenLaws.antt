@@ -1,5 +1,5 @@
 -- A solver as the meaning of programs has it: its variables, their definitions and kinds, and its values are its own.
-use Rattle.std.proofs.Common.{◌≡◌, ℕ, ℤ, Bool, true, false, ◌&&◌, List, Option, Some, None, length, refl, sym, ap, ◌∙◌, nat_eq, arith}
+use Rattle.std.proofs.Common.{◌≡◌, ℕ, ℤ, Bool, true, ◌&&◌, List, Option, length, refl, ap, ◌∙◌, nat_eq, arith}
 use Rattle.std.specs.Prelude.{is_some, nat_lt}
 use Rattle.std.proofs.Math.Path.{fun_ext}
 use Rattle.cbl_base.specs.declared.ids.VarId.{VarId}

@@ -1,6 +1,6 @@
 -- Each act on systems and objectives in a state is a change of one solver, or a question to one.
-use Rattle.std.proofs.Common.{◌≡◌, refl, sym, ◌∙◌, ap, ℕ, ℤ, pos, Bool, true, false, ◌&&◌, List, [], ◌∷◌, length, Option, Some, None, Result, Ok, Err, arith, rules}
-use Rattle.std.specs.Prelude.{int_le, if◌then◌else◌}
+use Rattle.std.proofs.Common.{◌≡◌, refl, sym, ◌∙◌, ap, ℕ, ℤ, pos, false, ◌&&◌, List, [], ◌∷◌, length, Option, Result, Ok, arith, rules}
+use Rattle.std.specs.Prelude.{int_le}
 use Rattle.std.specs.List.{list_all}
 use Rattle.cbl_base.specs.declared.ids.VarId.{VarId}
 use Rattle.cbl_base.specs.declared.place.Place.{Place}
@@ -24,7 +24,7 @@ use Rattle.comet_meaning.specs.Solvers.{SolverState, new_solver}
 use Rattle.comet_meaning.specs.Parts.{solver_at}
 use Rattle.comet_meaning.specs.Models.{owns, has_room}
 use Rattle.comet_meaning.specs.Systems.{adding_objective, adding_sum, adding_system, asking, delta, delta_answer, first_variable, give_asked, has_whole, make_objective, make_sum, make_system, number_for, objective_by, post_to, posted_in, posting, valuing, variable_violations, violations_answer, whole_value}
-use Rattle.run_solvers.specs.Changing.{changed, objective_one, posted_one, refused, total_one, with_total}
+use Rattle.run_solvers.specs.Changing.{changed, objective_one, posted_one, refused, total_one}
 use Rattle.run_solvers.proofs.Acts.{tested, tested_not, then_given}
 use Rattle.run_solvers.proofs.FoundSolvers.{IsNoCycle, either}
 

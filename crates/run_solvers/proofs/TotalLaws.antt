@@ -1,7 +1,6 @@
 -- A solver's systems and objectives are those that the meaning of programs has, and so is a solver that got one.
-use Rattle.std.proofs.Common.{◌≡◌, ℕ, ℤ, ◌<◌, Bool, true, false, ◌&&◌, List, [], ◌∷◌, Option, Some, None, Ok, length, refl, sym, ap, ◌∙◌, subst, true≢false, nat_eq}
-use Rattle.std.specs.Prelude.{is_some, nat_lt, if◌then◌else◌}
-use Rattle.cbl_base.specs.Inputs.{number_kind}
+use Rattle.std.proofs.Common.{◌≡◌, ℕ, ℤ, ◌<◌, Bool, true, false, ◌&&◌, List, Option, Some, None, Ok, length, refl, sym, ap, ◌∙◌, subst, true≢false, nat_eq}
+use Rattle.std.specs.Prelude.{nat_lt, if◌then◌else◌}
 use Rattle.cbl_base.specs.declared.faults.RunFault.{RunFault}
 use Rattle.cbl_base.specs.declared.faults.RunFault.TheVariants.{AlreadyClosed}
 use Rattle.cbl_base.specs.declared.place.Place.{Place}
@@ -31,7 +30,7 @@ use Rattle.comet_meaning.specs.Members.{with_member}
 use Rattle.comet_meaning.specs.Solvers.{SolverState}
 use Rattle.comet_meaning.specs.Systems.{has_whole}
 use Rattle.run_values.specs.declared.stop.Stop.{Stop}
-use Rattle.run_solvers.specs.Changing.{Made, refused, total_one, with_total}
+use Rattle.run_solvers.specs.Changing.{refused, total_one, with_total}
 use Rattle.run_solvers.specs.Kept.{AreWaiting, IsWhole}
 use Rattle.run_solvers.specs.Makes.{Ends}
 use Rattle.run_solvers.specs.Refusals.{StopsAs}

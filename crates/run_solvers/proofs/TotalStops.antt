@@ -1,5 +1,5 @@
 -- A new objective of one term is a new one, and then a post; each stops the run where the meaning of programs does.
-use Rattle.std.proofs.Common.{◌≡◌, ℕ, pos, Bool, true, false, length, Option, Result, Ok, Err, refl, sym, ap, ◌∙◌, subst}
+use Rattle.std.proofs.Common.{◌≡◌, ℕ, pos, Bool, true, false, length, Ok, Err, sym, ap, ◌∙◌}
 use Rattle.std.specs.Prelude.{if◌then◌else◌}
 use Rattle.cbl_base.specs.declared.faults.RunFault.TheVariants.{AlreadyClosed}
 use Rattle.cbl_base.specs.declared.place.Place.{Place}

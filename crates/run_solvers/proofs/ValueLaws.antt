@@ -1,5 +1,5 @@
 -- What is read of a solver's variable is what the meaning of programs reads.
-use Rattle.std.proofs.Common.{◌≡◌, ℕ, ◌<◌, ℤ, Bool, true, false, ◌&&◌, ◌||◌, List, Option, Some, None, length, refl, sym, ap, ◌∙◌, subst, true≢false, nat_eq, arith, slice_get}
+use Rattle.std.proofs.Common.{◌≡◌, ℕ, ◌<◌, ℤ, Bool, true, false, ◌&&◌, ◌||◌, List, Option, Some, None, length, refl, sym, ap, ◌∙◌, true≢false, nat_eq, arith, slice_get}
 use Rattle.std.specs.Prelude.{not, nat_lt, if◌then◌else◌}
 use Rattle.std.specs.Option.{option_map}
 use Rattle.cbl_base.specs.Inputs.{InputKind, is_number_kind, number_kind, set_kind}

@@ -1,5 +1,5 @@
 -- What waits: the assignment with it in its places, and the moves that it is.
-use Rattle.std.proofs.Common.{◌≡◌, ℕ, zero, suc, ◌+◌, ◌<◌, ℤ, List, [], ◌∷◌, ◌++◌, Option, Some, None, length, set, refl, sym, ap, ◌∙◌, arith, slice_get, append_assoc, length-append, subst}
+use Rattle.std.proofs.Common.{◌≡◌, ℕ, zero, suc, ◌+◌, ℤ, List, [], ◌∷◌, ◌++◌, Option, Some, None, length, set, refl, sym, ap, ◌∙◌, arith, slice_get, subst}
 use Rattle.std.specs.Prelude.{replicate}
 use Rattle.cbl_base.specs.declared.ids.VarId.{VarId}
 use Rattle.comet_meaning.specs.Models as meant

@@ -1,5 +1,5 @@
 -- A term that a statement built: it is no deeper than a term may be, and holds no user's constraint. A rule of this project.
-use Rattle.std.specs.Prelude.{◌≡◌, ℕ, ◌≤◌, List, [], ◌∷◌, map}
+use Rattle.std.specs.Prelude.{◌≡◌, ℕ, ◌≤◌, List, [], map}
 use Rattle.cbl_base.specs.declared.limits.TheConstants.{MAX_TERM_DEPTH}
 use Rattle.model_view.specs.Plain.{plain_term}
 use Rattle.term_model.specs.Definitions.{joined}

@@ -5,7 +5,9 @@ pub mod Makes
 pub mod Opening
 pub mod Refusals
 pub mod Refused
+pub mod Solutions
 pub mod Stopping
+pub mod Told
 pub mod Totals
 pub mod Views
 pub mod Waiting

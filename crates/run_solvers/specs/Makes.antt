@@ -1,6 +1,8 @@
 -- What a change of a solver answers is what is meant: the solver that is made, or why the run ends. Where memory ran out it
 -- tells nothing, and it stops for no other reason. A rule of this project.
-use Rattle.std.specs.Prelude.{◌≡◌, Option, Some, None, Result, Ok, Err, OnOk}
+use Rattle.std.specs.Prelude.{◌≡◌, Option, Some, None, Result, Ok, Err, Vec, OnOk}
+use Rattle.std.specs.declared.alloc.Global.{Global}
+use Rattle.ls_events.specs.declared.change.VarChange.{VarChange}
 use Rattle.comet_meaning.specs.Outcome.{Faulted, Cyclic}
 use Rattle.comet_meaning.specs.Solvers.{SolverState}
 use Rattle.run_values.specs.declared.stop.Stop.{Stop}
@@ -8,6 +10,7 @@ use Rattle.run_values.specs.declared.stop.Stop.TheVariants as stops
 use Rattle.run_values.specs.declared.stop.Stop.TheVariants.{Fault, Spent, NoMemory, Output}
 use Rattle.run_solvers.specs.Changing.{Made}
 use Rattle.run_solvers.specs.Kept.{IsKept}
+use Rattle.run_solvers.specs.Told.{Tells}
 use Rattle.run_solvers.specs.Views.{held_seen}
 use Rattle.run_solvers.specs.declared.held.Held.{Held}
 
@@ -38,3 +41,16 @@ pub record Changes {X : Type 0} (old new : Held) (result : Result X Stop) (made 
 abbrev pub made_or : SolverState → Option Made → Made
 made_or m None = Ok m
 made_or m (Some made) = made
+
+-- the same of a change of numbers, which tells what changed
+pub record TriesToMove (old new : Held) (result : Result (Vec VarChange Global) Stop) (made : Made) : Type 0 where
+  pub meant : Makes (held_seen new) result made
+  pub kept : OnOk result (IsKept new)
+  pub number : new.number ≡ old.number
+  pub told : Tells old.number (held_seen old) (held_seen new) result
+
+pub record Moves (old new : Held) (result : Result (Vec VarChange Global) Stop) (made : Made) : Type 0 where
+  pub meant : Makes (held_seen new) result made
+  pub kept : IsKept new
+  pub number : new.number ≡ old.number
+  pub told : Tells old.number (held_seen old) (held_seen new) result

@@ -1,6 +1,6 @@
 -- The beginning of a `with`: whether it is the outermost one on its solver, which makes what is assigned in it wait. From
 -- the language.
-use Rattle.std.specs.Prelude.{ℕ, ℤ, Bool, true, false, Option, Some, None, is_some, if◌then◌else◌}
+use Rattle.std.specs.Prelude.{ℕ, Bool, true, false, Some, is_some, if◌then◌else◌}
 use Rattle.cbl_base.specs.declared.place.Place.{Place}
 use Rattle.cbl_base.specs.declared.faults.RunFault.TheVariants.{NotClosed}
 use Rattle.comet_meaning.specs.Outcome.{Act, ◌>>=◌, give, unless}

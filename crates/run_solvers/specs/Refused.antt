@@ -1,5 +1,5 @@
 -- What is asked of a definition, and of a member of a system or an objective, before its size. A rule of this project.
-use Rattle.std.specs.Prelude.{ℕ, if◌then◌else◌, Ok}
+use Rattle.std.specs.Prelude.{if◌then◌else◌, Ok}
 use Rattle.cbl_base.specs.declared.faults.Limit.TheVariants.{TermNodes}
 use Rattle.cbl_base.specs.declared.faults.RunFault.TheVariants.{TooMany}
 use Rattle.cbl_base.specs.declared.ids.VarId.{VarId}

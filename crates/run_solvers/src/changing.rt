@@ -6,7 +6,7 @@ ghost use Rattle.ls_solver.specs.Committing.{AreDistinct};
 ghost use Rattle.ls_solver.specs.Ids.{has_definition, is_own};
 ghost use Rattle.run_solvers.specs.Changing.{assigned_one, committed_one, evaluated, moved_one, opened_one, swapped_one};
 ghost use Rattle.run_solvers.specs.Kept.{AreWaiting, IsKept};
-ghost use Rattle.run_solvers.specs.Makes.{Changes, Tries, made_or};
+ghost use Rattle.run_solvers.specs.Makes.{Changes, Moves, Tries, TriesToMove, made_or};
 ghost use Rattle.run_solvers.specs.Views.{held_seen, waits};
 ghost use Rattle.run_solvers.specs.Waiting.{indexed, overlaid};
 ghost use Rattle.run_values.specs.declared.stop.Stop.TheVariants.{NoMemory as WithoutMemory};
@@ -14,6 +14,7 @@ ghost use Rattle.run_values.specs.declared.stop.Stop.TheVariants.{NoMemory as Wi
 use crate::held::Held;
 use crate::waiting::{moves_of, nothing_waiting, wait_in};
 use cbl_base::{NoMemory, Place, RunFault, VarId};
+use ls_events::VarChange;
 use ls_solver::SolverFault;
 use run_values::Stop;
 use std::mem;
@@ -22,20 +23,30 @@ impl Held {
     /// Gives a variable a number, which waits while a `with` is open. At this place `WrongSolver` where the solver has no
     /// such variable, and then `DefinedVariable` where it has a definition; and else the fault of a closed solver's
     /// variables where it was met.
-    pub(crate) fn assign(&mut self, at: Place, variable: VarId, number: i64) -> Result<(), Stop>
+    pub(crate) fn assign(
+        &mut self,
+        at: Place,
+        variable: VarId,
+        number: i64,
+    ) -> Result<Vec<VarChange>, Stop>
         requires kept { IsKept self.old }
         requires own { variable.solver ≡ self.old.number }
-        ensures { Changes self.old self.new result (assigned_one at variable number (held_seen self.old)) }
+        ensures { Moves self.old self.new result (assigned_one at variable number (held_seen self.old)) }
     {
         let made = self.try_assign(at, variable, number);
         self.finish(made)
     }
 
     /// The same, where a solver that stops is left as it may be.
-    fn try_assign(&mut self, at: Place, variable: VarId, number: i64) -> Result<(), Stop>
+    fn try_assign(
+        &mut self,
+        at: Place,
+        variable: VarId,
+        number: i64,
+    ) -> Result<Vec<VarChange>, Stop>
         requires kept { IsKept self.old }
         requires own { variable.solver ≡ self.old.number }
-        ensures { Tries self.old self.new result (assigned_one at variable number (held_seen self.old)) }
+        ensures { TriesToMove self.old self.new result (assigned_one at variable number (held_seen self.old)) }
     {
         if !self.solver.owns(variable) {
             return Err(Stop::Fault(at, RunFault::WrongSolver));
@@ -48,20 +59,20 @@ impl Held {
 
     /// Gives each of two variables the number that the other has, which wait while a `with` is open. The stops are those
     /// of `assign`, of both variables.
-    pub(crate) fn swap(&mut self, at: Place, x: VarId, y: VarId) -> Result<(), Stop>
+    pub(crate) fn swap(&mut self, at: Place, x: VarId, y: VarId) -> Result<Vec<VarChange>, Stop>
         requires kept { IsKept self.old }
         requires own { x.solver ≡ self.old.number }
-        ensures { Changes self.old self.new result (swapped_one at x y (held_seen self.old)) }
+        ensures { Moves self.old self.new result (swapped_one at x y (held_seen self.old)) }
     {
         let made = self.try_swap(at, x, y);
         self.finish(made)
     }
 
     /// The same, where a solver that stops is left as it may be.
-    fn try_swap(&mut self, at: Place, x: VarId, y: VarId) -> Result<(), Stop>
+    fn try_swap(&mut self, at: Place, x: VarId, y: VarId) -> Result<Vec<VarChange>, Stop>
         requires kept { IsKept self.old }
         requires own { x.solver ≡ self.old.number }
-        ensures { Tries self.old self.new result (swapped_one at x y (held_seen self.old)) }
+        ensures { TriesToMove self.old self.new result (swapped_one at x y (held_seen self.old)) }
     {
         if !self.owns_both(x, y) {
             return Err(Stop::Fault(at, RunFault::WrongSolver));
@@ -88,11 +99,11 @@ impl Held {
     }
 
     /// The same of free variables of the solver.
-    fn exchange(&mut self, x: VarId, y: VarId) -> Result<(), Stop>
+    fn exchange(&mut self, x: VarId, y: VarId) -> Result<Vec<VarChange>, Stop>
         requires kept { IsKept self.old }
         requires own { (is_own self.old.solver x ≡ true) × (is_own self.old.solver y ≡ true) }
         requires free { (has_definition self.old.solver.model x.index ≡ false) × (has_definition self.old.solver.model y.index ≡ false) }
-        ensures { Tries self.old self.new result (moved_one ((x.index, number_now (held_seen self.old) y.index) ∷ (y.index, number_now (held_seen self.old) x.index) ∷ []) (held_seen self.old) (held_seen self.old).waiting) }
+        ensures { TriesToMove self.old self.new result (moved_one ((x.index, number_now (held_seen self.old) y.index) ∷ (y.index, number_now (held_seen self.old) x.index) ∷ []) (held_seen self.old) (held_seen self.old).waiting) }
     {
         match self.number_of(x) {
             Err(stop) => Err(stop),
@@ -119,25 +130,29 @@ impl Held {
     }
 
     /// Gives a free variable of the solver a number.
-    fn move_one(&mut self, variable: VarId, number: i64) -> Result<(), Stop>
+    fn move_one(&mut self, variable: VarId, number: i64) -> Result<Vec<VarChange>, Stop>
         requires kept { IsKept self.old }
         requires own { is_own self.old.solver variable ≡ true }
         requires free { has_definition self.old.solver.model variable.index ≡ false }
-        ensures { Tries self.old self.new result (moved_one ((variable.index, number) ∷ []) (held_seen self.old) (held_seen self.old).waiting) }
+        ensures { TriesToMove self.old self.new result (moved_one ((variable.index, number) ∷ []) (held_seen self.old) (held_seen self.old).waiting) }
     {
         self.solver.keeps_form();
         if wait_in(&mut self.waiting, variable.index, number) {
-            return Ok(());
+            return Ok(Vec::new(self.alloc));
         }
         self.commit(&[(variable, number)])
     }
 
     /// Gives free variables of the solver numbers, of which the second counts where both are one.
-    fn move_both(&mut self, first: (VarId, i64), second: (VarId, i64)) -> Result<(), Stop>
+    fn move_both(
+        &mut self,
+        first: (VarId, i64),
+        second: (VarId, i64),
+    ) -> Result<Vec<VarChange>, Stop>
         requires kept { IsKept self.old }
         requires own { (is_own self.old.solver first.0 ≡ true) × (is_own self.old.solver second.0 ≡ true) }
         requires free { (has_definition self.old.solver.model first.0.index ≡ false) × (has_definition self.old.solver.model second.0.index ≡ false) }
-        ensures { Tries self.old self.new result (moved_one ((first.0.index, first.1) ∷ (second.0.index, second.1) ∷ []) (held_seen self.old) (held_seen self.old).waiting) }
+        ensures { TriesToMove self.old self.new result (moved_one ((first.0.index, first.1) ∷ (second.0.index, second.1) ∷ []) (held_seen self.old) (held_seen self.old).waiting) }
     {
         self.solver.keeps_form();
         if wait_in(&mut self.waiting, first.0.index, first.1) {
@@ -150,16 +165,16 @@ impl Held {
     }
 
     /// Gives free variables of the solver numbers at once, where nothing waits.
-    fn commit(&mut self, moves: &[(VarId, i64)]) -> Result<(), Stop>
+    pub(crate) fn commit(&mut self, moves: &[(VarId, i64)]) -> Result<Vec<VarChange>, Stop>
         requires kept { IsKept self.old }
         requires nothing { waits self.old ≡ None }
         requires distinct { AreDistinct moves.now }
         requires free { (k : ℕ) (m : VarId × ℤ) → slice_get moves.now k ≡ Some m → (is_own self.old.solver m.0 ≡ true) × (has_definition self.old.solver.model m.0.index ≡ false) }
-        ensures { Tries self.old self.new result (evaluated (record (held_seen self.old) { assignment = after_moves (indexed moves.now) self.old.solver.assignment })) }
+        ensures { TriesToMove self.old self.new result (evaluated (record (held_seen self.old) { assignment = after_moves (indexed moves.now) self.old.solver.assignment })) }
     {
         self.solver.keeps_form();
         match self.solver.commit_uncounted(moves) {
-            Ok(_changes) => Ok(()),
+            Ok(changes) => Ok(changes),
             Err(SolverFault::At(place, fault)) => Err(Stop::Fault(place, fault)),
             // no refusal is left to come
             Err(_) => Err(Stop::NoMemory),
@@ -201,31 +216,31 @@ impl Held {
 
     /// Commits what waits, at the end of the outermost `with`. The stop is the fault of the solver's variables where it
     /// was met.
-    pub(crate) fn commit_waiting(&mut self) -> Result<(), Stop>
+    pub(crate) fn commit_waiting(&mut self) -> Result<Vec<VarChange>, Stop>
         requires { IsKept self.old }
-        ensures { Changes self.old self.new result (made_or (held_seen self.old) (committed_one (held_seen self.old) (held_seen self.old).waiting)) }
+        ensures { Moves self.old self.new result (made_or (held_seen self.old) (committed_one (held_seen self.old) (held_seen self.old).waiting)) }
     {
         let made = self.try_commit_waiting();
         self.finish(made)
     }
 
     /// The same, where a solver that stops is left as it may be.
-    fn try_commit_waiting(&mut self) -> Result<(), Stop>
+    fn try_commit_waiting(&mut self) -> Result<Vec<VarChange>, Stop>
         requires { IsKept self.old }
-        ensures { Tries self.old self.new result (made_or (held_seen self.old) (committed_one (held_seen self.old) (held_seen self.old).waiting)) }
+        ensures { TriesToMove self.old self.new result (made_or (held_seen self.old) (committed_one (held_seen self.old) (held_seen self.old).waiting)) }
     {
         match mem::replace(&mut self.waiting, None) {
-            None => Ok(()),
+            None => Ok(Vec::new(self.alloc)),
             Some(waiting) => self.commit_all(&waiting),
         }
     }
 
     /// Commits numbers that waited.
-    fn commit_all(&mut self, waiting: &[Option<i64>]) -> Result<(), Stop>
+    fn commit_all(&mut self, waiting: &[Option<i64>]) -> Result<Vec<VarChange>, Stop>
         requires kept { IsKept self.old }
         requires nothing { waits self.old ≡ None }
         requires waiting { AreWaiting self.old.solver (Some waiting.now) }
-        ensures { Tries self.old self.new result (evaluated (record (held_seen self.old) { assignment = overlaid self.old.solver.assignment waiting.now })) }
+        ensures { TriesToMove self.old self.new result (evaluated (record (held_seen self.old) { assignment = overlaid self.old.solver.assignment waiting.now })) }
     {
         self.solver.keeps_form();
         match moves_of(self.alloc, self.number, waiting) {

@@ -16,6 +16,7 @@ pub mod laws;
 mod objects;
 mod reading;
 mod refusals;
+mod solutions;
 mod solvers;
 mod totals;
 mod waiting;

@@ -8,6 +8,7 @@ ghost use Rattle.comet_meaning.specs.Values as values;
 ghost use Rattle.comet_meaning.specs.Variables.{new_variable};
 ghost use Rattle.run_solvers.specs.Opening.{opened};
 ghost use Rattle.run_solvers.specs.Stopping.{IsEndOrMemory};
+ghost use Rattle.run_solvers.specs.Told.{TellsIn};
 ghost use Rattle.run_solvers.specs.Views.{beginning_seen};
 ghost use Rattle.run_values.specs.Did.{Did, IsFaultOrMemory};
 ghost use Rattle.run_values.specs.Views.{bounds_seen, value_seen};
@@ -17,6 +18,7 @@ use crate::beginning::Beginning;
 use crate::built::Built;
 use crate::held::Held;
 use cbl_base::{Place, RunFault, Text, VarId};
+use ls_events::VarChange;
 use run_values::{Bounds, Stop, Value};
 use std::alloc::Global;
 use std::marker::Model;
@@ -126,9 +128,15 @@ impl Solvers {
 
     /// Gives a variable a number, which waits while a `with` is open. At this place `WrongSolver` where its solver has no
     /// such variable, and then `DefinedVariable` where it has a definition; and else the fault of a closed solver's
-    /// variables where it was met.
-    pub fn assign(&mut self, at: Place, variable: VarId, number: i64) -> Result<(), Stop>
+    /// variables where it was met. Tells what changed.
+    pub fn assign(
+        &mut self,
+        at: Place,
+        variable: VarId,
+        number: i64,
+    ) -> Result<Vec<VarChange>, Stop>
         ensures did { (s : State) → s.solvers ≡ self.old → Did (λ _. tt) result (record s { solvers = self.new }) (assign at variable number s) }
+        ensures told { TellsIn variable.solver self.old self.new result }
         ensures stop { IfErr result IsFaultOrMemory }
     {
         let own = variable.solver as usize;
@@ -139,9 +147,10 @@ impl Solvers {
     }
 
     /// Gives each of two variables the number that the other has, which wait while a `with` is open. The stops are those
-    /// of `assign`, of both variables; `WrongSolver` also where they aren't of one solver.
-    pub fn swap(&mut self, at: Place, x: VarId, y: VarId) -> Result<(), Stop>
+    /// of `assign`, of both variables; `WrongSolver` also where they aren't of one solver. Tells what changed.
+    pub fn swap(&mut self, at: Place, x: VarId, y: VarId) -> Result<Vec<VarChange>, Stop>
         ensures did { (s : State) → s.solvers ≡ self.old → Did (λ _. tt) result (record s { solvers = self.new }) (swap at x y s) }
+        ensures told { TellsIn x.solver self.old self.new result }
         ensures stop { IfErr result IsFaultOrMemory }
     {
         let own = x.solver as usize;
@@ -198,14 +207,15 @@ impl Solvers {
         self.held[number].open_block(at)
     }
 
-    /// Commits what waits in the solver with a number, at the end of the outermost `with`. The stop is the fault of the
-    /// solver's variables where it was met.
-    pub fn commit_waiting(&mut self, number: usize) -> Result<(), Stop>
+    /// Commits what waits in the solver with a number, at the end of the outermost `with`, and tells what changed. The stop
+    /// is the fault of the solver's variables where it was met.
+    pub fn commit_waiting(&mut self, alloc: Global, number: usize) -> Result<Vec<VarChange>, Stop>
         ensures did { (s : State) → s.solvers ≡ self.old → Did (λ _. tt) result (record s { solvers = self.new }) (commit_waiting number s) }
+        ensures told { TellsIn number self.old self.new result }
         ensures stop { IfErr result IsFaultOrMemory }
     {
         if number >= self.held.len() {
-            return Ok(());
+            return Ok(Vec::new(alloc));
         }
         self.held[number].commit_waiting()
     }

@@ -1,6 +1,6 @@
 //! Numbers that wait for the end of a `with`.
-ghost use Rattle.std.specs.Prelude.{◌≡◌, ◌<◌, ◌^◌, Some, None, is_some, option_map, replicate, length, slice_set, IfOk};
-ghost use Rattle.run_solvers.specs.Waiting.{moves_from};
+ghost use Rattle.std.specs.Prelude.{◌≡◌, ◌<◌, ◌^◌, Some, None, is_some, option_map, replicate, length, slice_set, zip, IfOk};
+ghost use Rattle.run_solvers.specs.Waiting.{moves_from, waiting_behind};
 
 use cbl_base::{NoMemory, VarId};
 use std::alloc::Global;
@@ -33,6 +33,27 @@ pub(crate) fn wait_in(waiting: &mut Option<Vec<Option<i64>>>, index: u32, number
             true
         }
         None => false,
+    }
+}
+
+/// The numbers of the variables at as many indices wait, where numbers wait; the last one of a variable counts.
+pub(crate) fn wait_for_all(waiting: &mut Option<Vec<Option<i64>>>, indices: &[u32], numbers: &[i64])
+    requires { length indices.now ≡ length numbers.now }
+    ensures { option_map (λ w. w.items) waiting.new ≡ option_map (λ w. waiting_behind (zip indices.now numbers.now) w.items) waiting.old }
+{
+    match waiting {
+        Some(waiting) => wait_each(waiting, indices, numbers),
+        None => {}
+    }
+}
+
+/// The numbers of the variables at as many indices wait.
+fn wait_each(waiting: &mut Vec<Option<i64>>, indices: &[u32], numbers: &[i64])
+    requires { length indices.now ≡ length numbers.now }
+    ensures { waiting.new.items ≡ waiting_behind (zip indices.now numbers.now) waiting.old.items }
+{
+    for place in 0..indices.len() {
+        wait(waiting, indices[place], numbers[place]);
     }
 }
 

@@ -1,7 +1,9 @@
 pub mod ActLaws
 pub mod ArrayLaws
 pub mod DigitLaws
+pub mod DrawLaws
 pub mod EitherArray
+pub mod OtherValues
 pub mod OwnArrays
 pub mod PrintLaws
 pub mod ReadLaws

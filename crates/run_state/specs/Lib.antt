@@ -3,6 +3,7 @@ pub mod Copies
 pub mod InTerms
 pub mod Numbers
 pub mod Plain
+pub mod SearchActs
 pub mod Shares
 pub mod Stops
 pub mod Targets

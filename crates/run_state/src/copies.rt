@@ -5,13 +5,15 @@ ghost use Rattle.run_state.specs.Views.{state_seen};
 ghost use Rattle.run_values.specs.declared.stop.Stop.TheVariants.{NoMemory};
 
 use crate::state::State;
+use run_search::{Search, copied_moves};
 use run_values::Stop;
 use run_values::cells::{copied_arrays, copied_variables};
 use run_values::values::copied_values;
+use std::alloc::Global;
 
 impl State {
-    /// A copy with this fuel, and without the data and its inputs. `NoMemory` where there is none for it; there is no
-    /// other stop.
+    /// A copy with this fuel, and without the data, its inputs, and what no pure expression sees of a search. `NoMemory` where
+    /// there is none for it; there is no other stop.
     pub fn without_data(&self, fuel: u64) -> Result<State, Stop>
         ensures same { (printed : List ℕ) → IfOk result (λ copy. state_seen copy printed ≡ without_data fuel (state_seen self.now printed)) }
         ensures memory { IfErr result (λ stop. stop ≡ NoMemory) }
@@ -22,6 +24,7 @@ impl State {
         let arrays = copied_arrays(alloc, &self.arrays)?;
         let variable_arrays = copied_variables(alloc, &self.variable_arrays)?;
         let solvers = self.solvers.copied(alloc)?;
+        let moves = copied_moves(alloc, &self.moves)?;
         Ok(State {
             globals,
             frame,
@@ -30,6 +33,8 @@ impl State {
             solvers,
             inputs: Vec::new(alloc),
             data: Vec::new(alloc),
+            moves,
+            search: Search::new(alloc, 0),
             fuel,
             alloc,
         })

@@ -14,12 +14,14 @@ pub mod names;
 pub mod out;
 pub mod printing;
 pub mod reading;
+pub mod searching;
 pub mod standing;
 pub mod state;
 pub mod targets;
 mod words;
 
 pub use out::{Bytes, Out, print};
+pub use run_search::{Closure, Event, Reaction};
 pub use standing::{InTerm, TermCells};
 pub use state::State;
 pub use targets::Target;

@@ -55,6 +55,10 @@ impl State {
             Value::System { .. } => print_plain(out, self.alloc, value),
             Value::Objective { .. } => print_plain(out, self.alloc, value),
             Value::Input(_) => print_plain(out, self.alloc, value),
+            Value::Distribution(_) => print_plain(out, self.alloc, value),
+            Value::Selector(_) => print_plain(out, self.alloc, value),
+            Value::Move(_) => print_plain(out, self.alloc, value),
+            Value::Solution(_) => print_plain(out, self.alloc, value),
         }
     }
 

@@ -3,6 +3,7 @@ ghost use Rattle.std.specs.Prelude.{◌≡◌, []};
 ghost use Rattle.comet_meaning.specs.State.{first_state};
 ghost use Rattle.run_state.specs.Views.{state_seen};
 
+use run_search::{KeptMove, Search};
 use run_solvers::Solvers;
 use run_values::{Cells, Value, VariableCells};
 use std::alloc::Global;
@@ -18,14 +19,17 @@ pub struct State {
     /// For each `InputFile` how many bytes of the data it has read.
     pub(crate) inputs: Vec<usize>,
     pub(crate) data: Vec<u8>,
+    /// What each `MinNeighborSelector` keeps.
+    pub(crate) moves: Vec<Option<KeptMove>>,
+    pub search: Search,
     pub fuel: u64,
     pub alloc: Global,
 }
 
 impl State {
-    /// The state at the start of a run, with this fuel and this data.
-    pub fn new(alloc: Global, fuel: u64, text: Vec<u8>) -> State
-        ensures { state_seen result [] ≡ first_state fuel text.items }
+    /// The state at the start of a run, with this seed, this fuel and this data.
+    pub fn new(alloc: Global, seed: u64, fuel: u64, text: Vec<u8>) -> State
+        ensures { state_seen result [] ≡ first_state seed fuel text.items }
     {
         State {
             globals: Vec::new(alloc),
@@ -35,6 +39,8 @@ impl State {
             solvers: Solvers::new(alloc),
             inputs: Vec::new(alloc),
             data: text,
+            moves: Vec::new(alloc),
+            search: Search::new(alloc, seed),
             fuel,
             alloc,
         }

@@ -15,12 +15,14 @@ use Rattle.comet_meaning.specs.Declarations.{Dimension}
 use Rattle.comet_meaning.specs.Variables.{Beginning}
 use Rattle.comet_meaning.specs.Onward.{GoesOn, IsOnward, left_by}
 use Rattle.comet_meaning.specs.Blocks.{together_in}
-use Rattle.comet_meaning.specs.Outcome.{Act}
+use Rattle.comet_meaning.specs.Outcome.{Act, ◌>>=◌, give}
+use Rattle.comet_meaning.specs.Events.{run_queue}
 use Rattle.comet_meaning.specs.Parts.{solver_at}
 use Rattle.comet_meaning.specs.Solvers.{SolverState}
 use Rattle.comet_meaning.specs.State.{State, left}
 use Rattle.cbl_base.specs.declared.faults.RunFault.TheVariants.{NotClosed}
 use Rattle.comet_meaning.proofs.GoingOn.{goes_then, goes_give, goes_if, goes_at, goes_unless, goes_charge, goes_extent, goes_cell_of, goes_found_at, goes_new_variables, goes_put}
+use Rattle.comet_meaning.proofs.GoingEvents.{goes_noticed, goes_run_queue}
 use Rattle.comet_meaning.proofs.GoingParts.{LevelGoesOn, goes_value, goes_values, goes_read_array, goes_taken_whole}
 use Rattle.comet_meaning.proofs.GoingExpressions.{goes_builtin_value, goes_form}
 use Rattle.comet_meaning.proofs.GoingTerms.{goes_standing}
@@ -82,11 +84,14 @@ goes_made_variables slot ds xs = goes_then (goes_new_variables _) (λ a. goes_pu
 -- blocks
 
 pub goes_closed_block : (k : ℕ) (flow : Flow) → GoesOn (closed_block k flow)
-goes_closed_block k flow = goes_then (goes_commit_waiting k) (λ _. goes_give)
+goes_closed_block k flow = goes_then (goes_noticed k (goes_commit_waiting k)) (λ _. goes_give)
 
-pub goes_block : (l : Level) → LevelGoesOn l → (k : ℕ) (body : Work) (outermost : Bool) → GoesOn (block l k body outermost)
-goes_block l h k body true = goes_then (h.stmt body) (λ flow. goes_closed_block k flow)
-goes_block l h k body false = h.stmt body
+pub goes_queue_behind : (l : Level) → LevelGoesOn l → (at : Place) (flow : Flow) → GoesOn (run_queue l at >>= λ _. give flow)
+goes_queue_behind l h at flow = goes_then (goes_run_queue l h at) (λ _. goes_give)
+
+pub goes_block : (l : Level) → LevelGoesOn l → (at : Place) (k : ℕ) (body : Work) (outermost : Bool) → GoesOn (block l at k body outermost)
+goes_block l h at k body true = goes_then (goes_then (h.stmt body) (λ flow. goes_closed_block k flow)) (λ flow. goes_queue_behind l h at flow)
+goes_block l h at k body false = h.stmt body
 
 goes_opening : (k : ℕ) (m : SolverState) → GoesOn (opening k m)
 goes_opening k m = goes_if (is_some m.waiting) goes_give (goes_then (goes_put_solver k (record m { waiting = Some m.assignment })) (λ _. goes_give {x = true}))
@@ -95,6 +100,6 @@ pub goes_opened : (at : Place) (k : ℕ) → GoesOn (opened at k)
 goes_opened at k = goes_at (λ s. goes_then (goes_unless (solver_at s k).closed at NotClosed) (λ _. goes_opening k (solver_at s k)))
 
 pub goes_together_in : (l : Level) → LevelGoesOn l → (at : Place) (k : ℕ) (body : Work) → GoesOn (together_in l at k body)
-goes_together_in l h at k body = goes_same (λ s. together_law l at k body s) (goes_then (goes_opened at k) (λ b. goes_block l h k body b)) where
+goes_together_in l h at k body = goes_same (λ s. together_law l at k body s) (goes_then (goes_opened at k) (λ b. goes_block l h at k body b)) where
   goes_same : {m n : Act Flow} → ((s : State) → m s ≡ n s) → GoesOn n → GoesOn m
   goes_same e g = record { from = λ s. subst (λ o. IsOnward (left s) (left_by o)) (sym (e s)) (g.from s) }

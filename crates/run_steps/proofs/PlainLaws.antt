@@ -64,6 +64,10 @@ read_plain at (meant.Solver n) s p = elim p [ ]
 read_plain at (meant.System n k) s p = elim p [ ]
 read_plain at (meant.Objective n k) s p = elim p [ ]
 read_plain at (meant.Input n) s p = elim p [ ]
+read_plain at (meant.Distribution b) s p = elim p [ ]
+read_plain at (meant.Selector n) s p = elim p [ ]
+read_plain at (meant.Move n) s p = elim p [ ]
+read_plain at (meant.Solution n) s p = elim p [ ]
 
 value_plain : (c : Code) (room : ℕ) (e : Shape) (s : State) (v : Value) → (level c room).expr e s ≡ Went v s → IsPlain v → value (level c room) e s ≡ Went v s
 unfolding value

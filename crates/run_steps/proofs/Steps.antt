@@ -26,9 +26,9 @@ use Rattle.comet_meaning.specs.Onward.{GoesOn, IsFront, left_by}
 use Rattle.comet_meaning.specs.Printing.{print, shown_form}
 use Rattle.comet_meaning.proofs.GoingOn.{goes_charge, goes_give, goes_new_array, goes_put, goes_then, goes_unless}
 use Rattle.comet_meaning.proofs.GoingParts.{LevelGoesOn, goes_read_array}
-use Rattle.comet_meaning.proofs.GoingStatements.{goes_repeated, goes_end_or}
+use Rattle.comet_meaning.proofs.GoingEvents.{goes_repeated, goes_end_or}
 use Rattle.comet_meaning.proofs.Rows.{DimensionsLeft, PrintsLeft, TasksLeft, dimensions_err, prints_err, tasks_err}
-use Rattle.comet_meaning.proofs.Turns.{TakesFuel, IsLess, repeated_again}
+use Rattle.comet_meaning.proofs.Turns.{TurnTakesFuel, IsLessBefore, repeats_again}
 use Rattle.run_state.specs.Acts.{copied_into, listed}
 use Rattle.run_values.specs.Did.{Did}
 use Rattle.run_values.specs.declared.stop.Stop.{Stop}
@@ -73,9 +73,9 @@ action_goes_on l at d h = refl
 pub record TurnsLeft (at : Place) (turn : Act (Option Flow)) (s : State) (w : Outcome Flow) : Type 0 where
   pub left : repeated at turn s ≡ w
 
-module _ {at : Place} {turn : Act (Option Flow)} {s : State} {w : Outcome Flow} (m : TurnsLeft at turn s w) (k : TakesFuel turn) where
+module _ {at : Place} {turn : Act (Option Flow)} {s : State} {w : Outcome Flow} (m : TurnsLeft at turn s w) (k : TurnTakesFuel turn) where
   turn_at : then_do (turn s) (end_or (repeated at turn)) ≡ w
-  turn_at = sym (repeated_again at turn k s) ∙ m.left
+  turn_at = sym (repeats_again at turn k s) ∙ m.left
 
   pub turn_ends : (flow : Flow) (t : State) → turn s ≡ Went (Some flow) t → w ≡ Went flow t
   turn_ends flow t e = sym turn_at ∙ ap (λ o. then_do o (end_or (repeated at turn))) e
@@ -87,7 +87,7 @@ module _ {at : Place} {turn : Act (Option Flow)} {s : State} {w : Outcome Flow} 
   turn_stops g stop t e = subst (Ends stop t) turn_at (ended_then stop t (turn s) (end_or (repeated at turn)) (λ end. goes_end_or (goes_repeated at g) end) e)
 
   pub turn_spends : (t : State) → turn s ≡ Went None t → t.fuel < s.fuel
-  turn_spends t e = subst (IsLess s) e (k.from s)
+  turn_spends t e = subst (IsLessBefore s) e (k.from s)
 
 -- names of one value
 

@@ -1,6 +1,7 @@
 -- What each statement of the tree is without its pointers.
 use Rattle.std.proofs.Common.{◌≡◌, sym, ap, ◌∙◌, map, Option, option_map}
 use Rattle.std.specs.declared.boxed.Box.{Box}
+use Rattle.std.specs.declared.sync.Arc.{Arc}
 use Rattle.std.specs.declared.alloc.Global.{Global}
 use Rattle.std.specs.declared.vec.Vec.{Vec}
 use Rattle.comet_syntax.specs.declared.tree.expressions.Extreme.{Extreme}
@@ -60,11 +61,11 @@ pub act_select_by : (x : Extreme) (gs : Vec Generator Global) (c : Option Typed)
 unfolding work_of_act work_of
 act_select_by x gs c k b = ap work_of_act (sym (trees.rolls-SelectBy x gs c k b)) ∙ fold-roll-Act Work Work act_layer task_layer (layers.SelectBy x gs c k b)
 
-pub act_neighbor : (k : Typed) (s : Slot) (b : Box Task Global) → work_of_act (trees.Neighbor k s b) ≡ works.submitting (seen k) s (work_of b.value)
+pub act_neighbor : (k : Typed) (s : Slot) (b : Arc (Box Task Global) Global) → work_of_act (trees.Neighbor k s b) ≡ works.submitting (seen k) s (work_of b.value.value)
 unfolding work_of_act work_of
 act_neighbor k s b = ap work_of_act (sym (trees.rolls-Neighbor k s b)) ∙ fold-roll-Act Work Work act_layer task_layer (layers.Neighbor k s b)
 
-pub act_whenever : (v : Typed) (ns : Option EventSlots) (b : Box Task Global) → work_of_act (trees.Whenever v ns b) ≡ works.watching (seen v) ns (work_of b.value)
+pub act_whenever : (v : Typed) (ns : Option EventSlots) (b : Arc (Box Task Global) Global) → work_of_act (trees.Whenever v ns b) ≡ works.watching (seen v) ns (work_of b.value.value)
 unfolding work_of_act work_of
 act_whenever v ns b = ap work_of_act (sym (trees.rolls-Whenever v ns b)) ∙ fold-roll-Act Work Work act_layer task_layer (layers.Whenever v ns b)
 

@@ -8,6 +8,7 @@ use Rattle.comet_meaning.specs.State.{State}
 use Rattle.comet_meaning.specs.Outcome.{Outcome, Went, Act, then_do}
 use Rattle.comet_meaning.specs.Levels.{Level, Flow}
 use Rattle.comet_meaning.specs.Aggregates.{Element}
+use Rattle.comet_meaning.specs.Candidates.{Candidate}
 use Rattle.comet_meaning.specs.TermForms.{Keyed}
 use Rattle.comet_meaning.specs.Values as values
 use Rattle.comet_meaning.specs.Generators.{Bound}
@@ -47,16 +48,19 @@ stack_seen t = pending_seen t.top ∷ rests_seen t.below.items
 abbrev pub SameLeft : odometer.Pending → odometer.Pending → Type 0
 SameLeft p q = (p ≡ q) ⊎ ((next_of p ≡ None) × (next_of q ≡ None))
 
--- what is made over tuples: the elements of an aggregate, in a term the bodies of one, or how a statement ends
+-- what is made over tuples: the elements of an aggregate, in a term the bodies of one, how a statement ends, or the
+-- candidates of a selector
 pub data Made : Type 0 where
   elements : Made
   bodies : Made
   flow : Made
+  candidates : Made
 
 abbrev pub made_of : Made → Type 0
 made_of elements = List Element
 made_of bodies = List Keyed
 made_of flow = Flow
+made_of candidates = List Candidate
 
 -- what is done with tuples, what was made so far, and the outcome of all
 pub record Visits : Type 0 where

@@ -12,6 +12,7 @@ use Rattle.checked_tree.specs.Actions.{Varying}
 use Rattle.checked_tree.specs.Shape.{Seen, Shape, whole}
 use Rattle.comet_meaning.specs.Builtins.{builtin_value}
 use Rattle.comet_meaning.specs.Blocks.{commit_waiting}
+use Rattle.comet_meaning.specs.Changes.{noticed}
 use Rattle.comet_meaning.specs.Cells.{look, new_array, new_variables, put}
 use Rattle.comet_meaning.specs.Declarations.{Dimension, array_of}
 use Rattle.comet_meaning.specs.Methods.{method_value}
@@ -94,4 +95,4 @@ stepped_target at x t = old_value t >>= λ old. changed at t (stepped x (number_
 
 -- the end of the outermost `with` on a solver, whose body ended so
 abbrev pub closed_block : ℕ → Flow → Act Flow
-closed_block k flow = commit_waiting k >>= λ _. give flow
+closed_block k flow = noticed k (commit_waiting k) >>= λ _. give flow

@@ -7,9 +7,11 @@ ghost use Rattle.comet_meaning.specs.Levels as levels;
 ghost use Rattle.comet_meaning.specs.Models.{make_solver};
 ghost use Rattle.comet_meaning.specs.Outcome.{give};
 ghost use Rattle.comet_meaning.specs.State as states;
+ghost use Rattle.comet_meaning.specs.Moves.{make_selector};
+ghost use Rattle.comet_meaning.specs.Solutions.{make_solution};
 ghost use Rattle.comet_meaning.specs.Systems.{make_objective, make_sum, make_system};
 ghost use Rattle.comet_meaning.specs.Values as values;
-ghost use Rattle.comet_meaning.specs.Values.{as_kind, number_of, solver_of};
+ghost use Rattle.comet_meaning.specs.Values.{as_kind, bounds_of, number_of, solver_of};
 ghost use Rattle.comet_meaning.specs.Writes as writes;
 ghost use Rattle.run_state.specs.Acts.{listed, shown};
 ghost use Rattle.run_state.specs.Targets.{target_seen};
@@ -29,8 +31,8 @@ use cbl_base::{Place, VarId};
 use checked_tree::{Kind, Slot};
 use comet_syntax::tree::Step;
 use run_objects::{
-    added, define, make_objective, make_solver, make_sum, make_system, stepped, subtracted, swap,
-    write,
+    added, define, make_objective, make_solution, make_solver, make_sum, make_system, stepped,
+    subtracted, swap, write,
 };
 use run_solvers::Built;
 use run_state::{Out, State, Target};
@@ -354,6 +356,33 @@ pub fn objective_made(s: &mut State, at: Place, term: Result<Built, Stop>) -> Re
     match term {
         Err(stop) => Err(stop),
         Ok(term) => make_objective(s, at, term),
+    }
+}
+
+/// A new selector, which keeps nothing.
+pub fn selector_made(s: &mut State) -> Result<Value, Stop>
+    ensures did { (printed : List ℕ) → Does value_seen result (state_seen s.new printed) (make_selector (state_seen s.old printed)) }
+{
+    s.make_selector()
+}
+
+/// A new distribution over a range.
+pub fn distribution_made(range: Result<Value, Stop>) -> Result<Value, Stop>
+    ensures did { (s : states.State) → Follows value_seen value_seen range result s s (λ v. give (values.Distribution (bounds_of v))) }
+{
+    match range {
+        Err(stop) => Err(stop),
+        Ok(range) => Ok(Value::Distribution(range.bounds())),
+    }
+}
+
+/// A new solution of a solver.
+pub fn solution_made(s: &mut State, at: Place, solver: Result<Value, Stop>) -> Result<Value, Stop>
+    ensures did { (printed : List ℕ) → Follows value_seen value_seen solver result (state_seen s.old printed) (state_seen s.new printed) (λ v. make_solution at (solver_of v)) }
+{
+    match solver {
+        Err(stop) => Err(stop),
+        Ok(solver) => make_solution(s, at, &solver),
     }
 }
 

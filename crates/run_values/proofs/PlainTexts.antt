@@ -2,7 +2,7 @@
 use Rattle.std.proofs.Common.{◌≡◌, Bool, true, false, refl}
 use Rattle.std.proofs.lemmas.Bool.{both_ways}
 use Rattle.cbl_base.specs.declared.place.Place.{Place}
-use Rattle.comet_meaning.specs.Values.{Value, Nothing, Number, Truth, Range, Set, Array, Row, Variable, Variables, Solver, System, Objective, Input}
+use Rattle.comet_meaning.specs.Values.{Value, Nothing, Number, Truth, Range, Set, Array, Row, Variable, Variables, Solver, System, Objective, Input, Distribution, Selector, Move, Solution}
 use Rattle.comet_meaning.specs.Outcome.{give}
 use Rattle.comet_meaning.specs.Printing.{value_text}
 use Rattle.run_values.specs.Texts.{plain_text}
@@ -25,6 +25,10 @@ value_text-plain at (Solver m) e = refl
 value_text-plain at (System m k) e = refl
 value_text-plain at (Objective m k) e = refl
 value_text-plain at (Input k) e = refl
+value_text-plain at (Distribution b) e = refl
+value_text-plain at (Selector n) e = refl
+value_text-plain at (Move n) e = refl
+value_text-plain at (Solution n) e = refl
 value_text-plain at (Array n) e = absurd (both_ways true e refl)
 value_text-plain at (Row xs) e = absurd (both_ways true e refl)
 value_text-plain at (Variables n) e = absurd (both_ways true e refl)

@@ -9,7 +9,7 @@ use Rattle.run_values.specs.declared.values.Cells.{Cells}
 use Rattle.run_values.specs.declared.values.Extent.{Extent}
 use Rattle.run_values.specs.declared.values.Value.{Value}
 use Rattle.run_values.specs.declared.values.VariableCells.{VariableCells}
-use Rattle.run_values.specs.declared.values.Value.TheVariants.{Nothing, Number, Truth, Range, Set, Array, Row, Variable, Variables, Solver, System, Objective, Input}
+use Rattle.run_values.specs.declared.values.Value.TheVariants.{Nothing, Number, Truth, Range, Set, Array, Row, Variable, Variables, Solver, System, Objective, Input, Distribution, Selector, Move, Solution}
 
 abbrev pub bounds_seen : Bounds → values.Bounds
 bounds_seen b = record { low = b.low; up = b.up }
@@ -28,6 +28,10 @@ value_seen (Solver m) = values.Solver m
 value_seen (System m k) = values.System m k
 value_seen (Objective m k) = values.Objective m k
 value_seen (Input k) = values.Input k
+value_seen (Distribution b) = values.Distribution (bounds_seen b)
+value_seen (Selector n) = values.Selector n
+value_seen (Move n) = values.Move n
+value_seen (Solution n) = values.Solution n
 
 abbrev pub cells_seen : Cells → states.Cells
 cells_seen c = record { rows = bounds_seen c.rows; columns = option_map bounds_seen c.columns; numbers = c.numbers.items }

@@ -47,6 +47,12 @@ pub enum Value {
     /// An objective or a sum of terms, likewise.
     Objective { solver: u32, index: u32 },
     Input(usize),
+    /// The numbers that a distribution gives.
+    Distribution(Bounds),
+    /// A `MinNeighborSelector`, and the move that it keeps.
+    Selector(usize),
+    Move(usize),
+    Solution(usize),
 }
 
 /// An array of numbers with one dimension or two, row by row.
@@ -102,6 +108,10 @@ impl Value {
                 index: *index,
             }),
             Value::Input(input) => Ok(Value::Input(*input)),
+            Value::Distribution(bounds) => Ok(Value::Distribution(*bounds)),
+            Value::Selector(selector) => Ok(Value::Selector(*selector)),
+            Value::Move(selector) => Ok(Value::Move(*selector)),
+            Value::Solution(solution) => Ok(Value::Solution(*solution)),
         }
     }
 

@@ -11,6 +11,7 @@ pub mod MarkLaws
 pub mod PlanLaws
 pub mod FreshLaws
 pub mod ChangeLaws
+pub mod FreeLaws
 pub mod ReadLaws
 pub mod DefineLaws
 pub mod AddLaws

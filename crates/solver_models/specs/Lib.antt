@@ -3,6 +3,7 @@ pub mod Changes
 pub mod Declaring
 pub mod Defining
 pub mod Dependencies
+pub mod FreeVariables
 pub mod Ids
 pub mod Kept
 pub mod KeptChanges
@@ -13,3 +14,4 @@ pub mod Replying
 pub mod State
 pub mod Telling
 pub mod Totals
+pub mod Unmarked

@@ -2,8 +2,8 @@
 ghost use Rattle.std.specs.Prelude.{◌≡◌, ◌<◌, true};
 
 use cbl_base::limits::MAX_VARIABLES;
-use cbl_base::{Limit, Place, RunFault, Steps, VarId};
-use ls_events::VarChange;
+use cbl_base::{Limit, Numbers, Place, RunFault, Steps, VarId};
+use ls_events::{Solution, VarChange};
 use ls_solver::{Solver, SolverFault};
 use std::alloc::Global;
 use std::marker::Brand;
@@ -190,6 +190,44 @@ fn commit(
     commit_by::<Brand>(Blank::new(1), solver, x, number)
 }
 
+fn snapshot(solver: &Solver) -> Result<Result<Solution, SolverFault>, Fail> {
+    if !solver.usable() {
+        return none();
+    }
+    Ok(solver.snapshot())
+}
+
+fn restore_by<L: Ledger>(
+    blank: Blank,
+    solver: &mut Solver,
+    solution: &Solution,
+) -> Result<Result<Vec<VarChange>, SolverFault>, Fail>
+    requires name { blank.name ≡ L.name }
+    requires parts { blank.parts ≡ L.parts }
+    requires some { 0 < L.parts }
+{
+    if !solver.usable() {
+        return none();
+    }
+    let mut steps = Steps::<L>::new(blank);
+    Ok(solver.restore(solution, &mut steps))
+}
+
+fn restore(
+    solver: &mut Solver,
+    solution: &Solution,
+) -> Result<Result<Vec<VarChange>, SolverFault>, Fail> {
+    restore_by::<Brand>(Blank::new(1), solver, solution)
+}
+
+// A solution of the solver with a number.
+fn solution_of(alloc: Global, solver: u32, values: &[i64]) -> Result<Solution, Fail> {
+    match Numbers::from_slice(alloc, values) {
+        Ok(values) => Ok(Solution { solver, values }),
+        Err(_) => none(),
+    }
+}
+
 // ---- steps
 // A call, with what it must answer.
 #[derive(Clone, Copy)]
@@ -206,6 +244,13 @@ enum Step<'a> {
     Commit(VarId, i64, &'a [VarChange]),
     // a commit that is refused
     Refused(VarId, i64, RunFault),
+    // a solution, with its values
+    Keep(&'a [i64]),
+    Unkept(RunFault),
+    // these values restored
+    Restore(&'a [i64], &'a [VarChange]),
+    // a solution of the solver with a number that isn't
+    Unrestored(u32, &'a [i64], End),
     Usable(bool),
 }
 
@@ -230,6 +275,37 @@ fn has_value(solver: &Solver, x: VarId, wanted: i64) -> Result<bool, Fail> {
     }
 }
 
+fn keeps(solver: &Solver, wanted: &[i64]) -> Result<bool, Fail> {
+    match snapshot(solver)? {
+        Ok(solution) => Ok(solution.solver == 4 && solution.values.as_slice() == wanted),
+        Err(_) => Ok(false),
+    }
+}
+
+fn restores(
+    alloc: Global,
+    solver: &mut Solver,
+    values: &[i64],
+    wanted: &[VarChange],
+) -> Result<bool, Fail> {
+    let solution = solution_of(alloc, 4, values)?;
+    match restore(solver, &solution)? {
+        Ok(changes) => Ok(changes.as_slice() == wanted),
+        Err(_) => Ok(false),
+    }
+}
+
+fn stays(
+    alloc: Global,
+    solver: &mut Solver,
+    number: u32,
+    values: &[i64],
+    wanted: End,
+) -> Result<bool, Fail> {
+    let solution = solution_of(alloc, number, values)?;
+    Ok(ended(restore(solver, &solution)?) == wanted)
+}
+
 fn holds(alloc: Global, solver: &mut Solver, step: Step) -> Result<bool, Fail> {
     match step {
         Step::New(start, wanted) => Ok(new_var(solver, start)? == wanted),
@@ -242,6 +318,10 @@ fn holds(alloc: Global, solver: &mut Solver, step: Step) -> Result<bool, Fail> {
         Step::Refused(x, number, fault) => {
             Ok(ended(commit(solver, x, number)?) == End::Refused(fault))
         }
+        Step::Keep(wanted) => keeps(solver, wanted),
+        Step::Unkept(fault) => Ok(ended(snapshot(solver)?) == End::Refused(fault)),
+        Step::Restore(values, wanted) => restores(alloc, solver, values, wanted),
+        Step::Unrestored(number, values, wanted) => stays(alloc, solver, number, values, wanted),
         Step::Usable(wanted) => Ok(solver.usable() == wanted),
     }
 }
@@ -354,6 +434,76 @@ const FAULT: &[Step<'static>] = &[
 #[test]
 fn fault_ends(rt: HostRuntime) -> Result<(), Fail> {
     hold(rt.alloc(), &mut Solver::new(rt.alloc(), 4), FAULT)
+}
+
+const OPEN: End = End::Refused(RunFault::NotClosed);
+
+const FORTH: &[VarChange] = &[
+    VarChange {
+        var: X,
+        old: 3,
+        new: 8,
+    },
+    VarChange {
+        var: Y,
+        old: 10,
+        new: 65,
+    },
+];
+
+const BACK: &[VarChange] = &[
+    VarChange {
+        var: X,
+        old: 8,
+        new: 3,
+    },
+    VarChange {
+        var: Y,
+        old: 65,
+        new: 10,
+    },
+];
+
+// y follows x, and z stays.
+const SOLUTIONS: &[Step<'static>] = &[
+    Step::New(3, End::Done),
+    Step::New(0, End::Done),
+    Step::New(5, End::Done),
+    Step::Define(Y, Shape::SquareAndOne(X), End::Done),
+    Step::Unkept(RunFault::NotClosed),
+    Step::Unrestored(5, &[1], OPEN),
+    Step::Close(End::Done),
+    Step::Keep(&[3, 5]),
+    Step::Commit(X, 8, FORTH),
+    Step::Keep(&[8, 5]),
+    Step::Restore(&[3, 5], BACK),
+    Step::Restore(&[3, 5], &[]),
+    Step::Unrestored(5, &[1, 2], WRONG),
+    Step::Unrestored(4, &[1], WRONG),
+    Step::Unrestored(4, &[1, 2, 3], WRONG),
+    Step::Keep(&[3, 5]),
+];
+
+// A solution keeps the free variables in order of declaration, and restoring it tells only what changed. It is refused
+// first for the solver's state, and then where it is another solver's or has another number of values.
+#[test]
+fn solutions_are_kept_and_restored(rt: HostRuntime) -> Result<(), Fail> {
+    hold(rt.alloc(), &mut Solver::new(rt.alloc(), 4), SOLUTIONS)
+}
+
+const FAULT_BEHIND: &[Step<'static>] = &[
+    Step::New(0, End::Done),
+    Step::New(0, End::Done),
+    Step::Define(Y, Shape::TwiceLessOnce(X), End::Done),
+    Step::Close(End::Done),
+    Step::Unrestored(4, &[9_223_372_036_854_775_807], OVERFLOW),
+    Step::Usable(false),
+];
+
+// A fault is the end of the solver here, too.
+#[test]
+fn fault_ends_a_restore(rt: HostRuntime) -> Result<(), Fail> {
+    hold(rt.alloc(), &mut Solver::new(rt.alloc(), 4), FAULT_BEHIND)
 }
 
 const DEEP: &[Step<'static>] = &[

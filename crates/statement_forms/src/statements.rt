@@ -28,6 +28,9 @@ use run_steps::effects::{as_done, as_next, as_returned};
 use run_steps::inside::{Around, Within};
 use run_steps::leaves::returned;
 use run_values::Stop;
+use search_forms::{
+    call_move, execute_neighbor, execute_select, execute_select_by, execute_whenever,
+};
 
 /// How many statements and expressions may be executed inside each other.
 const MOST_DEPTH: u32 = 1000;
@@ -66,10 +69,30 @@ pub fn execute_act<O: Out, W: Around<O>>(
             condition,
             body,
         } => execute_for_all(s, out, inside, at, generators, condition, body),
-        Act::Select { .. } => Ok(Flow::Next),
-        Act::SelectBy { .. } => Ok(Flow::Next),
-        Act::Neighbor { .. } => Ok(Flow::Next),
-        Act::Whenever { .. } => Ok(Flow::Next),
+        Act::Select {
+            generators,
+            condition,
+            body,
+        } => execute_select(s, out, inside, at, generators, condition, body),
+        Act::SelectBy {
+            extreme,
+            generators,
+            condition,
+            key,
+            body,
+        } => execute_select_by(
+            s, out, inside, at, *extreme, generators, condition, key, body,
+        ),
+        Act::Neighbor {
+            key,
+            selector,
+            body,
+        } => execute_neighbor(s, out, inside, key, *selector, body),
+        Act::Whenever {
+            variable,
+            names,
+            body,
+        } => execute_whenever(s, out, inside, variable, *names, body),
         Act::With { solver, body, .. } => execute_together(s, out, inside, at, *solver, body),
         Act::Parall { .. } => Ok(Flow::Next),
     }
@@ -208,7 +231,7 @@ pub(crate) fn perform<O: Out, W: Around<O>>(
         Action::Swap { left, right } => swap_values(s, out, inside, at, left, right),
         Action::Step { target, step } => step_target(s, out, inside, at, *step, target),
         Action::Do(e) => as_done(value_of(s, out, inside, e)),
-        Action::Choose(_) => Ok(()),
+        Action::Choose(e) => call_move(s, out, inside, e),
         Action::Print(items) => print_all(s, out, inside, items),
         Action::Return(_) => Ok(()),
     }

@@ -1,4 +1,4 @@
-//! `with`: what is assigned in its body waits, and the end of the outermost one on a solver commits it.
+//! `with`: what is assigned in its body waits, and the end of the outermost one on a solver commits it, and handlers run behind that.
 ghost use Rattle.std.specs.Prelude.{◌≡◌, ℕ, List};
 ghost use Rattle.checked_tree.specs.Tasks.{work_of};
 ghost use Rattle.comet_meaning.specs.Blocks.{together_form};
@@ -12,6 +12,7 @@ ghost use Rattle.run_values.specs.Views.{value_seen};
 
 use cbl_base::Place;
 use checked_tree::{Slot, Task};
+use event_forms::behind_block;
 use run_objects::open_with;
 use run_state::{Out, State};
 use run_steps::blocks::commit_part;
@@ -33,7 +34,7 @@ pub(crate) fn execute_together<O: Out, W: Within<O>>(
 {
     let solver = s.look(slot)?;
     let outermost = open_with(s, at, &solver)?;
-    execute_inside(s, out, inside, &solver, outermost, body)
+    execute_inside(s, out, inside, at, &solver, outermost, body)
 }
 
 /// The body, and its end where it is that of the outermost `with` on its solver.
@@ -41,16 +42,18 @@ fn execute_inside<O: Out, W: Within<O>>(
     s: &mut State,
     out: &mut O,
     inside: &W,
+    at: Place,
     solver: &Value,
     outermost: bool,
     body: &Task,
 ) -> Result<Flow, Stop>
     requires ready { W.is_ready inside.now }
-    ensures did { Does flow_seen result (state_seen s.new (O.taken out.new)) (block (level (W.code inside.now) (W.depth inside.now)) (solver_of (value_seen solver.now)) (work_of body.now) outermost (state_seen s.old (O.taken out.old))) }
+    ensures did { Does flow_seen result (state_seen s.new (O.taken out.new)) (block (level (W.code inside.now) (W.depth inside.now)) at (solver_of (value_seen solver.now)) (work_of body.now) outermost (state_seen s.old (O.taken out.old))) }
 {
     let flow = inside.execute(s, out, body);
     if outermost {
-        commit_part(s, solver, flow)
+        let committed = commit_part(s, solver, flow);
+        behind_block(s, out, inside, at, committed)
     } else {
         flow
     }

@@ -19,6 +19,7 @@ use checked_tree::{Kind, Slot, Typed};
 use comet_syntax::tree::{Step, WriteOperator};
 use declaration_forms::evaluating::expressions::{number_of, other_value_of, value_of};
 use declaration_forms::evaluating::parts::single_term;
+use event_forms::behind_commit;
 use run_state::{Out, State, Target};
 use run_steps::effects::{add_part, assign_part, define_part, step_part, subtract_part, swap_part};
 use run_steps::inside::{Around, Within};
@@ -126,7 +127,8 @@ fn assign_any<O: Out, W: Around<O>>(
     let kind = target.kind;
     let target = target_of(s, out, inside, target)?;
     let value = value_of(s, out, inside, value);
-    assign_part(s, at, kind, &target, value)
+    let done = assign_part(s, at, kind, &target, value);
+    behind_commit(s, out, inside, at, &target, done)
 }
 
 /// `target += value`
@@ -198,12 +200,14 @@ pub(crate) fn swap_values<O: Out, W: Around<O>>(
     left: &Typed,
     right: &Typed,
 ) -> Result<(), Stop>
+    requires ready { W.is_ready inside.now }
     requires locates { W.can_locate inside.now }
     ensures did { Does (λ _. tt) result (state_seen s.new (O.taken out.new)) (swap_form (level (W.code inside.now) (W.depth inside.now)) at (seen left.now) (seen right.now) (state_seen s.old (O.taken out.old))) }
 {
     let left = target_of(s, out, inside, left)?;
     let right = target_of(s, out, inside, right);
-    swap_part(s, at, &left, right)
+    let done = swap_part(s, at, &left, right);
+    behind_commit(s, out, inside, at, &left, done)
 }
 
 /// `target++` and `target--`

@@ -1,4 +1,4 @@
--- A pure expression that is evaluated apart, in a copy without data and over an output of its own, has its value in the
+-- A pure expression that is evaluated apart, in a copy without data, with another search, and over an output of its own, has its value in the
 -- state itself.
 use Rattle.std.proofs.Common.{◌≡◌, ◌∙◌, ap, subst, sym}
 use Rattle.std.specs.Prelude.{ℕ, Bool, true, List, [], Result, Ok, Err}
@@ -31,7 +31,7 @@ apart fuel s = without_data fuel (record s { printed = [] })
 
 -- what it leaves out
 abbrev outside_of : State → Outside
-outside_of s = record { inputs = s.inputs; data_text = s.data_text; printed = s.printed }
+outside_of s = record { inputs = s.inputs; data_text = s.data_text; search = s.search; printed = s.printed }
 
 given : (s : State) (fuel : ℕ) (r : Result Value Stop) (t : State) (o : Outcome values.Value) →
     IsSpent (apart fuel s) o → Does value_seen r t o → Gives (answer_seen r) (with_fuel t.fuel s) (leaving (outside_of s) o)

@@ -82,7 +82,7 @@ fn products(alloc: Global) -> Result<Typed, AllocError> {
 
 /// A state in which `n` is 3 and `a` has the cells 5, 6 and 7.
 fn state(alloc: Global) -> Result<State, Stop> {
-    let mut s = State::new(alloc, 0, Vec::new(alloc));
+    let mut s = State::new(alloc, 0, 0, Vec::new(alloc));
     s.put(N, Value::Number(3))?;
     let cells = Cells::row(Vec::from_array(alloc, [5, 6, 7])?);
     let array = s.new_array(cells)?;

@@ -6,6 +6,7 @@ ghost use Rattle.tree_makers.specs.Makes.{Makes};
 
 use checked_tree::stop::Stop;
 use std::alloc::Global;
+use std::sync::Arc;
 
 /// A part in a box, beside another one as it was.
 pub(crate) fn box_beside<K: Drop, T: Drop>(
@@ -17,6 +18,19 @@ pub(crate) fn box_beside<K: Drop, T: Drop>(
     ensures boxed { Makes (λ p. p.1.value) result part }
 {
     let part = Box::new(alloc, part)?;
+    Ok((kept, part))
+}
+
+/// A part that is shared, beside another one as it was.
+pub(crate) fn share_beside<K: Drop, T: Drop>(
+    alloc: Global,
+    kept: K,
+    part: T,
+) -> Result<(K, Arc<T>), Stop>
+    ensures kept { Makes (λ p. p.0) result kept }
+    ensures shared { Makes (λ p. p.1.value) result part }
+{
+    let part = Arc::new(alloc, part)?;
     Ok((kept, part))
 }
 

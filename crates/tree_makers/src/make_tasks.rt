@@ -6,6 +6,7 @@ ghost use Rattle.checked_tree.specs.Actions.{deed_of};
 ghost use Rattle.checked_tree.specs.Tasks as works;
 ghost use Rattle.checked_tree.specs.Tasks.{row_of, work_of, counter_of};
 
+use crate::boxes::share_beside;
 use cbl_base::Place;
 use checked_tree::expressions::{Generator, Slot, Typed};
 use checked_tree::statements::{Act, Action, Counter, EventSlots, Task};
@@ -158,36 +159,45 @@ pub fn make_select_by(
 }
 
 #[tactic(auto, unfolding(checked_tree::specs::Tasks::work_of_act, checked_tree::specs::Tasks::work_of))]
-pub fn make_neighbor(place: Place, key: Typed, selector: Slot, body: Box<Task>) -> Task
-    ensures { work_of result ≡ works.task place (works.submitting (seen key) selector (work_of body.value)) }
+pub fn make_neighbor(
+    alloc: Global,
+    place: Place,
+    key: Typed,
+    selector: Slot,
+    body: Box<Task>,
+) -> Result<Task, Stop>
+    ensures { Makes work_of result (works.task place (works.submitting (seen key) selector (work_of body.value))) }
 {
-    Task {
+    let (key, body) = share_beside(alloc, key, body)?;
+    Ok(Task {
         place,
         act: Act::Neighbor {
             key,
             selector,
             body,
         },
-    }
+    })
 }
 
 #[tactic(auto, unfolding(checked_tree::specs::Tasks::work_of_act, checked_tree::specs::Tasks::work_of))]
 pub fn make_whenever(
+    alloc: Global,
     place: Place,
     variable: Typed,
     names: Option<EventSlots>,
     body: Box<Task>,
-) -> Task
-    ensures { work_of result ≡ works.task place (works.watching (seen variable) names (work_of body.value)) }
+) -> Result<Task, Stop>
+    ensures { Makes work_of result (works.task place (works.watching (seen variable) names (work_of body.value))) }
 {
-    Task {
+    let (variable, body) = share_beside(alloc, variable, body)?;
+    Ok(Task {
         place,
         act: Act::Whenever {
             variable,
             names,
             body,
         },
-    }
+    })
 }
 
 #[tactic(auto, unfolding(checked_tree::specs::Tasks::work_of_act, checked_tree::specs::Tasks::work_of))]

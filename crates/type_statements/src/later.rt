@@ -39,7 +39,7 @@ pub(crate) fn check_neighbor<W: Within>(
     let slot = write_name(checker, place, Kind::Selector, fit, selector, scope);
     let (key, slot) = beside(key, slot)?;
     let (key, body) = beside(key, check_own(checker, apart(scope), inside, body))?;
-    Ok(make_neighbor(place, key, slot, body))
+    make_neighbor(checker.alloc(), place, key, slot, body)
 }
 
 #[tactic(auto, unfolding(crate::specs::Statements::with_form))]
@@ -79,7 +79,7 @@ pub(crate) fn check_whenever<W: Within>(
     let (variable, slots) = beside(variable, declare_events(checker, at, &watched.names))?;
     let (variable, body) = beside(variable, check_own(checker, at, inside, body))?;
     checker.close(count);
-    Ok(make_whenever(place, variable, slots, body))
+    make_whenever(checker.alloc(), place, variable, slots, body)
 }
 
 #[tactic(auto, unfolding(crate::specs::Statements::parall_form, crate::specs::Statements::parall_within, crate::specs::Statements::within_own))]

@@ -1,4 +1,4 @@
-use Rattle.std.proofs.Common.{◌≡◌, sym, subst, arith, length}
+use Rattle.std.proofs.Common.{sym, subst, arith}
 use Rattle.comet_meaning.specs.Program.{level}
 use Rattle.run_state.specs.Views.{state_seen}
 use Rattle.run_steps.specs.Does.{Does}

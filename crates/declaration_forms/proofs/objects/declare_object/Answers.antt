@@ -22,5 +22,17 @@ pub returns-in-Objective : goal.returns-in-Objective
 unfolding object_form
 returns-in-Objective g c = record { did = rw c.in-Objective.is (c.put_made-in-Objective.ensures.did _ _ c.new_objective-made.ensures.did) }
 
+pub returns-in-Distribution : goal.returns-in-Distribution
+unfolding object_form
+returns-in-Distribution g c = record { did = rw c.in-Distribution.is (c.put_made-in-Distribution.ensures.did _ _ c.new_distribution-made.ensures.did) }
+
+pub returns-in-Selector : goal.returns-in-Selector
+unfolding object_form
+returns-in-Selector g c = record { did = rw c.in-Selector.is (c.put_made-in-Selector.ensures.did _ _ (c.selector_made-made.ensures.did _)) }
+
+pub returns-in-Solution : goal.returns-in-Solution
+unfolding object_form
+returns-in-Solution g c = record { did = rw c.in-Solution.is (c.put_made-in-Solution.ensures.did _ _ c.new_solution-made.ensures.did) }
+
 pub returns-in_default : goal.returns-in_default
-returns-in_default g c = record { did = object_of_others _ _ _ _ _ _ c.in_default.not-Solver c.in_default.not-Input c.in_default.not-System c.in_default.not-Total c.in_default.not-Objective }
+returns-in_default g c = record { did = object_of_others _ _ _ _ _ _ c.in_default.not-Solver c.in_default.not-Input c.in_default.not-System c.in_default.not-Total c.in_default.not-Objective c.in_default.not-Distribution c.in_default.not-Selector c.in_default.not-Solution }

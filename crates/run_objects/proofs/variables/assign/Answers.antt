@@ -1,9 +1,16 @@
--- What the solvers do is done to the state that has them.
-use Rattle.std.proofs.Common.{◌≡◌, refl, w64, to_z, of_z, rules}
+-- What the solvers do is done to the state that has them, and what it changes is queued.
+use Rattle.std.proofs.Common.{◌≡◌, refl, sym, ◌∙◌, w64, to_z, of_z, rules}
+use Rattle.comet_meaning.specs.Models.{assign}
 use Rattle.run_state.specs.Views.{state_seen}
+use Rattle.run_objects.proofs.NoticeLaws.{noticed_so, noticed_stopped}
 use Rattle.run_objects.proofs.variables.assign.Goals as goal
 
-pub returns-clause-did : goal.returns-clause-did
-returns-clause-did c = λ printed.
+pub returns-in-Ok-clause-did : goal.returns-in-Ok-clause-did
+returns-in-Ok-clause-did c = λ printed.
     let same : to_z w64 (of_z w64 c.args.number) ≡ c.args.number = search rules in
-    rw same at (c.assign.ensures.did (state_seen c.args.s.now printed) refl)
+    noticed_so c.args.variable.solver (assign c.args.at c.args.variable c.args.number) (state_seen c.args.s.now printed) _ _ _ (rw same at (c.in-Ok.ensures.did (state_seen c.args.s.now printed) refl)) (c.notice.ensures.did printed c.args.variable.solver _ (c.deref.ensures.value ∙ c.in-Ok.ensures.told))
+
+pub returns-in-Err-clause-did : goal.returns-in-Err-clause-did
+returns-in-Err-clause-did c = λ printed.
+    let same : to_z w64 (of_z w64 c.args.number) ≡ c.args.number = search rules in
+    noticed_stopped c.args.variable.solver (assign c.args.at c.args.variable c.args.number) (state_seen c.args.s.now printed) c.in-Err.stop _ (rw same at (c.in-Err.ensures.did (state_seen c.args.s.now printed) refl))

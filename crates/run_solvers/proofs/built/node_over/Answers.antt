@@ -1,7 +1,6 @@
 -- The operation is no deeper than a term may be, or it is refused.
-use Rattle.std.proofs.Common.{◌≡◌, suc, refl, sym, ◌∙◌, ap, arith}
-use Rattle.comet_meaning.specs.TermForms.{node_form}
-use Rattle.run_solvers.proofs.BuiltLaws.{node_built, node_depth, node_seen}
+use Rattle.std.proofs.Common.{arith}
+use Rattle.run_solvers.proofs.BuiltLaws.{node_built}
 use Rattle.run_solvers.proofs.NodeLaws.{node_deep, node_made}
 use Rattle.run_solvers.proofs.built.node_over.Goals as goal
 

@@ -1,5 +1,4 @@
 -- One more term in the row.
-use Rattle.std.proofs.Common.{sym}
 use Rattle.run_solvers.proofs.BuiltLaws.{more_built}
 use Rattle.run_solvers.proofs.built.push_built.Goals as goal
 

@@ -1,5 +1,5 @@
 -- A variable without a name has no byte.
-use Rattle.std.proofs.Common.{◌≡◌, ℕ, zero, suc, List, [], ◌∷◌, Option, Some, None, refl, rules, slice_get}
+use Rattle.std.proofs.Common.{◌≡◌, ℕ, zero, suc, List, [], ◌∷◌, Some, None, refl, rules, slice_get}
 use Rattle.std.specs.Prelude.{slice_index_or}
 use Rattle.run_solvers.proofs.refusals.name_at.Goals as goal
 

@@ -1,4 +1,5 @@
-use Rattle.comet_meaning.proofs.GoingStatements.{goes_level, goes_repeated, goes_step, goes_turn}
+use Rattle.comet_meaning.proofs.GoingEvents.{goes_repeated}
+use Rattle.comet_meaning.proofs.GoingStatements.{goes_level, goes_step, goes_turn}
 use Rattle.std.proofs.lemmas.Result.{err_from_is_err_and}
 use Rattle.comet_meaning.specs.Loops.{for_form}
 use Rattle.run_steps.proofs.Steps.{referred}

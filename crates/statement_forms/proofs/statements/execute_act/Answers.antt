@@ -34,19 +34,19 @@ returns-in-ForAll g c = record { did = rw (c.in-ForAll.is, act_for_all _ _ _, �
 
 pub returns-in-Select : goal.returns-in-Select
 unfolding meaning_of_form
-returns-in-Select g c = record { did = rw (c.in-Select.is, act_select _ _ _) refl }
+returns-in-Select g c = record { did = rw (c.in-Select.is, act_select _ _ _, ← c.deref-in-Select.ensures.value, ← c.deref-in-Select-2.ensures) c.execute_select.ensures.did }
 
 pub returns-in-SelectBy : goal.returns-in-SelectBy
 unfolding meaning_of_form
-returns-in-SelectBy g c = record { did = rw (c.in-SelectBy.is, act_select_by _ _ _ _ _) refl }
+returns-in-SelectBy g c = record { did = rw (c.in-SelectBy.is, act_select_by _ _ _ _ _, ← c.deref-in-SelectBy.ensures.value, ← c.deref-in-SelectBy-2.ensures) c.execute_select_by.ensures.did }
 
 pub returns-in-Neighbor : goal.returns-in-Neighbor
 unfolding meaning_of_form
-returns-in-Neighbor g c = record { did = rw (c.in-Neighbor.is, act_neighbor _ _ _) refl }
+returns-in-Neighbor g c = record { did = rw (c.in-Neighbor.is, act_neighbor _ _ _) c.execute_neighbor.ensures.did }
 
 pub returns-in-Whenever : goal.returns-in-Whenever
 unfolding meaning_of_form
-returns-in-Whenever g c = record { did = rw (c.in-Whenever.is, act_whenever _ _ _) refl }
+returns-in-Whenever g c = record { did = rw (c.in-Whenever.is, act_whenever _ _ _) c.execute_whenever.ensures.did }
 
 pub returns-in-With : goal.returns-in-With
 unfolding meaning_of_form

@@ -37,3 +37,7 @@ returns-in-Do g c = record { did = rw c.in-Do.is (c.as_done.ensures.did _ _ c.va
 pub returns-in-Print : goal.returns-in-Print
 unfolding deed_form deed_of
 returns-in-Print g c = record { did = rw (c.in-Print.is, ← c.deref-in-Print.ensures.value) c.print_all.ensures.did }
+
+pub returns-in-Choose : goal.returns-in-Choose
+unfolding deed_form deed_of
+returns-in-Choose g c = record { did = rw c.in-Choose.is c.call_move.ensures.did }

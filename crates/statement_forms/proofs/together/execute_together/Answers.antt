@@ -18,7 +18,7 @@ returns-in_err-solver g c = record { did = act_exit _ _ _ _ _ _ c.from_residual.
 
 pub returns-in_err-outermost : goal.returns-in_err-outermost
 unfolding together_form
-returns-in_err-outermost g c = record { did = after _ _ _ _ (c.in_ok-solver.ensures.did _) (subst (Does _ _ _) (sym (together_law _ _ _ _ _)) (act_exit _ _ _ _ _ _ c.from_residual-in_err-outermost.ensures.1 (c.in_err-outermost.ensures.did _) ((goes_opened c.args.at (solver_of (value_seen c.in_ok-solver.solver))).from (state_seen c.args.s.now (g.O.Out.taken c.args.out.now))).printed (λ b. goes_block _ (goes_level _ _) _ _ b))) }
+returns-in_err-outermost g c = record { did = after _ _ _ _ (c.in_ok-solver.ensures.did _) (subst (Does _ _ _) (sym (together_law _ _ _ _ _)) (act_exit _ _ _ _ _ _ c.from_residual-in_err-outermost.ensures.1 (c.in_err-outermost.ensures.did _) ((goes_opened c.args.at (solver_of (value_seen c.in_ok-solver.solver))).from (state_seen c.args.s.now (g.O.Out.taken c.args.out.now))).printed (λ b. goes_block _ (goes_level _ _) _ _ _ b))) }
 
 pub returns : goal.returns
 unfolding together_form

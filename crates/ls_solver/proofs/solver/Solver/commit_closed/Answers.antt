@@ -1,4 +1,4 @@
-use Rattle.std.proofs.Common.{length, sym, ap, ◌∙◌, ◌≡◌, true, subst, filter_map}
+use Rattle.std.proofs.Common.{length, ap, ◌∙◌}
 use Rattle.std.specs.Prelude.{is_ok}
 use Rattle.model_values.specs.Fresh.{seen_values}
 use Rattle.solver_models.specs.State.{SolverState}

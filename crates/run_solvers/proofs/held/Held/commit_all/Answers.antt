@@ -8,7 +8,7 @@ use Rattle.run_solvers.specs.Changing.{evaluated}
 use Rattle.run_solvers.specs.Views.{held_seen}
 use Rattle.run_solvers.specs.Waiting.{indexed}
 use Rattle.run_solvers.proofs.BlockLaws.{all_free, all_moves}
-use Rattle.run_solvers.proofs.TriedLaws.{tried_as}
+use Rattle.run_solvers.proofs.TriedLaws.{moved_as}
 use Rattle.run_solvers.proofs.WaitingLaws.{moves_distinct}
 use Rattle.run_solvers.proofs.held.Held.commit_all.Goals as goal
 
@@ -28,6 +28,6 @@ pub returns-in-Ok : goal.returns-in-Ok
 returns-in-Ok c =
     let old = c.args.self.now in
     let same = all_moves old.solver old.number c.args.waiting.now c.requires.kept.0.number_ c.requires.waiting c.keeps_form.ensures.assigned in
-    tried_as old old _ c.commit.result _ _ refl
+    moved_as old old _ c.commit.result _ _ refl refl
     (ap (λ (a : List ℤ). evaluated (record (held_seen old) { assignment = a })) (sym same)
     ∙ ap (λ (ms : List (VarId × ℤ)). evaluated (record (held_seen old) { assignment = after_moves (indexed ms) old.solver.assignment })) (sym (c.deref.ensures.value ∙ c.in-Ok.ensures))) c.commit.ensures

@@ -3,14 +3,14 @@ use Rattle.std.proofs.Common.{◌≡◌, ℤ, [], ◌∷◌, refl, sym, ap, ◌�
 use Rattle.comet_meaning.specs.Models.{number_now}
 use Rattle.run_solvers.specs.Changing.{moved_one}
 use Rattle.run_solvers.specs.Views.{held_seen}
-use Rattle.run_solvers.proofs.TriedLaws.{tried_as}
+use Rattle.run_solvers.proofs.TriedLaws.{moved_as}
 use Rattle.run_solvers.proofs.held.Held.exchange.Goals as goal
 
 pub returns-in-Err : goal.returns-in-Err
-returns-in-Err c = record { meant = rw c.in-Err.ensures.stop tt; kept = tt; number = refl }
+returns-in-Err c = record { meant = rw c.in-Err.ensures.stop tt; kept = tt; number = refl; told = tt }
 
 pub returns-in-Err-number_of : goal.returns-in-Err-number_of
-returns-in-Err-number_of c = record { meant = rw c.in-Err-number_of.ensures.stop tt; kept = tt; number = refl }
+returns-in-Err-number_of c = record { meant = rw c.in-Err-number_of.ensures.stop tt; kept = tt; number = refl; told = tt }
 
 pub returns-in-Ok-number_of : goal.returns-in-Ok-number_of
 returns-in-Ok-number_of c =
@@ -20,6 +20,6 @@ returns-in-Ok-number_of c =
     let j = c.args.y.index in
     let first : to_z w64 (of_z w64 c.in-Ok.first) ≡ c.in-Ok.first = search rules in
     let second : to_z w64 (of_z w64 c.in-Ok-number_of.second) ≡ c.in-Ok-number_of.second = search rules in
-    tried_as old old _ c.move_both.result _ _ refl
+    moved_as old old _ c.move_both.result _ _ refl refl
     (ap (λ (z : ℤ). moved_one ((i, z) ∷ (j, number_now m i) ∷ []) m m.waiting) (sym (second ∙ c.in-Ok-number_of.ensures.value))
     ∙ ap (λ (z : ℤ). moved_one ((i, to_z w64 (of_z w64 c.in-Ok-number_of.second)) ∷ (j, z) ∷ []) m m.waiting) (sym (first ∙ c.in-Ok.ensures.value))) c.move_both.ensures

@@ -5,7 +5,7 @@ use Rattle.ls_solver.specs.Ids.{has_definition, is_own}
 use Rattle.run_solvers.specs.Views.{waits}
 use Rattle.run_solvers.proofs.BlockLaws.{moved_now, moved_second, none_waits, nothing_kept, waited_first, waiting_more, waits_is, written_is}
 use Rattle.run_solvers.proofs.WaitingLaws.{one_distinct, one_each, two_distinct, two_each}
-use Rattle.run_solvers.proofs.TriedLaws.{tried_as}
+use Rattle.run_solvers.proofs.TriedLaws.{moved_as}
 use Rattle.run_solvers.proofs.held.Held.move_both.Goals as goal
 
 pub move_one-requires-clause-kept : goal.move_one-requires-clause-kept
@@ -22,7 +22,7 @@ returns-then-wait_in c =
     let some = waits_is (λ w. w.items) old.waiting ∙ sym c.wait_in.ensures.waits ∙ c.if-wait_in.true in
     let first : to_z w64 (of_z w64 c.args.first.1) ≡ c.args.first.1 = search rules in
     let second : to_z w64 (of_z w64 c.args.second.1) ≡ c.args.second.1 = search rules in
-    tried_as old (record old { waiting = c.wait_in.new.waiting }) _ c.move_one.result _ _ refl
+    moved_as old (record old { waiting = c.wait_in.new.waiting }) _ c.move_one.result _ _ refl refl
     (waited_first old.solver old.names (waits old) _ c.args.first.0.index c.args.second.0.index _ c.args.first.1 c.args.second.1 _ first second next some c.keeps_form.ensures.assigned c.requires.kept.0.waits_) c.move_one.ensures
 
 pub commit-requires-clause-kept : goal.commit-requires-clause-kept
@@ -49,7 +49,7 @@ pub returns-then-first-second : goal.returns-then-first-second
 returns-then-first-second c =
     let old = c.args.self.now in
     let none = none_waits (waits old) _ c.args.first.0.index _ (c.wait_in.ensures.written ∙ written_is old.waiting c.args.first.0.index _) (waits_is (λ w. w.items) old.waiting ∙ sym c.wait_in.ensures.waits ∙ c.if-wait_in.false) in
-    tried_as old (record old { waiting = c.wait_in.new.waiting }) _ c.commit.result _ _ refl (moved_second old.solver old.names (waits old) _ c.args.first.0.index c.args.second.0.index c.args.first.1 c.args.second.1 none.0 none.1 c.if-first-second.true) c.commit.ensures
+    moved_as old (record old { waiting = c.wait_in.new.waiting }) _ c.commit.result _ _ refl refl (moved_second old.solver old.names (waits old) _ c.args.first.0.index c.args.second.0.index c.args.first.1 c.args.second.1 none.0 none.1 c.if-first-second.true) c.commit.ensures
 
 pub commit-requires-2-clause-kept : goal.commit-requires-2-clause-kept
 commit-requires-2-clause-kept c =
@@ -75,4 +75,4 @@ pub returns : goal.returns
 returns c =
     let old = c.args.self.now in
     let none = none_waits (waits old) _ c.args.first.0.index _ (c.wait_in.ensures.written ∙ written_is old.waiting c.args.first.0.index _) (waits_is (λ w. w.items) old.waiting ∙ sym c.wait_in.ensures.waits ∙ c.if-wait_in.false) in
-    tried_as old (record old { waiting = c.wait_in.new.waiting }) _ c.commit-2.result _ _ refl (moved_now old.solver old.names (waits old) _ ((c.args.first.0.index, c.args.first.1) ∷ (c.args.second.0.index, c.args.second.1) ∷ []) none.0 none.1) c.commit-2.ensures
+    moved_as old (record old { waiting = c.wait_in.new.waiting }) _ c.commit-2.result _ _ refl refl (moved_now old.solver old.names (waits old) _ ((c.args.first.0.index, c.args.first.1) ∷ (c.args.second.0.index, c.args.second.1) ∷ []) none.0 none.1) c.commit-2.ensures

@@ -1,5 +1,5 @@
 -- A set is read, or can't be read yet.
-use Rattle.std.proofs.Common.{◌≡◌, ℤ, List, sym, ◌∙◌, ap}
+use Rattle.std.proofs.Common.{ℤ, List, sym, ◌∙◌, ap}
 use Rattle.cbl_base.specs.Sets.{set_of}
 use Rattle.cbl_base.proofs.SetLemmas.{set_of-rising}
 use Rattle.comet_meaning.specs.Outcome.{Went}

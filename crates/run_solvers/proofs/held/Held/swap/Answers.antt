@@ -1,5 +1,5 @@
 -- What was tried is finished.
-use Rattle.run_solvers.proofs.FoundSolvers.{finished}
+use Rattle.run_solvers.proofs.ToldLaws.{finished_moves}
 use Rattle.run_solvers.proofs.held.Held.swap.Goals as goal
 
 pub finish-requires : goal.finish-requires
@@ -7,4 +7,4 @@ finish-requires c = c.try_swap-made.ensures.kept
 
 pub returns : goal.returns
 returns c =
-    finished c.args.self.now _ _ c.try_swap-made.result c.finish.result _ c.try_swap-made.ensures c.finish.ensures.same c.finish.ensures.kept c.finish.ensures.number c.finish.ensures.unchanged
+    finished_moves c.args.self.now _ _ c.try_swap-made.result c.finish.result _ c.try_swap-made.ensures c.finish.ensures.same c.finish.ensures.kept c.finish.ensures.number c.finish.ensures.unchanged

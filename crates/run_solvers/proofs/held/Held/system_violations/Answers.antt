@@ -1,5 +1,5 @@
 -- The solver's reply is the answer.
-use Rattle.std.proofs.Common.{[], ◌∷◌, sym, ◌∙◌, subst}
+use Rattle.std.proofs.Common.{sym, ◌∙◌, subst}
 use Rattle.comet_meaning.specs.Outcome.{Outcome}
 use Rattle.comet_meaning.specs.Values as values
 use Rattle.run_values.specs.Did.{Did}

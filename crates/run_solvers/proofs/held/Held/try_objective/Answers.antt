@@ -1,8 +1,7 @@
 -- It is there without a term, and then gets it.
-use Rattle.std.proofs.Common.{ℕ, ◌∙◌, ap, subst, sym}
+use Rattle.std.proofs.Common.{◌∙◌, subst, sym}
 use Rattle.run_solvers.specs.Makes.{Ends}
-use Rattle.run_solvers.specs.Changing.{Made, posted_one}
-use Rattle.model_values.specs.declared.wholes.Whole.TheVariants.{Objective}
+use Rattle.run_solvers.specs.Changing.{Made}
 use Rattle.run_solvers.specs.Views.{held_seen}
 use Rattle.run_solvers.proofs.TotalStops.{first_posted, objective_posted, objective_stops}
 use Rattle.run_solvers.proofs.held.Held.try_objective.Goals as goal

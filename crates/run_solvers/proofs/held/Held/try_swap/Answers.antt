@@ -10,6 +10,7 @@ returns-then-not-owns_both c =
       meant = swapped_foreign old.solver old.names (waits old) c.args.at c.args.x c.args.y (c.requires.own ∙ sym c.requires.kept.0.number_) (sym c.owns_both.ensures ∙ c.if-not-owns_both.true);
       kept = tt;
       number = refl;
+      told = tt;
     }
 
 pub returns-then-defines_either : goal.returns-then-defines_either
@@ -19,6 +20,7 @@ returns-then-defines_either c =
       meant = swapped_defined old.solver old.names (waits old) c.args.at c.args.x c.args.y (c.requires.own ∙ sym c.requires.kept.0.number_) own.0 own.1 (sym c.defines_either.ensures ∙ c.if-defines_either.true);
       kept = tt;
       number = refl;
+      told = tt;
     }
 
 pub exchange-requires-clause-own : goal.exchange-requires-clause-own

@@ -1,7 +1,6 @@
 -- The solver is there, and the change is its own; or it isn't there.
 use Rattle.std.proofs.Common.{◌≡◌, ℕ, ◌<◌, length, get_or, map, set, sym, ◌∙◌, subst, arith, rules}
 use Rattle.cbl_base.specs.declared.ids.VarId.{VarId}
-use Rattle.comet_meaning.specs.Parts.{solver_at}
 use Rattle.comet_meaning.specs.Variables.{next_variable}
 use Rattle.run_solvers.specs.Changing.{added_one, changed}
 use Rattle.run_values.specs.Did.{Did}

@@ -1,6 +1,9 @@
 -- The solver is there, and the change is its own; or it isn't there.
-use Rattle.std.proofs.Common.{◌≡◌, ◌<◌, ℤ, length, get_or, sym, ◌∙◌, ap, subst, arith, rules, w64, to_z, of_z}
+use Rattle.std.proofs.Common.{◌≡◌, ◌<◌, ℤ, List, length, get_or, map, set, sym, ◌∙◌, ap, subst, arith, rules, w64, to_z, of_z}
 use Rattle.comet_meaning.specs.Parts.{solver_at}
+use Rattle.comet_meaning.specs.Solvers.{SolverState}
+use Rattle.run_solvers.specs.Told.{TellsIn}
+use Rattle.run_solvers.proofs.ToldLaws.{tells_there}
 use Rattle.run_solvers.specs.Changing.{Made, assigned_one, changed}
 use Rattle.run_solvers.specs.Makes.{Makes}
 use Rattle.run_solvers.specs.Views.{held_seen}
@@ -46,3 +49,11 @@ returns-clause-did c = λ s is.
 
 pub returns-clause-stop : goal.returns-clause-stop
 returns-clause-stop c = found_solvers.no_cycle_so (held_seen c.assign.new.self) c.assign.result _ (found_solvers.assigned_none c.args.at c.args.variable (to_z w64 (of_z w64 c.args.number)) (held_seen c.index_mut.result.now)) c.assign.ensures.meant
+
+pub returns-clause-told : goal.returns-clause-told
+returns-clause-told c =
+    let held = c.self.inside.held.items in
+    let there : c.index_mut.result.now ≡ get_or held c.args.variable.solver c.index_mut.result.now = search rules in
+    let lt : c.args.variable.solver < length held = omega (arith, c.len.ensures, c.if-own-len.false) in
+    let old = kept_there held c.args.variable.solver c.index_mut.result.now c.self.invariant lt there in
+    subst (λ (ms : List SolverState). TellsIn c.args.variable.solver ms (map held_seen (set held c.args.variable.solver c.assign.new.self)) c.assign.result) c.self.view_is (tells_there held c.args.variable.solver c.index_mut.result.now c.assign.new.self c.assign.result old.0 lt there c.assign.ensures.told)

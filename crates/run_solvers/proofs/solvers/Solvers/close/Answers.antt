@@ -1,8 +1,6 @@
 -- The solver is there, and the change is its own; or it isn't there.
-use Rattle.std.proofs.Common.{◌≡◌, ◌<◌, length, get_or, refl, sym, ◌∙◌, ap, arith, rules}
+use Rattle.std.proofs.Common.{◌≡◌, ◌<◌, length, get_or, sym, ◌∙◌, arith, rules}
 use Rattle.comet_meaning.specs.Values.{Nothing}
-use Rattle.comet_meaning.specs.Parts.{solver_at}
-use Rattle.run_solvers.specs.Changing.{Made, changed}
 use Rattle.run_solvers.specs.Views.{held_seen}
 use Rattle.run_solvers.proofs.Acts.{closes}
 use Rattle.run_solvers.proofs.FoundSolvers as found_solvers

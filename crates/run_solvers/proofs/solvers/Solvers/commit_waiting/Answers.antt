@@ -1,8 +1,10 @@
 -- The solver is there, and the change is its own; or it isn't there.
-use Rattle.std.proofs.Common.{◌≡◌, ◌<◌, List, length, get_or, refl, sym, ◌∙◌, ap, arith, rules}
-use Rattle.comet_meaning.specs.Parts.{solver_at}
+use Rattle.std.proofs.Common.{◌≡◌, ◌<◌, List, length, get_or, map, set, subst, refl, sym, ◌∙◌, ap, arith, rules}
+use Rattle.run_solvers.specs.Told.{TellsIn}
+use Rattle.run_solvers.proofs.ToldLaws.{nothing_told, tells_there}
 use Rattle.comet_meaning.specs.Outcome.{Went}
-use Rattle.comet_meaning.specs.Solvers.{SolverState}
+use Rattle.std.specs.Prelude.{slice_index_or}
+use Rattle.comet_meaning.specs.Solvers.{SolverState, new_solver}
 use Rattle.run_solvers.specs.Changing.{changed_where, committed_one}
 use Rattle.run_solvers.specs.Views.{held_seen}
 use Rattle.run_solvers.proofs.Acts.{commits}
@@ -42,3 +44,16 @@ returns-clause-did c = λ s is.
 
 pub returns-clause-stop : goal.returns-clause-stop
 returns-clause-stop c = found_solvers.no_cycle_so (held_seen c.commit_waiting.new.self) c.commit_waiting.result _ (found_solvers.committed_none (held_seen c.index_mut.result.now) (held_seen c.index_mut.result.now).waiting) c.commit_waiting.ensures.meant
+
+pub returns-then-number-len-clause-told : goal.returns-then-number-len-clause-told
+returns-then-number-len-clause-told c =
+    let m : SolverState = slice_index_or c.args.self.now c.args.number new_solver in
+    nothing_told c.args.number m m c.new.result refl refl c.new.ensures.items
+
+pub returns-clause-told : goal.returns-clause-told
+returns-clause-told c =
+    let held = c.self.inside.held.items in
+    let there : c.index_mut.result.now ≡ get_or held c.args.number c.index_mut.result.now = search rules in
+    let lt : c.args.number < length held = omega (arith, c.len.ensures, c.if-number-len.false) in
+    let old = kept_there held c.args.number c.index_mut.result.now c.self.invariant lt there in
+    subst (λ (ms : List SolverState). TellsIn c.args.number ms (map held_seen (set held c.args.number c.commit_waiting.new.self)) c.commit_waiting.result) c.self.view_is (tells_there held c.args.number c.index_mut.result.now c.commit_waiting.new.self c.commit_waiting.result old.0 lt there c.commit_waiting.ensures.told)

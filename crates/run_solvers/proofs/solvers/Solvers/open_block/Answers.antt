@@ -1,7 +1,5 @@
 -- The solver is there, and the change is its own; or it isn't there.
-use Rattle.std.proofs.Common.{◌≡◌, ◌<◌, length, get_or, refl, sym, ◌∙◌, ap, arith, rules}
-use Rattle.comet_meaning.specs.Parts.{solver_at}
-use Rattle.run_solvers.specs.Changing.{Made, changed}
+use Rattle.std.proofs.Common.{◌≡◌, ◌<◌, length, get_or, refl, sym, ◌∙◌, arith, rules}
 use Rattle.run_solvers.specs.Views.{held_seen}
 use Rattle.run_solvers.proofs.FoundSolvers as found_solvers
 use Rattle.run_solvers.proofs.FoundSolvers.{changed_kept, does, found, kept_there, not_found, opens}

@@ -1,7 +1,6 @@
 -- The solver is there, or it has no variable.
-use Rattle.std.proofs.Common.{◌≡◌, ◌<◌, length, get_or, sym, ◌∙◌, arith, rules}
+use Rattle.std.proofs.Common.{◌≡◌, ◌<◌, length, get_or, sym, ◌∙◌, arith}
 use Rattle.comet_meaning.specs.Parts.{solver_at}
-use Rattle.run_solvers.specs.Views.{held_seen}
 use Rattle.run_solvers.proofs.FoundSolvers.{found, kept_there, not_found, reads_nothing}
 use Rattle.run_solvers.proofs.solvers.Solvers.read.Goals as goal
 

@@ -1,6 +1,9 @@
 -- The solver is there, and the change is its own; or it isn't there.
-use Rattle.std.proofs.Common.{◌≡◌, ◌<◌, length, get_or, refl, sym, ◌∙◌, ap, arith, rules}
+use Rattle.std.proofs.Common.{◌≡◌, ◌<◌, List, length, get_or, map, set, subst, sym, ◌∙◌, ap, arith, rules}
 use Rattle.comet_meaning.specs.Parts.{solver_at}
+use Rattle.comet_meaning.specs.Solvers.{SolverState}
+use Rattle.run_solvers.specs.Told.{TellsIn}
+use Rattle.run_solvers.proofs.ToldLaws.{tells_there}
 use Rattle.run_solvers.specs.Changing.{Made, changed}
 use Rattle.run_solvers.specs.Views.{held_seen}
 use Rattle.run_solvers.proofs.Acts.{swaps}
@@ -44,3 +47,11 @@ returns-clause-did c = λ s is.
 
 pub returns-clause-stop : goal.returns-clause-stop
 returns-clause-stop c = found_solvers.no_cycle_so (held_seen c.swap.new.self) c.swap.result _ (found_solvers.swapped_none c.args.at c.args.x c.args.y (held_seen c.index_mut.result.now)) c.swap.ensures.meant
+
+pub returns-clause-told : goal.returns-clause-told
+returns-clause-told c =
+    let held = c.self.inside.held.items in
+    let there : c.index_mut.result.now ≡ get_or held c.args.x.solver c.index_mut.result.now = search rules in
+    let lt : c.args.x.solver < length held = omega (arith, c.len.ensures, c.if-own-len.false) in
+    let old = kept_there held c.args.x.solver c.index_mut.result.now c.self.invariant lt there in
+    subst (λ (ms : List SolverState). TellsIn c.args.x.solver ms (map held_seen (set held c.args.x.solver c.swap.new.self)) c.swap.result) c.self.view_is (tells_there held c.args.x.solver c.index_mut.result.now c.swap.new.self c.swap.result old.0 lt there c.swap.ensures.told)

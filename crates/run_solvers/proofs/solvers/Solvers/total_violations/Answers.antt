@@ -1,5 +1,5 @@
 -- The solver is there, or it isn't closed.
-use Rattle.std.proofs.Common.{◌≡◌, ◌<◌, length, get_or, sym, ◌∙◌, arith, rules}
+use Rattle.std.proofs.Common.{◌≡◌, ◌<◌, length, get_or, sym, ◌∙◌, arith}
 use Rattle.ls_solver.specs.Totals.{whole_of}
 use Rattle.run_solvers.proofs.TotalActs.{violations_asked, violations_nowhere}
 use Rattle.run_solvers.proofs.FoundSolvers.{found, kept_there, not_found}

@@ -43,3 +43,19 @@ returns-in-Objective-clause-did g c = rw c.in-Objective.is (rw c.in-Objective.is
 pub returns-in-Input-clause-did : goal.returns-in-Input-clause-did
 unfolding value_text
 returns-in-Input-clause-did g c = rw c.in-Input.is (rw c.in-Input.is at (c.print_plain-in-Input.ensures.did (state_seen c.args.self.now (g.O.Out.taken c.args.out.now)) refl))
+
+pub returns-in-Distribution-clause-did : goal.returns-in-Distribution-clause-did
+unfolding value_text
+returns-in-Distribution-clause-did g c = rw c.in-Distribution.is (rw c.in-Distribution.is at (c.print_plain-in-Distribution.ensures.did (state_seen c.args.self.now (g.O.Out.taken c.args.out.now)) refl))
+
+pub returns-in-Selector-clause-did : goal.returns-in-Selector-clause-did
+unfolding value_text
+returns-in-Selector-clause-did g c = rw c.in-Selector.is (rw c.in-Selector.is at (c.print_plain-in-Selector.ensures.did (state_seen c.args.self.now (g.O.Out.taken c.args.out.now)) refl))
+
+pub returns-in-Move-clause-did : goal.returns-in-Move-clause-did
+unfolding value_text
+returns-in-Move-clause-did g c = rw c.in-Move.is (rw c.in-Move.is at (c.print_plain-in-Move.ensures.did (state_seen c.args.self.now (g.O.Out.taken c.args.out.now)) refl))
+
+pub returns-in-Solution-clause-did : goal.returns-in-Solution-clause-did
+unfolding value_text
+returns-in-Solution-clause-did g c = rw c.in-Solution.is (rw c.in-Solution.is at (c.print_plain-in-Solution.ensures.did (state_seen c.args.self.now (g.O.Out.taken c.args.out.now)) refl))

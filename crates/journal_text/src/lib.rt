@@ -1,0 +1,19 @@
+//! Journals as texts.
+//!
+//! It knows nothing of boards, of threads, or of how a journal came about. The layers above use that `print`
+//! gives the one spelling of a journal, that `read` gives a journal exactly where a text is its spelling, else
+//! the first line through which no journal begins so, and that `tail` gives where the last header begins.
+#![tactic(auto)]
+
+mod cutting;
+mod header;
+mod numbers;
+mod printing;
+mod reader;
+mod stop;
+mod words;
+
+pub use header::tail;
+pub use printing::{loop_line, print, print_reply, print_request};
+pub use reader::read;
+pub use stop::JournalStop;

@@ -1,0 +1,4 @@
+pub mod Tables
+pub mod Asking
+pub mod Scans
+pub mod Fronts
