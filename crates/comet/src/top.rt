@@ -4,7 +4,7 @@ ghost use Rattle.cbl_io.specs.Appended.{Appends, AppendsFront};
 ghost use Rattle.cbl_io.specs.Faults.{HasRisen};
 ghost use Rattle.checked_tree.specs.Tasks.{program_of};
 ghost use Rattle.comet_words.specs.View.{texts};
-ghost use Rattle.run_state.specs.Views.{state_seen};
+ghost use Rattle.run_standing.specs.Seen.{standing_seen};
 ghost use Rattle.comet.specs.Headline.{JobHeadline, RunHeadline, taken};
 ghost use Rattle.comet.specs.Line.{line_of};
 ghost use Rattle.comet.specs.Output.{Decides, meant_with, start_with};
@@ -15,7 +15,8 @@ use crate::line::say;
 use crate::report::{Cause, Report};
 use cbl_io::{Files, Sink, write_all};
 use checked_tree::Checked;
-use run_state::{Bytes, State};
+use run_standing::Standing;
+use run_state::Bytes;
 use std::alloc::Global;
 use stmt_run::run;
 
@@ -62,11 +63,11 @@ fn refuse<E: Sink>(cause: Cause, err: &mut E) -> Report
     Report::of(cause)
 }
 
-/// The state at the start of a run with this seed, this fuel and this data.
-fn begin(alloc: Global, seed: u64, fuel: u64, text: Vec<u8>) -> State
-    ensures { state_seen result [] ≡ start_with seed fuel text.items }
+/// The start of a run with this seed, this fuel and this data.
+fn begin(alloc: Global, seed: u64, fuel: u64, text: Vec<u8>) -> Standing
+    ensures { standing_seen result [] ≡ start_with seed fuel text.items }
 {
-    State::new(alloc, seed, fuel, text)
+    Standing::new(alloc, seed, fuel, text)
 }
 
 /// Runs a program with this seed, this fuel and this data, and writes what it printed, whatever way it ended.

@@ -13,12 +13,12 @@ use crate::functions::{
 use cbl_base::Place;
 use checked_tree::{Builtin, Typed};
 use run_solvers::Built;
-use run_state::{Out, State};
+use run_state::{Outside, State};
 use run_steps::inside::Defining;
 use run_values::Stop;
 
 /// A call of a constraint function, and 0 of any other function.
-pub(crate) fn constraint_call<O: Out, W: Defining<O>>(
+pub(crate) fn constraint_call<O: Outside, W: Defining<O>>(
     s: &mut State,
     out: &mut O,
     inside: &W,
@@ -28,7 +28,7 @@ pub(crate) fn constraint_call<O: Out, W: Defining<O>>(
 ) -> Result<Built, Stop>
     requires ready { W.is_ready inside.now }
     requires defines { W.can_define inside.now }
-    ensures did { Does (λ t. t) result (state_seen s.new (O.taken out.new)) (forms.constraint_call (level (W.code inside.now) (W.depth inside.now)) at function (row arguments.now) (state_seen s.old (O.taken out.old))) }
+    ensures did { Does (λ t. t) result (state_seen s.new (O.told out.new)) (forms.constraint_call (level (W.code inside.now) (W.depth inside.now)) at function (row arguments.now) (state_seen s.old (O.told out.old))) }
 {
     match function {
         Builtin::AllDifferent => all_different_call(s, out, inside, at, arguments),
@@ -43,7 +43,7 @@ pub(crate) fn constraint_call<O: Out, W: Defining<O>>(
 }
 
 /// A call of `alldifferent`.
-fn all_different_call<O: Out, W: Defining<O>>(
+fn all_different_call<O: Outside, W: Defining<O>>(
     s: &mut State,
     out: &mut O,
     inside: &W,
@@ -51,7 +51,7 @@ fn all_different_call<O: Out, W: Defining<O>>(
     arguments: &[Typed],
 ) -> Result<Built, Stop>
     requires defines { W.can_define inside.now }
-    ensures did { Does (λ t. t) result (state_seen s.new (O.taken out.new)) (of_one (forms.all_different_form (level (W.code inside.now) (W.depth inside.now)) at) (row arguments.now) (state_seen s.old (O.taken out.old))) }
+    ensures did { Does (λ t. t) result (state_seen s.new (O.told out.new)) (of_one (forms.all_different_form (level (W.code inside.now) (W.depth inside.now)) at) (row arguments.now) (state_seen s.old (O.told out.old))) }
 {
     if arguments.len() != 1 {
         return Ok(Built::constant(0));
@@ -60,7 +60,7 @@ fn all_different_call<O: Out, W: Defining<O>>(
 }
 
 /// A call of `atmost`, of `atleast` or of `exactly`.
-fn bounded_call<O: Out, W: Defining<O>>(
+fn bounded_call<O: Outside, W: Defining<O>>(
     s: &mut State,
     out: &mut O,
     inside: &W,
@@ -70,7 +70,7 @@ fn bounded_call<O: Out, W: Defining<O>>(
 ) -> Result<Built, Stop>
     requires ready { W.is_ready inside.now }
     requires defines { W.can_define inside.now }
-    ensures did { Does (λ t. t) result (state_seen s.new (O.taken out.new)) (of_two (forms.bounded_form (level (W.code inside.now) (W.depth inside.now)) at function) (row arguments.now) (state_seen s.old (O.taken out.old))) }
+    ensures did { Does (λ t. t) result (state_seen s.new (O.told out.new)) (of_two (forms.bounded_form (level (W.code inside.now) (W.depth inside.now)) at function) (row arguments.now) (state_seen s.old (O.told out.old))) }
 {
     if arguments.len() != 2 {
         return Ok(Built::constant(0));
@@ -79,7 +79,7 @@ fn bounded_call<O: Out, W: Defining<O>>(
 }
 
 /// A call of `knapsack`.
-fn knapsack_call<O: Out, W: Defining<O>>(
+fn knapsack_call<O: Outside, W: Defining<O>>(
     s: &mut State,
     out: &mut O,
     inside: &W,
@@ -88,7 +88,7 @@ fn knapsack_call<O: Out, W: Defining<O>>(
 ) -> Result<Built, Stop>
     requires ready { W.is_ready inside.now }
     requires defines { W.can_define inside.now }
-    ensures did { Does (λ t. t) result (state_seen s.new (O.taken out.new)) (of_three (forms.knapsack_form (level (W.code inside.now) (W.depth inside.now)) at) (row arguments.now) (state_seen s.old (O.taken out.old))) }
+    ensures did { Does (λ t. t) result (state_seen s.new (O.told out.new)) (of_three (forms.knapsack_form (level (W.code inside.now) (W.depth inside.now)) at) (row arguments.now) (state_seen s.old (O.told out.old))) }
 {
     if arguments.len() != 3 {
         return Ok(Built::constant(0));
@@ -105,7 +105,7 @@ fn knapsack_call<O: Out, W: Defining<O>>(
 }
 
 /// A call of `multiknapsack`.
-fn multi_knapsack_call<O: Out, W: Defining<O>>(
+fn multi_knapsack_call<O: Outside, W: Defining<O>>(
     s: &mut State,
     out: &mut O,
     inside: &W,
@@ -114,7 +114,7 @@ fn multi_knapsack_call<O: Out, W: Defining<O>>(
 ) -> Result<Built, Stop>
     requires ready { W.is_ready inside.now }
     requires defines { W.can_define inside.now }
-    ensures did { Does (λ t. t) result (state_seen s.new (O.taken out.new)) (of_three (forms.multi_knapsack_form (level (W.code inside.now) (W.depth inside.now)) at) (row arguments.now) (state_seen s.old (O.taken out.old))) }
+    ensures did { Does (λ t. t) result (state_seen s.new (O.told out.new)) (of_three (forms.multi_knapsack_form (level (W.code inside.now) (W.depth inside.now)) at) (row arguments.now) (state_seen s.old (O.told out.old))) }
 {
     if arguments.len() != 3 {
         return Ok(Built::constant(0));
@@ -131,7 +131,7 @@ fn multi_knapsack_call<O: Out, W: Defining<O>>(
 }
 
 /// A call of `sequence`.
-fn sequence_call<O: Out, W: Defining<O>>(
+fn sequence_call<O: Outside, W: Defining<O>>(
     s: &mut State,
     out: &mut O,
     inside: &W,
@@ -140,7 +140,7 @@ fn sequence_call<O: Out, W: Defining<O>>(
 ) -> Result<Built, Stop>
     requires ready { W.is_ready inside.now }
     requires defines { W.can_define inside.now }
-    ensures did { Does (λ t. t) result (state_seen s.new (O.taken out.new)) (of_four (forms.sequence_form (level (W.code inside.now) (W.depth inside.now)) at) (row arguments.now) (state_seen s.old (O.taken out.old))) }
+    ensures did { Does (λ t. t) result (state_seen s.new (O.told out.new)) (of_four (forms.sequence_form (level (W.code inside.now) (W.depth inside.now)) at) (row arguments.now) (state_seen s.old (O.told out.old))) }
 {
     if arguments.len() != 4 {
         return Ok(Built::constant(0));

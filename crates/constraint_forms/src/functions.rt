@@ -13,7 +13,7 @@ use crate::kept::{kept_cells, kept_set};
 use cbl_base::Place;
 use checked_tree::{Builtin, Typed};
 use run_solvers::Built;
-use run_state::{Out, State};
+use run_state::{Outside, State};
 use run_steps::inside::Defining;
 use run_values::Stop;
 use term_forms::evaluating::expressions::number_of;
@@ -21,7 +21,7 @@ use term_forms::parts::term_cells;
 
 /// `alldifferent(x)`
 #[tactic(auto, unfolding(comet_meaning::specs::ConstraintForms::all_different_form))]
-pub(crate) fn all_different_term<O: Out, W: Defining<O>>(
+pub(crate) fn all_different_term<O: Outside, W: Defining<O>>(
     s: &mut State,
     out: &mut O,
     inside: &W,
@@ -29,7 +29,7 @@ pub(crate) fn all_different_term<O: Out, W: Defining<O>>(
     places: &Typed,
 ) -> Result<Built, Stop>
     requires defines { W.can_define inside.now }
-    ensures did { Does (λ t. t) result (state_seen s.new (O.taken out.new)) (forms.all_different_form (level (W.code inside.now) (W.depth inside.now)) at (part places.now) (state_seen s.old (O.taken out.old))) }
+    ensures did { Does (λ t. t) result (state_seen s.new (O.told out.new)) (forms.all_different_form (level (W.code inside.now) (W.depth inside.now)) at (part places.now) (state_seen s.old (O.told out.old))) }
 {
     let place = places.place;
     let cells = term_cells(s, out, inside, places);
@@ -38,7 +38,7 @@ pub(crate) fn all_different_term<O: Out, W: Defining<O>>(
 
 /// `atmost(b, x)`, `atleast(b, x)` and `exactly(b, x)`
 #[tactic(auto, unfolding(comet_meaning::specs::ConstraintForms::bounded_form))]
-pub(crate) fn bounded_term<O: Out, W: Defining<O>>(
+pub(crate) fn bounded_term<O: Outside, W: Defining<O>>(
     s: &mut State,
     out: &mut O,
     inside: &W,
@@ -49,7 +49,7 @@ pub(crate) fn bounded_term<O: Out, W: Defining<O>>(
 ) -> Result<Built, Stop>
     requires ready { W.is_ready inside.now }
     requires defines { W.can_define inside.now }
-    ensures did { Does (λ t. t) result (state_seen s.new (O.taken out.new)) (forms.bounded_form (level (W.code inside.now) (W.depth inside.now)) at function (part bounds.now) (part places.now) (state_seen s.old (O.taken out.old))) }
+    ensures did { Does (λ t. t) result (state_seen s.new (O.told out.new)) (forms.bounded_form (level (W.code inside.now) (W.depth inside.now)) at function (part bounds.now) (part places.now) (state_seen s.old (O.told out.old))) }
 {
     let place = bounds.place;
     let other = places.place;
@@ -60,7 +60,7 @@ pub(crate) fn bounded_term<O: Out, W: Defining<O>>(
 
 /// `knapsack(w, x, c)`
 #[tactic(auto, unfolding(comet_meaning::specs::ConstraintForms::knapsack_form))]
-pub(crate) fn knapsack_term<O: Out, W: Defining<O>>(
+pub(crate) fn knapsack_term<O: Outside, W: Defining<O>>(
     s: &mut State,
     out: &mut O,
     inside: &W,
@@ -71,7 +71,7 @@ pub(crate) fn knapsack_term<O: Out, W: Defining<O>>(
 ) -> Result<Built, Stop>
     requires ready { W.is_ready inside.now }
     requires defines { W.can_define inside.now }
-    ensures did { Does (λ t. t) result (state_seen s.new (O.taken out.new)) (forms.knapsack_form (level (W.code inside.now) (W.depth inside.now)) at (part weights.now) (part places.now) (part capacity.now) (state_seen s.old (O.taken out.old))) }
+    ensures did { Does (λ t. t) result (state_seen s.new (O.told out.new)) (forms.knapsack_form (level (W.code inside.now) (W.depth inside.now)) at (part weights.now) (part places.now) (part capacity.now) (state_seen s.old (O.told out.old))) }
 {
     let place = weights.place;
     let other = places.place;
@@ -83,7 +83,7 @@ pub(crate) fn knapsack_term<O: Out, W: Defining<O>>(
 
 /// `multiknapsack(x, w, c)`
 #[tactic(auto, unfolding(comet_meaning::specs::ConstraintForms::multi_knapsack_form))]
-pub(crate) fn multi_knapsack_term<O: Out, W: Defining<O>>(
+pub(crate) fn multi_knapsack_term<O: Outside, W: Defining<O>>(
     s: &mut State,
     out: &mut O,
     inside: &W,
@@ -94,7 +94,7 @@ pub(crate) fn multi_knapsack_term<O: Out, W: Defining<O>>(
 ) -> Result<Built, Stop>
     requires ready { W.is_ready inside.now }
     requires defines { W.can_define inside.now }
-    ensures did { Does (λ t. t) result (state_seen s.new (O.taken out.new)) (forms.multi_knapsack_form (level (W.code inside.now) (W.depth inside.now)) at (part places.now) (part sizes.now) (part capacities.now) (state_seen s.old (O.taken out.old))) }
+    ensures did { Does (λ t. t) result (state_seen s.new (O.told out.new)) (forms.multi_knapsack_form (level (W.code inside.now) (W.depth inside.now)) at (part places.now) (part sizes.now) (part capacities.now) (state_seen s.old (O.told out.old))) }
 {
     let place = places.place;
     let other = sizes.place;
@@ -107,7 +107,7 @@ pub(crate) fn multi_knapsack_term<O: Out, W: Defining<O>>(
 
 /// `sequence(x, s, p, q)`
 #[tactic(auto, unfolding(comet_meaning::specs::ConstraintForms::sequence_form))]
-pub(crate) fn sequence_term<O: Out, W: Defining<O>>(
+pub(crate) fn sequence_term<O: Outside, W: Defining<O>>(
     s: &mut State,
     out: &mut O,
     inside: &W,
@@ -119,7 +119,7 @@ pub(crate) fn sequence_term<O: Out, W: Defining<O>>(
 ) -> Result<Built, Stop>
     requires ready { W.is_ready inside.now }
     requires defines { W.can_define inside.now }
-    ensures did { Does (λ t. t) result (state_seen s.new (O.taken out.new)) (forms.sequence_form (level (W.code inside.now) (W.depth inside.now)) at (part places.now) (part members.now) (part most.now) (part window.now) (state_seen s.old (O.taken out.old))) }
+    ensures did { Does (λ t. t) result (state_seen s.new (O.told out.new)) (forms.sequence_form (level (W.code inside.now) (W.depth inside.now)) at (part places.now) (part members.now) (part most.now) (part window.now) (state_seen s.old (O.told out.old))) }
 {
     let place = places.place;
     let cells = term_cells(s, out, inside, places)?;

@@ -8,7 +8,7 @@ use comet_syntax::tree::{Aggregate, ChainOperator};
 use interpreter::Code;
 use ls_solver::Solver;
 use program_forms::is_pure;
-use run_state::State;
+use run_standing::Standing;
 use run_values::{Cells, Stop, Value};
 use std::alloc::{AllocError, Global};
 use std::marker::Brand;
@@ -80,24 +80,24 @@ fn products(alloc: Global) -> Result<Typed, AllocError> {
     Ok(typed(WHOLE, Kind::Int, form))
 }
 
-/// A state in which `n` is 3 and `a` has the cells 5, 6 and 7.
-fn state(alloc: Global) -> Result<State, Stop> {
-    let mut s = State::new(alloc, 0, 0, Vec::new(alloc));
-    s.put(N, Value::Number(3))?;
+/// A run in which `n` is 3 and `a` has the cells 5, 6 and 7.
+fn state(alloc: Global) -> Result<Standing, Stop> {
+    let mut s = Standing::new(alloc, 0, 0, Vec::new(alloc));
+    s.state.put(N, Value::Number(3))?;
     let cells = Cells::row(Vec::from_array(alloc, [5, 6, 7])?);
-    let array = s.new_array(cells)?;
-    s.put(A, array)?;
+    let array = s.state.new_array(cells)?;
+    s.state.put(A, array)?;
     Ok(s)
 }
 
 /// The number that a pure expression without calls gives, and the fuel that is left.
-fn given(s: &State, room: u32, e: &Typed, fuel: u64) -> (Result<i64, EvalStop>, u64) {
+fn given(s: &Standing, room: u32, e: &Typed, fuel: u64) -> (Result<i64, EvalStop>, u64) {
     given_by::<Brand>(Blank::new(1), s, room, e, fuel)
 }
 
 fn given_by<L: Ledger>(
     blank: Blank,
-    s: &State,
+    s: &Standing,
     room: u32,
     e: &Typed,
     fuel: u64,
@@ -106,14 +106,14 @@ fn given_by<L: Ledger>(
     requires parts { blank.parts ≡ L.parts }
     requires some { 0 < L.parts }
 {
-    let Ok(code) = Code::new(s.alloc, &[], &[]) else {
+    let Ok(code) = Code::new(s.state.alloc, &[], &[]) else {
         return (Err(EvalStop::NoMemory), 0);
     };
     if !is_pure(&[], e) {
         return (Err(EvalStop::NoMemory), 0);
     }
     let mut left = Fuel { left: fuel };
-    let mut trial = Solver::new(s.alloc, 0).trial();
+    let mut trial = Solver::new(s.state.alloc, 0).trial();
     let mut steps = Steps::<L>::new(blank);
     let answer = match eval(s, &code, room, e, &mut left, &mut trial, &mut steps) {
         Ok(value) => Ok(value.number()),
