@@ -1,0 +1,132 @@
+//! A user's constraint that was posted.
+ghost use Rattle.std.specs.Prelude.{◌≡◌, ◌<◌, length, pos, replicate, slice_set, IfOk, IfErr, OnOk};
+ghost use Rattle.posted_users.specs.KeptRule.{kept};
+ghost use Rattle.posted_users.specs.PostedState.{posted_over};
+
+use cbl_base::NoMemory;
+use std::alloc::Global;
+use std::marker::Model;
+use user_constraint::UserConstraint;
+
+/// A user's constraint that was posted, with a copy of the numbers that it holds.
+#[derive(Drop)]
+pub struct PostedUser<U: UserConstraint> {
+    pub(crate) alloc: Global,
+    pub(crate) user: U,
+    pub(crate) numbers: Vec<i64>,
+    /// Memory ran out in a change of it.
+    pub(crate) broken: bool,
+}
+
+impl<U: UserConstraint> Model for PostedUser<U> {
+    ghost use Rattle.std.specs.Prelude.{◌≡◌, false};
+    ghost use Rattle.posted_users.specs.PostedState.{PostedState, posted_code};
+
+    ghost Value = { PostedState };
+
+    ghost coded = { posted_code };
+
+    ghost use Rattle.posted_users.specs.KeptRule.{kept};
+
+    ghost view = { λ a. record { held = a.numbers.items; rule = kept (U.user_rule a.user) } };
+
+    ghost invariant = { λ a. a.broken ≡ false → (U.usable a.user × (U.held a.user ≡ a.numbers.items)) };
+}
+
+/// So many zeros.
+fn zeros(alloc: Global, count: usize) -> Result<Vec<i64>, NoMemory>
+    ensures { IfOk result (λ v. v.items ≡ replicate count (pos 0)) }
+{
+    Ok(vec![in alloc; 0; count]?)
+}
+
+/// Makes the number at a place another, where it isn't that already.
+#[tactic(auto, using(crate::proofs::MoveLaws::set_same))]
+fn assign_at<U: UserConstraint>(
+    user: &mut U,
+    numbers: &mut Vec<i64>,
+    place: usize,
+    value: i64,
+) -> Result<(), NoMemory>
+    requires usable { U.usable user.old }
+    requires held { U.held user.old ≡ numbers.old.items }
+    requires within { place < length numbers.old.items }
+    ensures usable { OnOk result (U.usable user.new) }
+    ensures held { OnOk result (U.held user.new ≡ slice_set numbers.old.items place value) }
+    ensures numbers { OnOk result (numbers.new.items ≡ slice_set numbers.old.items place value) }
+    ensures rule { U.user_rule user.new ≡ U.user_rule user.old }
+{
+    if numbers[place] == value {
+        return Ok(());
+    }
+    user.assign(place, value)?;
+    numbers[place] = value;
+    Ok(())
+}
+
+/// Makes a constraint hold a list in place of another of the same length, by one change for each place at which they
+/// differ.
+fn assign_all<U: UserConstraint>(
+    user: &mut U,
+    numbers: &mut Vec<i64>,
+    list: &[i64],
+) -> Result<(), NoMemory>
+    requires usable { U.usable user.old }
+    requires held { U.held user.old ≡ numbers.old.items }
+    requires long { length list.now ≡ length numbers.old.items }
+    ensures usable { OnOk result (U.usable user.new) }
+    ensures held { OnOk result (U.held user.new ≡ list.now) }
+    ensures numbers { OnOk result (numbers.new.items ≡ list.now) }
+    ensures rule { U.user_rule user.new ≡ U.user_rule user.old }
+{
+    for place in 0..list.len() {
+        assign_at(user, numbers, place, list[place])?;
+    }
+    Ok(())
+}
+
+impl<U: UserConstraint> PostedUser<U> {
+    /// A constraint over so many places, which is made to hold zeros. Where there was no memory for it the constraint is
+    /// handed back.
+    pub fn new(alloc: Global, user: U, count: usize) -> Result<PostedUser<U>, (NoMemory, U)>
+        ensures posted { IfOk result (λ p. p ≡ posted_over (U.user_rule user) count) }
+        ensures back { IfErr result (λ e. U.user_rule e.1 ≡ U.user_rule user) }
+        ensures name { IfErr result (λ e. U.user_name e.1 ≡ U.user_name user) }
+    {
+        let mut user = user;
+        let Ok(numbers) = zeros(alloc, count) else {
+            return Err((NoMemory, user));
+        };
+        if user.reset(&numbers).is_err() {
+            return Err((NoMemory, user));
+        }
+        Ok(PostedUser {
+            alloc,
+            user,
+            numbers,
+            broken: false,
+        })
+    }
+
+    /// Holds another list with a number for each place, by one change for each place at which it differs from what is
+    /// held. After `NoMemory`, which also comes for a list of another length, it tells no violations any more.
+    pub fn hold(&mut self, list: &[i64]) -> Result<(), NoMemory>
+        ensures held { OnOk result (self.new.held ≡ list.now) }
+        ensures rule { self.new.rule ≡ self.old.rule }
+    {
+        if self.broken || list.len() != self.numbers.len() {
+            self.broken = true;
+            return Err(NoMemory);
+        }
+        let held = assign_all(&mut self.user, &mut self.numbers, list);
+        self.broken = held.is_err();
+        held
+    }
+
+    /// The constraint, as it is.
+    pub fn into_user(self) -> U
+        ensures { kept (U.user_rule result) ≡ self.rule }
+    {
+        self.user
+    }
+}
