@@ -1,5 +1,5 @@
 -- What is kept of a rule tells of each list of 64-bit numbers what the rule does.
-use Rattle.std.proofs.Common.{◌≡◌, ℕ, ℤ, zero, suc, pos, negsuc, ◌+◌, ◌<◌, ◌^◌, true, ◌&&◌, List, [], ◌∷◌, map, length, get_or, refl, sym, ap, ◌∙◌, subst, arith, w64, FitsSigned}
+use Rattle.std.proofs.Common.{set, ◌≡◌, ℕ, ℤ, zero, suc, pos, negsuc, ◌+◌, ◌<◌, ◌^◌, true, ◌&&◌, List, [], ◌∷◌, map, length, get_or, refl, sym, ap, ◌∙◌, subst, arith, w64, FitsSigned}
 use native.Mathlib.Decide.{ℕ_discrete}
 use Rattle.std.specs.Prelude.{Option, Some, None, Result, Ok, Err, IfOk, slice_get, slice_index_or, unwrap_or}
 use Rattle.cbl_base.specs.declared.faults.NoMemory.{NoMemory}
@@ -94,3 +94,9 @@ place_told v rule held numbers at moves list place posted number one is holds co
     let list_is : held ≡ list = holds ∙ sym copied ∙ ap (after_moves at) (sym none) ∙ after in
     is ∙ ap (λ xs. pos (rule.viol_at xs place)) list_is ∙ ap pos (sym (kept_at rule list place kept' lt)) ∙ ap (λ (p : PostedState). pos (viol_at p.rule list place)) view
     ∙ ap (λ k. pos (viol_at k list place)) (sym (rule_at posted number one there))
+
+-- ---- the rules stay where one of them holds other numbers
+pub rules_set : (xs : List PostedState) (i : ℕ) (d one : PostedState) → one.rule ≡ (get_or xs i d).rule → rules_of (set xs i one) ≡ rules_of xs
+rules_set [] i d one e = refl
+rules_set (x ∷ xs) zero d one e = ap (λ r. r ∷ rules_of xs) e
+rules_set (x ∷ xs) (suc i) d one e = ap (λ rs. x.rule ∷ rs) (rules_set xs i d one e)

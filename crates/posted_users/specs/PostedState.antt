@@ -13,10 +13,6 @@ pub record PostedState : Type 0 where
 abbrev pub posted_code : Coded PostedState
 posted_code = code_by (List ℤ × KeptRule) (coded× (coded_list coded_ℤ) rule_code) (λ p. (p.held, p.rule)) (λ p. record { held = p.0; rule = p.1 }) (λ _. refl)
 
--- one that was just posted over so many places: it holds zeros
-abbrev pub posted_over : UserRule → ℕ → PostedState
-posted_over rule count = record { held = replicate count (pos 0); rule = kept rule }
-
 -- the rules of several, in order
 abbrev pub rules_of : List PostedState → List KeptRule
 rules_of posted = map (λ p. p.rule) posted

@@ -9,5 +9,5 @@ mod moves;
 mod posted;
 mod users;
 
-pub use posted::PostedUser;
+pub use posted::{PostedUser, reset_to_zeros};
 pub use users::PostedUsers;

@@ -1,7 +1,6 @@
 //! A user's constraint that was posted.
-ghost use Rattle.std.specs.Prelude.{◌≡◌, ◌<◌, length, pos, replicate, slice_set, IfOk, IfErr, OnOk};
+ghost use Rattle.std.specs.Prelude.{◌≡◌, ◌<◌, length, pos, replicate, slice_set, IfOk, OnOk};
 ghost use Rattle.posted_users.specs.KeptRule.{kept};
-ghost use Rattle.posted_users.specs.PostedState.{posted_over};
 
 use cbl_base::NoMemory;
 use std::alloc::Global;
@@ -38,6 +37,23 @@ fn zeros(alloc: Global, count: usize) -> Result<Vec<i64>, NoMemory>
     ensures { IfOk result (λ v. v.items ≡ replicate count (pos 0)) }
 {
     Ok(vec![in alloc; 0; count]?)
+}
+
+/// Makes a constraint hold so many zeros, and gives these.
+pub fn reset_to_zeros<U: UserConstraint>(
+    alloc: Global,
+    user: &mut U,
+    count: usize,
+) -> Result<Vec<i64>, NoMemory>
+    ensures zeros { IfOk result (λ v. v.items ≡ replicate count (pos 0)) }
+    ensures usable { OnOk result (U.usable user.new) }
+    ensures held { IfOk result (λ v. U.held user.new ≡ v.items) }
+    ensures rule { U.user_rule user.new ≡ U.user_rule user.old }
+    ensures name { U.user_name user.new ≡ U.user_name user.old }
+{
+    let numbers = zeros(alloc, count)?;
+    user.reset(&numbers)?;
+    Ok(numbers)
 }
 
 /// Makes the number at a place another, where it isn't that already.
@@ -86,26 +102,19 @@ fn assign_all<U: UserConstraint>(
 }
 
 impl<U: UserConstraint> PostedUser<U> {
-    /// A constraint over so many places, which is made to hold zeros. Where there was no memory for it the constraint is
-    /// handed back.
-    pub fn new(alloc: Global, user: U, count: usize) -> Result<PostedUser<U>, (NoMemory, U)>
-        ensures posted { IfOk result (λ p. p ≡ posted_over (U.user_rule user) count) }
-        ensures back { IfErr result (λ e. U.user_rule e.1 ≡ U.user_rule user) }
-        ensures name { IfErr result (λ e. U.user_name e.1 ≡ U.user_name user) }
+    /// A constraint that was reset, and the numbers that it holds.
+    pub fn of(alloc: Global, user: U, numbers: Vec<i64>) -> PostedUser<U>
+        requires usable { U.usable user }
+        requires held { U.held user ≡ numbers.items }
+        ensures held { result.held ≡ numbers.items }
+        ensures rule { result.rule ≡ kept (U.user_rule user) }
     {
-        let mut user = user;
-        let Ok(numbers) = zeros(alloc, count) else {
-            return Err((NoMemory, user));
-        };
-        if user.reset(&numbers).is_err() {
-            return Err((NoMemory, user));
-        }
-        Ok(PostedUser {
+        PostedUser {
             alloc,
             user,
             numbers,
             broken: false,
-        })
+        }
     }
 
     /// Holds another list with a number for each place, by one change for each place at which it differs from what is
@@ -121,12 +130,5 @@ impl<U: UserConstraint> PostedUser<U> {
         let held = assign_all(&mut self.user, &mut self.numbers, list);
         self.broken = held.is_err();
         held
-    }
-
-    /// The constraint, as it is.
-    pub fn into_user(self) -> U
-        ensures { kept (U.user_rule result) ≡ self.rule }
-    {
-        self.user
     }
 }

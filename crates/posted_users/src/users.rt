@@ -1,5 +1,7 @@
 //! The users' constraints of a solver, by their numbers.
-ghost use Rattle.std.specs.Prelude.{◌≡◌, ◌<◌, [], vec_capacity, vec_len, OnOk};
+ghost use Rattle.std.specs.Prelude.{◌≡◌, ◌<◌, ◌++◌, [], ◌∷◌, vec_capacity, vec_len, OnOk};
+ghost use Rattle.posted_users.specs.KeptRule.{kept};
+ghost use Rattle.posted_users.specs.PostedState.{rules_of};
 
 use crate::moves::moves_between;
 use crate::posted::PostedUser;
@@ -30,6 +32,30 @@ impl<U: UserConstraint> PostedUsers<U> {
         ensures room { OnOk result (vec_len self.new.posted < vec_capacity self.new.posted) }
     {
         Ok(self.posted.reserve(1)?)
+    }
+
+    /// Puts a constraint behind the others, which holds these numbers.
+    pub fn push_reserved(&mut self, alloc: Global, user: U, numbers: Vec<i64>)
+        requires room { vec_len self.old.posted < vec_capacity self.old.posted }
+        requires usable { U.usable user }
+        requires held { U.held user ≡ numbers.items }
+        ensures { rules_of self.new.posted.items ≡ rules_of self.old.posted.items ++ kept (U.user_rule user) ∷ [] }
+    {
+        self.posted.push_reserved(PostedUser::of(alloc, user, numbers));
+    }
+
+    /// Makes one of them hold a list with a number for each of its places. `NoMemory` also comes where there is none with
+    /// this number, or the list is of another length.
+    #[tactic(auto, using(crate::proofs::KeptLaws::rules_set))]
+    pub fn hold(&mut self, user: u32, list: &[i64]) -> Result<(), NoMemory>
+        ensures { rules_of self.new.posted.items ≡ rules_of self.old.posted.items }
+    {
+        let place = user as usize;
+        if place >= self.posted.len() {
+            return Err(NoMemory);
+        }
+        let one = &mut self.posted[place];
+        one.hold(list)
     }
 }
 
