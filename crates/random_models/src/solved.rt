@@ -5,7 +5,7 @@ use crate::plain::{Answer, comes_to, place_of};
 use cbl_base::{NoMemory, VarId};
 use cbl_operations::Op;
 use ls_events::VarChange;
-use ls_solver::{Solver, SolverFault};
+use ls_solver::{BoxSolver as Solver, SolverFault};
 use std::alloc::Global;
 use term_model::{Term, VarKind};
 

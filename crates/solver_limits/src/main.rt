@@ -3,7 +3,7 @@
 
 use cbl_base::{Limit, NoMemory, Place, RunFault, VarId};
 use cbl_operations::Op;
-use ls_solver::{Solver, SolverFault};
+use ls_solver::{BoxSolver as Solver, SolverFault};
 use std::alloc::Global;
 use std::process::ExitCode;
 use term_model::Term;

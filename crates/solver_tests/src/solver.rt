@@ -4,7 +4,7 @@ ghost use Rattle.std.specs.Prelude.{◌≡◌, ◌<◌, true};
 use cbl_base::limits::MAX_VARIABLES;
 use cbl_base::{Limit, Numbers, Place, RunFault, Steps, VarId};
 use ls_events::{Solution, VarChange};
-use ls_solver::{Solver, SolverFault};
+use ls_solver::{BoxSolver as Solver, SolverFault};
 use std::alloc::Global;
 use std::marker::Brand;
 use std::sync::ledger::{Blank, Ledger};

@@ -2,7 +2,7 @@
 ghost use Rattle.std.specs.Prelude.{◌≡◌, ◌<◌};
 
 use cbl_base::{Place, RunFault, Steps, VarId};
-use ls_solver::{ObjectiveId, Solver, SolverFault, SystemId};
+use ls_solver::{BoxSolver as Solver, ObjectiveId, SolverFault, SystemId};
 use std::alloc::Global;
 use std::marker::Brand;
 use std::sync::ledger::{Blank, Ledger};
