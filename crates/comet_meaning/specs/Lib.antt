@@ -53,3 +53,4 @@ pub mod Spending
 pub mod Examples
 pub mod SystemExamples
 pub mod SearchExamples
+pub mod UserExamples

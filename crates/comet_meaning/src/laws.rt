@@ -1,15 +1,17 @@
 //! Laws over the definitions alone: what they say of every program, and of some small ones.
-ghost use Rattle.std.specs.Prelude.{◌≡◌, ℕ, suc, ◌≤◌, true, List, [], codes};
+ghost use Rattle.std.specs.Prelude.{◌≡◌, ℕ, suc, ◌≤◌, pos, true, List, [], ◌∷◌, ◌++◌, codes, Some, Ok};
 ghost use Rattle.cbl_base.specs.declared.place.Place.{Place};
 ghost use Rattle.checked_tree.specs.Shape.{Shape, Seen, whole};
 ghost use Rattle.checked_tree.specs.Tasks.{Coded, Whole, Work};
-ghost use Rattle.cbl_base.specs.declared.faults.RunFault.TheVariants.{AlreadyClosed, Depth, DivideByZero, EmptyRange, NoData, NoMove, NotClosed, OutOfRange, WrongSolver};
-ghost use Rattle.comet_meaning.specs.Outcome.{Faulted, SpentAt, then_do, give};
+ghost use Rattle.cbl_base.specs.declared.faults.RunFault.TheVariants.{AlreadyClosed, Depth, DivideByZero, EmptyRange, NoData, NoMove, NotClosed, OutOfRange, UnknownUser, UserSpent, WrongSolver};
+ghost use Rattle.comet_meaning.specs.Outcome.{Faulted, Halted, SpentAt, then_do, give};
 ghost use Rattle.comet_meaning.specs.Loops.{while_form, turn_form, end_or, repeated};
 ghost use Rattle.comet_meaning.specs.Events.{next_event};
 ghost use Rattle.comet_meaning.specs.Selection.{scan_form};
 ghost use Rattle.std.specs.List.{list_all};
-ghost use Rattle.comet_meaning.specs.State.{State};
+ghost use Rattle.comet_meaning.specs.State.{State, first_state};
+ghost use Rattle.comet_meaning.specs.TakingUsers.{take_user};
+ghost use Rattle.comet_meaning.specs.Users.{first_free, with_taken};
 ghost use Rattle.comet_meaning.specs.Program.{level, code_of, run, meaning, Done, Stopped};
 ghost use Rattle.comet_meaning.specs.Purity.{is_pure, pure_functions};
 ghost use Rattle.comet_meaning.specs.OneEnd.{HasOneEnd};
@@ -18,6 +20,7 @@ ghost use Rattle.comet_meaning.specs.Spending.{IsSpent, Outside, with_outside, l
 ghost use Rattle.comet_meaning.specs.Examples as examples;
 ghost use Rattle.comet_meaning.specs.SystemExamples as systems;
 ghost use Rattle.comet_meaning.specs.SearchExamples as searches;
+ghost use Rattle.comet_meaning.specs.UserExamples as posted;
 ghost use Rattle.comet_meaning.specs.Words.{behind_word, word, words_behind};
 
 /// From each state a program has exactly one end.
@@ -157,6 +160,23 @@ pub fn lengths_come_behind_the_charges()
     ensures weights { (meaning systems.weighing 0 7 [] []).end ≡ Stopped (SpentAt (examples.column 100)) }
     ensures name { (meaning systems.weighing 0 5 [] []).end ≡ Stopped (SpentAt (examples.column 91)) }
     ensures window { (meaning systems.without_window 0 100 [] []).end ≡ Stopped (Faulted (examples.column 91) OutOfRange) }
+{}
+
+/// A user's constraint is taken by its name, the first one that is free. Its call costs a unit at its name, and then each
+/// place one at the places; and behind these it is taken. A second one is taken where there is a second.
+pub fn users_are_taken_by_name()
+    ensures unknown { meaning (posted.posting_of (codes "other")) 0 8 [] posted.both ≡ record { end = Stopped (Faulted (examples.column 91) UnknownUser); fuel = 0; printed = [] } }
+    ensures places { (meaning (posted.posting_of (codes "other")) 0 7 [] posted.both).end ≡ Stopped (SpentAt (examples.column 103)) }
+    ensures name { (meaning (posted.posting_of (codes "other")) 0 5 [] posted.both).end ≡ Stopped (SpentAt (examples.column 91)) }
+    ensures spent { (meaning (posted.posting_of (codes "allequal")) 0 100 [] (with_taken posted.both 0)).end ≡ Stopped (Faulted (examples.column 91) UserSpent) }
+    ensures twice { (at : Place) → then_do (take_user at (codes "increasing") (first_state 0 0 [] posted.both)) (λ n. take_user at (codes "increasing")) ≡ Halted (Faulted at UserSpent) (record { fuel = 0; printed = [] }) }
+    ensures second { first_free (codes "allequal") (with_taken (posted.both ++ posted.both) 0) ≡ Some 2 }
+{}
+
+/// A system has the violations that the rule of a user's constraint in it tells of the numbers at its places.
+pub fn users_tell_violations()
+    ensures equal { posted.violations_over posted.all_equal (pos 2 ∷ pos 2 ∷ pos 5 ∷ []) ≡ Ok (pos 1) }
+    ensures increasing { posted.violations_over posted.increasing (pos 3 ∷ pos 1 ∷ pos 2 ∷ []) ≡ Ok (pos 2) }
 {}
 
 /// The words of a stream are the generator's, one after the other. Known are the first three of seed 42 and stream 54.
