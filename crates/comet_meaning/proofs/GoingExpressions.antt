@@ -163,16 +163,16 @@ unfolding post_one
 goes_post_one l h at o c ws =
     goes_then (goes_value l h o) (λ v. goes_then (goes_constraint l h c) (λ t. goes_then (goes_weight l h ws) (λ weight. goes_then (goes_charge 1 at) (λ _. goes_post at t weight v))))
 
-pub goes_post_taken : (at user : Place) (n : ℕ) (ts : List Term) (weight : ℤ) (v : Value) → GoesOn (post_taken at user n ts weight v)
+pub goes_post_taken : (at : Place) (n : ℕ) (ts : List Term) (weight : ℤ) (v : Value) → GoesOn (post_taken at n ts weight v)
 unfolding post_taken
-goes_post_taken at user n ts weight v = goes_at (λ s. goes_post_user at user _ ts weight v)
+goes_post_taken at n ts weight v = goes_at (λ s. goes_post_user at _ ts weight v)
 
 pub goes_post_named : (l : Level) → LevelGoesOn l → (at : Place) (o c : Shape) (ws : List Shape) (name : List ℕ) → GoesOn (post_named l at o c ws name)
 unfolding post_named
 goes_post_named l h at o c ws name =
     goes_then (goes_value l h o) (λ v. goes_then (goes_terms l h c) (λ xs. goes_then (goes_take_user (place_of c) name) (λ n.
     goes_then (goes_node (place_of c) (ops.User n) xs.terms) (λ _. goes_then (goes_weight l h ws) (λ weight. goes_then (goes_charge 1 at) (λ _.
-    goes_post_taken at (place_of c) n xs.terms weight v))))))
+    goes_post_taken at n xs.terms weight v))))))
 
 pub goes_post_either : (l : Level) → LevelGoesOn l → (at : Place) (o c : Shape) (ws : List Shape) (name : Option (List ℕ)) → GoesOn (post_either l at o c ws name)
 goes_post_either l h at o c ws None = goes_post_one l h at o c ws

@@ -62,16 +62,16 @@ goes_post_to at t weight k w = goes_at (λ s. goes_then (goes_posting at k w t w
 pub goes_post : (at : Place) (t : Term) (weight : ℤ) (v : Value) → GoesOn (post at t weight v)
 goes_post at t weight v = goes_of_whole (post_to at t weight) v (goes_post_to at t weight)
 
-goes_posting_user : (at user : Place) (k : ℕ) (w : Whole) (rule : KeptRule) (ts : List Term) (weight : ℤ) (m : SolverState) → GoesOn (posting_user at user k w rule ts weight m)
+goes_posting_user : (at : Place) (k : ℕ) (w : Whole) (rule : KeptRule) (ts : List Term) (weight : ℤ) (m : SolverState) → GoesOn (posting_user at k w rule ts weight m)
 unfolding posting_user
-goes_posting_user at user k w rule ts weight m = goes_posting at k w _ weight _
+goes_posting_user at k w rule ts weight m = goes_posting at k w _ weight _
 
-goes_post_user_to : (at user : Place) (rule : KeptRule) (ts : List Term) (weight : ℤ) (k : ℕ) (w : Whole) → GoesOn (post_user_to at user rule ts weight k w)
+goes_post_user_to : (at : Place) (rule : KeptRule) (ts : List Term) (weight : ℤ) (k : ℕ) (w : Whole) → GoesOn (post_user_to at rule ts weight k w)
 unfolding post_user_to
-goes_post_user_to at user rule ts weight k w = goes_at (λ s. goes_then (goes_posting_user at user k w rule ts weight _) (λ _. goes_give {x = Nothing}))
+goes_post_user_to at rule ts weight k w = goes_at (λ s. goes_then (goes_posting_user at k w rule ts weight _) (λ _. goes_give {x = Nothing}))
 
-pub goes_post_user : (at user : Place) (rule : KeptRule) (ts : List Term) (weight : ℤ) (v : Value) → GoesOn (post_user at user rule ts weight v)
-goes_post_user at user rule ts weight v = goes_of_whole (post_user_to at user rule ts weight) v (goes_post_user_to at user rule ts weight)
+pub goes_post_user : (at : Place) (rule : KeptRule) (ts : List Term) (weight : ℤ) (v : Value) → GoesOn (post_user at rule ts weight v)
+goes_post_user at rule ts weight v = goes_of_whole (post_user_to at rule ts weight) v (goes_post_user_to at rule ts weight)
 
 goes_taking_user : (at : Place) (known : Bool) (n : Option ℕ) → GoesOn (taking_user at known n)
 goes_taking_user at known (Some n) = record { from = λ s. onward_refl (left s) }

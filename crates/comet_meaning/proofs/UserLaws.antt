@@ -39,7 +39,7 @@ module _ (rule : KeptRule) (zs : List ℤ) where
   env = outcome_of_var users (posted_over rule zs).model zs
 
   abbrev term : Term
-  term = node (User 0) (variable (cell 0) ∷ variable (cell 1) ∷ variable (cell 2) ∷ []) (column 1)
+  term = node (User 0) (variable (cell 0) ∷ variable (cell 1) ∷ variable (cell 2) ∷ []) (record { line = 0; col = 0 })
 
   abbrev summed : Outcome → Result ℤ Failure
   summed o = sum_or (sum_of (column 1) (gather_number (Some []) o) (pos 1 ∷ [])) (failure_below users (posted_over rule zs).model env (System 0))
@@ -54,7 +54,7 @@ module _ (rule : KeptRule) (zs : List ℤ) where
   pub over_three : violations_over rule zs ≡ summed told
   over_three =
       by_term
-      ∙ ap summed (node_fold (outcome_step users env) (λ os. operated users (User 0) (gathered os)) (User 0) (column 1) (cell 0) (cell 1) (cell 2) (λ args. refl))
+      ∙ ap summed (node_fold (outcome_step users env) (λ os. operated users (User 0) (gathered os)) (User 0) _ (cell 0) (cell 1) (cell 2) (λ args. refl))
 
 pub equal_over : violations_over all_equal (pos 2 ∷ pos 2 ∷ pos 5 ∷ []) ≡ Ok (pos 1)
 unfolding everything half most

@@ -41,8 +41,8 @@ user_name (shapes.typed start at kind moving (shapes.builtin builtins.User (shap
 user_name e = None
 
 -- the one with this number among those that were handed in
-unfoldable pub post_taken : Place → Place → ℕ → List Term → ℤ → Value → Act Value
-post_taken at user n ts weight v = λ s. post_user at user (rule_in s.users n) ts weight v s
+unfoldable pub post_taken : Place → ℕ → List Term → ℤ → Value → Act Value
+post_taken at n ts weight v = λ s. post_user at (rule_in s.users n) ts weight v s
 
 unfoldable pub post_named : Level → Place → Shape → Shape → List Shape → List ℕ → Act Value
 post_named l at o c ws name = do
@@ -52,7 +52,7 @@ post_named l at o c ws name = do
   _ ← node_form (place_of c) (ops.User n) xs.terms
   weight ← weight_form l ws
   _ ← charge 1 at
-  post_taken at (place_of c) n xs.terms weight v
+  post_taken at n xs.terms weight v
 
 abbrev pub post_either : Level → Place → Shape → Shape → List Shape → Option (List ℕ) → Act Value
 post_either l at o c ws None = post_one l at o c ws

@@ -85,23 +85,22 @@ abbrev pub post : Place → Term → ℤ → Value → Act Value
 post at t weight v = of_whole (post_to at t weight) v
 
 -- the same of a user's constraint over these places: it gets the next number of its solver, and its rule stands behind those
--- of the solver
+-- of the solver; its node has no place, since it never fails
 
-abbrev pub user_node : Place → List Term → SolverState → Term
-user_node at ts m = node (ops.User (length m.rules)) ts at
+abbrev pub user_node : List Term → SolverState → Term
+user_node ts m = node (ops.User (length m.rules)) ts (record { line = 0; col = 0 })
 
 abbrev pub with_rule : KeptRule → SolverState → SolverState
 with_rule rule m = record m { rules = m.rules ++ rule ∷ [] }
 
-unfoldable pub posting_user : Place → Place → ℕ → Whole → KeptRule → List Term → ℤ → SolverState → Act (Unit {0})
-posting_user at user k w rule ts weight m = posting at k w (user_node user ts m) weight (with_rule rule m)
+unfoldable pub posting_user : Place → ℕ → Whole → KeptRule → List Term → ℤ → SolverState → Act (Unit {0})
+posting_user at k w rule ts weight m = posting at k w (user_node ts m) weight (with_rule rule m)
 
-unfoldable pub post_user_to : Place → Place → KeptRule → List Term → ℤ → ℕ → Whole → Act Value
-post_user_to at user rule ts weight k w = λ s. (posting_user at user k w rule ts weight (solver_at s k) >>= λ _. give Nothing) s
+unfoldable pub post_user_to : Place → KeptRule → List Term → ℤ → ℕ → Whole → Act Value
+post_user_to at rule ts weight k w = λ s. (posting_user at k w rule ts weight (solver_at s k) >>= λ _. give Nothing) s
 
--- with the place of `post`, and that of `user`
-abbrev pub post_user : Place → Place → KeptRule → List Term → ℤ → Value → Act Value
-post_user at user rule ts weight v = of_whole (post_user_to at user rule ts weight) v
+abbrev pub post_user : Place → KeptRule → List Term → ℤ → Value → Act Value
+post_user at rule ts weight v = of_whole (post_user_to at rule ts weight) v
 
 -- a new objective of one term, in the solver of the first variable in it, in the order of the operations' arguments
 

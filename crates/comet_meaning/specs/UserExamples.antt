@@ -83,7 +83,7 @@ solver_of zs = record new_solver { model = three; assignment = zs }
 
 abbrev pub posted_over : KeptRule → List ℤ → SolverState
 posted_over rule zs = record (with_rule rule (solver_of zs)) {
-  model = with_member three (System 0) (record { term = user_node (column 1) three_cells (solver_of zs); weight = pos 1 });
+  model = with_member three (System 0) (record { term = user_node three_cells (solver_of zs); weight = pos 1 });
 }
 
 -- the violations of the system that holds it
