@@ -15,6 +15,7 @@ pub mod FreeLaws
 pub mod NewLaws
 pub mod NodeLaws
 pub mod PostLaws
+pub mod UserLaws
 pub mod ReadStops
 pub mod SeenLaws
 pub mod SolutionLaws

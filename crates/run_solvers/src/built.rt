@@ -46,9 +46,9 @@ impl Model for Built {
 
 /// Terms in a row, and the depth of the deepest.
 #[derive(Drop)]
-struct Row {
-    terms: Vec<Term>,
-    deepest: u32,
+pub(crate) struct Row {
+    pub(crate) terms: Vec<Term>,
+    pub(crate) deepest: u32,
 }
 
 impl Built {
@@ -124,7 +124,7 @@ fn is_user(op: &Op) -> bool
 }
 
 /// The terms in a row.
-fn row_of(args: Vec<Built>) -> Result<Row, NoMemory>
+pub(crate) fn row_of(args: Vec<Built>) -> Result<Row, NoMemory>
     ensures { IfOk result (λ row. AreBuilt row.terms.items row.deepest args.items) }
 {
     let mut row = Row {

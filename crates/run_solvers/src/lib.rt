@@ -19,6 +19,7 @@ mod refusals;
 mod solutions;
 mod solvers;
 mod totals;
+mod users;
 mod waiting;
 
 pub use beginning::Beginning;
