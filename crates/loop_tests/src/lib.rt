@@ -6,4 +6,6 @@
 #[cfg(test)]
 mod journals;
 #[cfg(test)]
+mod loops;
+#[cfg(test)]
 mod sleepers;

@@ -10,16 +10,16 @@ use Rattle.best_turn.proofs.Histories.{legal_push, still}
 use Rattle.parall_loop.specs.Iteration.{Next, Asks, Ends, asked_of, replies_of, asked_by, Follows, then_comes, Fits}
 use Rattle.parall_loop.specs.Schedule.{moved, step, scheduled, MayAsk, IsUnderWay, Schedules}
 
-map_append : {A B : Type 0} (f : A → B) (xs ys : List A) → map f (xs ++ ys) ≡ map f xs ++ map f ys
+pub map_append : {A B : Type 0} (f : A → B) (xs ys : List A) → map f (xs ++ ys) ≡ map f xs ++ map f ys
 map_append f [] ys = refl
 map_append f (x ∷ xs) ys = ap (λ l. f x ∷ l) (map_append f xs ys)
 
-all_append : {A : Type 0} (P : A → Type 0) (xs ys : List A) → AllByRecursion P xs → AllByRecursion P ys → AllByRecursion P (xs ++ ys)
+pub all_append : {A : Type 0} (P : A → Type 0) (xs ys : List A) → AllByRecursion P xs → AllByRecursion P ys → AllByRecursion P (xs ++ ys)
 all_append P [] ys f g = g
 all_append P (x ∷ xs) ys f g = (f.0, all_append P xs ys f.1 g)
 
 module _ {Q R : Type 0} where
-  of_append : (k : ℕ) (xs ys : List (Entry Q R)) → of_iteration k (xs ++ ys) ≡ of_iteration k xs ++ of_iteration k ys
+  pub of_append : (k : ℕ) (xs ys : List (Entry Q R)) → of_iteration k (xs ++ ys) ≡ of_iteration k xs ++ of_iteration k ys
   of_append k [] ys = refl
   of_append k (x ∷ xs) ys = cases (eqb x.iteration k) (of_append k xs ys)
     where

@@ -1,6 +1,6 @@
 -- What an iteration does: after each list of replies it asks a request or ends with an outcome. A rule of this
 -- project.
-use Rattle.std.specs.Prelude.{◌≡◌, ℕ, ◌<◌, Bool, false, List, [], ◌∷◌, ◌++◌, map}
+use Rattle.std.specs.Prelude.{◌≡◌, ℕ, zero, suc, ◌<◌, Bool, false, List, [], ◌∷◌, ◌++◌, map}
 use Rattle.std.specs.List.{AllByRecursion}
 use Rattle.best_turn.specs.declared.replays.Entry.{Entry}
 use Rattle.best_turn.specs.History.{of_iteration, IsLegal}
@@ -21,6 +21,11 @@ module _ {Q R : Type 0} where
   -- what the entries of a history say that this iteration asked, in order
   abbrev pub asked_by : ℕ → List (Entry Q R) → List (Q × R)
   asked_by k history = asked_of (of_iteration k history)
+
+  -- the entries of so many iterations from k on, one iteration after the other
+  abbrev pub one_by_one : List (Entry Q R) → ℕ → ℕ → List (Entry Q R)
+  one_by_one history k zero = []
+  one_by_one history k (suc more) = of_iteration k history ++ one_by_one history (suc k) more
 
   module _ {T : Type 0} where
     -- behind these replies, just these requests are asked, where they are replied to so

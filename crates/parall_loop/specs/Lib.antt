@@ -1,2 +1,3 @@
 pub mod Iteration
 pub mod Schedule
+pub mod Runs

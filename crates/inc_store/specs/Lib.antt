@@ -1,0 +1,5 @@
+pub mod Course
+pub mod Faults
+pub mod Moves
+pub mod Stores
+pub mod Views

@@ -1,0 +1,200 @@
+//! The loop of four reports over one monitor, and a gate that shows that iterations run beside each other.
+ghost use Rattle.std.specs.Prelude.{◌≡◌, ◌<◌, ◌≤◌, length, IfOk, IfSome, is_none};
+ghost use Rattle.loop_tests.specs.Asking.{asks_of, report_of, truth_of};
+
+use best_monitor::{Board, MonitorPort, Reply, Request};
+use best_turn::Replays;
+use cbl_base::{NoMemory, Numbers};
+use parall_loop::{Gate, IterBody, LoopResult, OpenGate, run_loop};
+use std::alloc::Global;
+use std::sync::Wait;
+use std::sync::atomic::{AtomicBool, Ordering};
+use std::test::*;
+use std::thread;
+use std::thread::Threads;
+
+// Each iteration reports its value, with the number behind its own as its list, and ends with whether the best was
+// replaced. Without memory it ends with `None`.
+#[derive(Drop)]
+struct Reports {
+    alloc: Global,
+    values: Vec<i64>,
+}
+
+impl IterBody<Board> for Reports {
+    type Outcome = Option<bool>;
+
+    ghost asks = { λ b k replies. asks_of b.values.items k replies };
+
+    ghost is_cut = { λ outcome. is_none outcome };
+
+    fn run<P: MonitorPort<Board>>(&self, iteration: u32, port: &mut P) -> Option<bool> {
+        let Some(request) = self.report(iteration) else {
+            return None;
+        };
+        let Ok(reply) = port.ask(request) else {
+            return None;
+        };
+        truth(&reply)
+    }
+}
+
+impl Reports {
+    fn report(&self, iteration: u32) -> Option<Request>
+        ensures { IfSome result (λ q. q ≡ report_of self.now.values.items iteration) }
+    {
+        let value = self.values.get(iteration as usize).copied().unwrap_or(0);
+        let list = [i64::from(iteration) + 1];
+        let Ok(list) = Numbers::from_slice(self.alloc, &list) else {
+            return None;
+        };
+        Some(Request::Report {
+            monitor: 0,
+            value,
+            list,
+        })
+    }
+}
+
+fn truth(reply: &Reply) -> Option<bool>
+    ensures { result ≡ truth_of reply.now }
+{
+    match reply {
+        Reply::Truth(holds) => Some(*holds),
+        _ => None,
+    }
+}
+
+fn board_of_one(alloc: Global) -> Result<Board, NoMemory>
+    ensures { IfOk result (λ b. length b ≡ 1) }
+{
+    let mut board = Board::new(alloc);
+    board.declare()?;
+    Ok(board)
+}
+
+// The loop of the reports 4, 1, 0 and 1.
+fn report_all<G: Gate + Sync, R: Threads + Wait + Sync>(
+    rt: &R,
+    alloc: Global,
+    gate: &G,
+    workers: u32,
+) -> Result<LoopResult<Board, Option<bool>>, NoMemory>
+    requires { (1 ≤ workers) × (workers ≤ 64) }
+{
+    let mut values = Vec::new(alloc);
+    values.extend_from_slice(&[4, 1, 0, 1])?;
+    let body = Reports { alloc, values };
+    let board = board_of_one(alloc)?;
+    run_loop(rt, alloc, &body, gate, 4, workers, board)
+}
+
+// Whether each iteration reported once, each reply is what a board replies there, it is the iteration's outcome, and
+// the least value is the best at the end.
+fn is_told_as_asked(
+    alloc: Global,
+    left: &LoopResult<Board, Option<bool>>,
+) -> Result<bool, NoMemory> {
+    let mut board = board_of_one(alloc)?;
+    let mut seen = [false; 4];
+    for entry in left.history.iter() {
+        let k = entry.iteration as usize;
+        if entry.request.monitor() != 0 {
+            return Ok(false);
+        }
+        if k >= seen.len() {
+            return Ok(false);
+        }
+        if seen[k] {
+            return Ok(false);
+        }
+        seen[k] = true;
+        let reply = truth(&board.step(&entry.request)?);
+        if truth(&entry.reply) != reply || left.outcomes.get(k).copied() != Some(reply) {
+            return Ok(false);
+        }
+    }
+    if left.history.len() != 4 {
+        return Ok(false);
+    }
+    Ok(matches!(
+        board.reply(&Request::Value { monitor: 0 })?,
+        Reply::Number(0)
+    ))
+}
+
+// Whether the entries of the iterations stand one iteration after the other.
+fn is_in_order(left: &LoopResult<Board, Option<bool>>) -> bool {
+    let mut latest = 0;
+    for entry in left.history.iter() {
+        if entry.iteration < latest {
+            return false;
+        }
+        latest = entry.iteration;
+    }
+    true
+}
+
+#[test]
+fn one_worker_reports_in_order(rt: HostRuntime) -> Result<(), Fail> {
+    let left = report_all(&rt, rt.alloc(), &OpenGate, 1)?;
+    assert!(rt; is_told_as_asked(rt.alloc(), &left)?);
+    assert!(rt; is_in_order(&left));
+    assert_eq!(rt; left.outcomes.len(), 4);
+    assert_eq!(rt; left.outcomes[2], Some(true));
+    assert_eq!(rt; left.outcomes[3], Some(false));
+    Ok(())
+}
+
+#[test]
+fn four_workers_report_once_each(rt: HostRuntime) -> Result<(), Fail> {
+    let result = report_all(&rt, rt.alloc(), &OpenGate, 4)?;
+    assert!(rt; is_told_as_asked(rt.alloc(), &result)?);
+    Ok(())
+}
+
+// Holds iteration 0 until iteration 1 has entered, for so many turns at most, and says whether it met that limit.
+#[derive(Drop)]
+struct HoldFirst {
+    entered: AtomicBool,
+    met_limit: AtomicBool,
+}
+
+const MOST_TURNS: u32 = 100_000_000;
+
+impl Gate for HoldFirst {
+    fn enter(&self, iteration: u32) {
+        if iteration == 1 {
+            self.entered.store(true, Ordering::SeqCst);
+        }
+        if iteration == 0 && !self.is_let_in() {
+            self.met_limit.store(true, Ordering::SeqCst);
+        }
+    }
+
+    fn leave(&self, _iteration: u32) {}
+}
+
+impl HoldFirst {
+    fn is_let_in(&self) -> bool {
+        for _turn in 0..MOST_TURNS {
+            if self.entered.load(Ordering::SeqCst) {
+                return true;
+            }
+            thread::yield_now();
+        }
+        false
+    }
+}
+
+#[test]
+fn two_workers_run_beside_each_other(rt: HostRuntime) -> Result<(), Fail> {
+    let gate = HoldFirst {
+        entered: AtomicBool::new(false),
+        met_limit: AtomicBool::new(false),
+    };
+    let result = report_all(&rt, rt.alloc(), &gate, 2)?;
+    assert!(rt; !gate.met_limit.load(Ordering::SeqCst));
+    assert!(rt; is_told_as_asked(rt.alloc(), &result)?);
+    Ok(())
+}

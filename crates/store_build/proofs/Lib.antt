@@ -1,0 +1,13 @@
+pub mod EndLemmas
+pub mod Existence
+pub mod GatherLemmas
+pub mod GroupLemmas
+pub mod KeepLemmas
+pub mod LaidLemmas
+pub mod LayerLemmas
+pub mod ListLemmas
+pub mod NumberGraphs
+pub mod PlannedLayers
+pub mod UseLemmas
+pub mod ValueLemmas
+pub mod WholeLemmas

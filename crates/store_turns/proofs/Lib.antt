@@ -1,0 +1,11 @@
+pub mod Budget
+pub mod ChangeLists
+pub mod Differs
+pub mod Fitting
+pub mod NextTurn
+pub mod Reaching
+pub mod SetChanges
+pub mod Told
+pub mod TurnOrder
+pub mod Unique
+pub mod UseLists

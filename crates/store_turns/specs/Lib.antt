@@ -1,0 +1,5 @@
+pub mod Meaning
+pub mod Telling
+pub mod Touch
+pub mod Turns
+pub mod Waits

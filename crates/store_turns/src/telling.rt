@@ -1,0 +1,115 @@
+//! The new outcome of a node is told to those that use it.
+ghost use Rattle.std.specs.Prelude.{◌≡◌, ◌≢◌, ℕ, ◌+◌, ◌*◌, ◌<◌, ◌≤◌, true, cond, length, map, slice_index_or, IfOk, OnOk, All};
+ghost use Rattle.cbl_base.specs.Inputs.{kind_of};
+ghost use Rattle.cbl_base.specs.declared.input.Input.{Input};
+ghost use Rattle.store_turns.specs.declared.outcome.Outcome.TheVariants.{Value};
+ghost use Rattle.store_turns.specs.Waits.{waits};
+ghost use Rattle.store_turns.specs.Touch.{differs};
+ghost use Rattle.store_turns.specs.Telling.{change_to, places_in, pushed, blocked, layer_in, IsTold};
+
+use crate::outcome::{Outcome, same};
+use crate::set_changes::change_to;
+use crate::waiting::{Turn, Waiting};
+use cbl_base::{NoMemory, NodeId, NodeValue, Steps};
+use std::sync::ledger::Ledger;
+
+/// Tells those that use an id that it came to the outcome, where its value was the old one, and answers
+/// whether the outcome is another. At most two steps a use, and none where it isn't.
+pub fn tell<L: Ledger>(
+    waiting: &mut Waiting,
+    layers: &[u32],
+    uses: &[(NodeId, u32)],
+    old: &NodeValue,
+    outcome: &Outcome,
+    steps: &mut Steps<L>,
+) -> Result<bool, NoMemory>
+    requires users { All (λ u. u.0.0 < length layers.now) uses.now }
+    requires kinds { (x : Input) → outcome.now ≡ Value x → kind_of x ≡ kind_of old.now }
+    ensures answer { IfOk result (λ r. r ≡ differs outcome.now old.now) }
+    ensures told { OnOk result (IsTold (layer_in layers.now) uses.now old.now outcome.now (waits waiting.old) (waits waiting.new)) }
+    ensures steps { steps.new ≤ steps.old + 2 * cond (differs outcome.now old.now) (length uses.now) 0 }
+{
+    match outcome {
+        Outcome::Value(new) => tell_value(waiting, layers, uses, old, new, steps),
+        Outcome::Fails(_) => block_all(waiting, layers, uses, steps),
+        Outcome::Missing => block_all(waiting, layers, uses, steps),
+    }
+}
+
+/// Tells those that use an id that its value was the old one and is the new one, and answers whether
+/// that is another.
+fn tell_value<L: Ledger>(
+    waiting: &mut Waiting,
+    layers: &[u32],
+    uses: &[(NodeId, u32)],
+    old: &NodeValue,
+    new: &NodeValue,
+    steps: &mut Steps<L>,
+) -> Result<bool, NoMemory>
+    requires users { All (λ u. u.0.0 < length layers.now) uses.now }
+    requires kinds { kind_of new.now ≡ kind_of old.now }
+    ensures answer { IfOk result (λ r. r ≡ differs (Value new.now) old.now) }
+    ensures told { OnOk result (IsTold (layer_in layers.now) uses.now old.now (Value new.now) (waits waiting.old) (waits waiting.new)) }
+    ensures steps { steps.new ≤ steps.old + 2 * cond (differs (Value new.now) old.now) (length uses.now) 0 }
+{
+    if same(old, new) {
+        return Ok(false);
+    }
+    push_all(waiting, layers, uses, old, new, steps)?;
+    Ok(true)
+}
+
+/// Each use of an id gets the change from its old value to its new one. Two steps a use.
+fn push_all<L: Ledger>(
+    waiting: &mut Waiting,
+    layers: &[u32],
+    uses: &[(NodeId, u32)],
+    old: &NodeValue,
+    new: &NodeValue,
+    steps: &mut Steps<L>,
+) -> Result<(), NoMemory>
+    requires users { All (λ u. u.0.0 < length layers.now) uses.now }
+    requires kinds { kind_of new.now ≡ kind_of old.now }
+    ensures here { OnOk result ((j : ℕ) → waits waiting.new (layer_in layers.now j) j ≡ pushed (map (λ p. change_to p old.now new.now) (places_in j uses.now)) (waits waiting.old (layer_in layers.now j) j)) }
+    ensures elsewhere { OnOk result ((l j : ℕ) → l ≢ layer_in layers.now j → waits waiting.new l j ≡ waits waiting.old l j) }
+    ensures steps { steps.new ≤ steps.old + 2 * length uses.now }
+{
+    let alloc = waiting.alloc();
+    for (id, place) in uses {
+        let turn = turn_of(layers, *id);
+        let change = change_to(alloc, *place, old, new)?;
+        waiting.push(turn, change, steps)?;
+    }
+    Ok(())
+}
+
+/// Each use of an id hears that it has no value. One step a use.
+fn block_all<L: Ledger>(
+    waiting: &mut Waiting,
+    layers: &[u32],
+    uses: &[(NodeId, u32)],
+    steps: &mut Steps<L>,
+) -> Result<bool, NoMemory>
+    requires users { All (λ u. u.0.0 < length layers.now) uses.now }
+    ensures answer { IfOk result (λ r. r ≡ true) }
+    ensures here { OnOk result ((j : ℕ) → waits waiting.new (layer_in layers.now j) j ≡ blocked (places_in j uses.now) (waits waiting.old (layer_in layers.now j) j)) }
+    ensures elsewhere { OnOk result ((l j : ℕ) → l ≢ layer_in layers.now j → waits waiting.new l j ≡ waits waiting.old l j) }
+    ensures steps { steps.new ≤ steps.old + length uses.now }
+{
+    for (id, _) in uses {
+        waiting.block(turn_of(layers, *id), steps)?;
+    }
+    Ok(true)
+}
+
+/// The turn of a node.
+fn turn_of(layers: &[u32], id: NodeId) -> Turn
+    requires { id.0 < length layers.now }
+    ensures layer { result.layer ≡ layer_in layers.now id.0 }
+    ensures id { result.id ≡ id.0 }
+{
+    Turn {
+        layer: layers[id.0 as usize],
+        id: id.0,
+    }
+}
