@@ -5,6 +5,7 @@ use Rattle.cbl_io.specs.Appended.{Appends, AppendsFront}
 use Rattle.cbl_io.specs.Faults.{HasRisen}
 use Rattle.cbl_io.specs.Held.{Held}
 use Rattle.checked_tree.specs.Tasks.{Whole}
+use Rattle.comet_meaning.specs.Users.{User}
 use Rattle.comet_words.specs.Asked.{asked}
 use Rattle.comet.specs.Headline.{Taken, RunHeadline, JobHeadline, IsCalm}
 use Rattle.comet.specs.Line.{line_of}
@@ -25,16 +26,16 @@ ends_or_wants status {E} {Risen} read write risen decided =
       | inr ends ↦ inr (decided (ends.1, read, λ is_write. risen (write is_write)))
     ]
 
-pub job_headline : (program : Whole) (seed fuel : ℕ) (text : List ℕ) (report : Report) (out out_after err err_after : Taken) →
+pub job_headline : (users : List User) (program : Whole) (seed fuel : ℕ) (text : List ℕ) (report : Report) (out out_after err err_after : Taken) →
     report.status ≡ status_of report.cause →
     (report.status ≢ 1) × (report.status ≢ 8) →
-    (Decides report.status → (report.cause ≡ cause_of (meant_with program seed fuel text).end) × Appends out.bytes out_after.bytes (meant_with program seed fuel text).printed) →
-    AppendsFront out.bytes out_after.bytes (meant_with program seed fuel text).printed →
+    (Decides report.status → (report.cause ≡ cause_of (meant_with users program seed fuel text).end) × Appends out.bytes out_after.bytes (meant_with users program seed fuel text).printed) →
+    AppendsFront out.bytes out_after.bytes (meant_with users program seed fuel text).printed →
     (report.status ≡ 9 → HasRisen out.faults out_after.faults) →
     (¬ HasRisen err.faults err_after.faults → Appends err.bytes err_after.bytes (line_of report.cause)) →
     AppendsFront err.bytes err_after.bytes (line_of report.cause) →
-    JobHeadline program seed fuel text report out out_after err err_after
-job_headline program seed fuel text report out out_after err err_after status ran exact front write said said_front = record {
+    JobHeadline users program seed fuel text report out out_after err err_after
+job_headline users program seed fuel text report out out_after err err_after status ran exact front write said said_front = record {
   status = status;
   words = (λ e. ran.0 e, λ e. absurd e);
   unwritten = λ e. unwritten e;
@@ -47,31 +48,31 @@ job_headline program seed fuel text report out out_after err err_after status ra
   said_front = said_front;
 }
   where
-    meant : Decides report.status → EndsAsMeant (Runs program seed fuel text) report.cause out.bytes out_after.bytes
-    meant decides = record { printed = (meant_with program seed fuel text).printed; given = ((exact decides).0, refl); written = (exact decides).1 }
+    meant : Decides report.status → EndsAsMeant (Runs users program seed fuel text) report.cause out.bytes out_after.bytes
+    meant decides = record { printed = (meant_with users program seed fuel text).printed; given = ((exact decides).0, refl); written = (exact decides).1 }
 
     unwritten : (report.status ≡ 1) ⊎ (report.status ≡ 8) → out_after.bytes ≡ out.bytes
     unwritten (inl e) = absurd (ran.0 e)
     unwritten (inr e) = absurd (ran.1 e)
 
 -- a run of the job that the words ask for
-meant_by_words : (words : List (List ℕ)) (held : Held) (program : Whole) (seed fuel : ℕ) (text : List ℕ) (cause : Cause) (old new : Option (List ℕ)) → IsJob words held program seed fuel text →
-    EndsAsMeant (Runs program seed fuel text) cause old new → EndsAsMeant (RunOutput words held) cause old new
-meant_by_words words held program seed fuel text cause old new job m = record {
+meant_by_words : (users : List User) (words : List (List ℕ)) (held : Held) (program : Whole) (seed fuel : ℕ) (text : List ℕ) (cause : Cause) (old new : Option (List ℕ)) → IsJob words held program seed fuel text →
+    EndsAsMeant (Runs users program seed fuel text) cause old new → EndsAsMeant (RunOutput users words held) cause old new
+meant_by_words users words held program seed fuel text cause old new job m = record {
   printed = m.printed;
-  given = job_gives words held program seed fuel text cause m.printed job m.given;
+  given = job_gives users words held program seed fuel text cause m.printed job m.given;
   written = m.written;
 }
 
-pub from_job : (words : List (List ℕ)) (told : Option Held) (old new : List ℕ → ℕ) (program : Whole) (seed fuel : ℕ) (text : List ℕ) (report : Report) (out out_after err err_after : Taken) →
+pub from_job : (users : List User) (words : List (List ℕ)) (told : Option Held) (old new : List ℕ → ℕ) (program : Whole) (seed fuel : ℕ) (text : List ℕ) (report : Report) (out out_after err err_after : Taken) →
     ((held : Held) → told ≡ Some held → IsJob words held program seed fuel text) → asked words ≢ None →
-    JobHeadline program seed fuel text report out out_after err err_after → RunHeadline words told old new report out out_after err err_after
-from_job words told old new program seed fuel text report out out_after err err_after job in_form h = record {
+    JobHeadline users program seed fuel text report out out_after err err_after → RunHeadline users words told old new report out out_after err err_after
+from_job users words told old new program seed fuel text report out out_after err err_after job in_form h = record {
   status = h.status;
   words = (λ e. absurd (h.words.0 e), λ e. absurd (in_form e));
   unwritten = h.unwritten;
-  exact = λ held is_told decides. meant_by_words words held program seed fuel text _ _ _ (job held is_told) (h.exact tt refl decides);
-  front = λ held is_told cause printed given. h.front tt refl cause printed (job_only words held program seed fuel text cause printed (job held is_told) given);
+  exact = λ held is_told decides. meant_by_words users words held program seed fuel text _ _ _ (job held is_told) (h.exact tt refl decides);
+  front = λ held is_told cause printed given. h.front tt refl cause printed (job_only users words held program seed fuel text cause printed (job held is_told) given);
   read = λ role is. absurd (h.read role is);
   write = h.write;
   complete = λ held is_told calm still. or_wants held is_told (h.complete tt refl tt still);
@@ -79,50 +80,50 @@ from_job words told old new program seed fuel text report out out_after err err_
   said_front = h.said_front;
 }
   where
-    or_wants : (held : Held) → told ≡ Some held → (report.status ≡ 7) ⊎ EndsAsMeant (Runs program seed fuel text) report.cause out.bytes out_after.bytes →
-        (report.status ≡ 7) ⊎ EndsAsMeant (RunOutput words held) report.cause out.bytes out_after.bytes
+    or_wants : (held : Held) → told ≡ Some held → (report.status ≡ 7) ⊎ EndsAsMeant (Runs users program seed fuel text) report.cause out.bytes out_after.bytes →
+        (report.status ≡ 7) ⊎ EndsAsMeant (RunOutput users words held) report.cause out.bytes out_after.bytes
     or_wants held is_told (inl e) = inl e
-    or_wants held is_told (inr m) = inr (meant_by_words words held program seed fuel text _ _ _ (job held is_told) m)
+    or_wants held is_told (inr m) = inr (meant_by_words users words held program seed fuel text _ _ _ (job held is_told) m)
 
 -- nothing is a front of anything
 nothing_front : (bytes : Option (List ℕ)) (printed : List ℕ) → AppendsFront bytes bytes printed
 nothing_front bytes printed = ([], printed, refl, appends_nothing bytes)
 
 -- a run that is refused before it begins
-refused : (words : List (List ℕ)) (told : Option Held) (old new : List ℕ → ℕ) (cause : Cause) (bytes : Option (List ℕ)) → IsFrontStop words told old new cause →
-    (held : Held) → told ≡ Some held → Decides (status_of cause) → EndsAsMeant (RunOutput words held) cause bytes bytes
-refused words told old new cause bytes stop held is_told decides = record { printed = []; given = stop.given held is_told decides; written = appends_nothing bytes }
+refused : (users : List User) (words : List (List ℕ)) (told : Option Held) (old new : List ℕ → ℕ) (cause : Cause) (bytes : Option (List ℕ)) → IsFrontStop words told old new cause →
+    (held : Held) → told ≡ Some held → Decides (status_of cause) → EndsAsMeant (RunOutput users words held) cause bytes bytes
+refused users words told old new cause bytes stop held is_told decides = record { printed = []; given = stop.given users held is_told decides; written = appends_nothing bytes }
 
-refused_or_wants : (words : List (List ℕ)) (told : Option Held) (old new : List ℕ → ℕ) (cause : Cause) (bytes : Option (List ℕ)) → IsFrontStop words told old new cause →
-    (held : Held) → told ≡ Some held → IsCalm words old new → (status_of cause ≡ 7) ⊎ EndsAsMeant (RunOutput words held) cause bytes bytes
-refused_or_wants words told old new (causes.Read role) bytes stop held is_told calm =
+refused_or_wants : (users : List User) (words : List (List ℕ)) (told : Option Held) (old new : List ℕ → ℕ) (cause : Cause) (bytes : Option (List ℕ)) → IsFrontStop words told old new cause →
+    (held : Held) → told ≡ Some held → IsCalm words old new → (status_of cause ≡ 7) ⊎ EndsAsMeant (RunOutput users words held) cause bytes bytes
+refused_or_wants users words told old new (causes.Read role) bytes stop held is_told calm =
     let b = stop.read role refl in absurd (calm b.asks role b.name b.asked_is b.named b.risen)
-refused_or_wants words told old new causes.NoMemory bytes stop held is_told calm = inl refl
-refused_or_wants words told old new causes.Write bytes stop held is_told calm = absurd (stop.reads_only refl)
-refused_or_wants words told old new causes.Done bytes stop held is_told calm = inr (refused words told old new _ bytes stop held is_told (λ e. absurd cc, λ e. absurd cc, λ e. absurd cc))
-refused_or_wants words told old new causes.Words bytes stop held is_told calm = inr (refused words told old new _ bytes stop held is_told (λ e. absurd cc, λ e. absurd cc, λ e. absurd cc))
-refused_or_wants words told old new (causes.IllFormed place form) bytes stop held is_told calm = inr (refused words told old new _ bytes stop held is_told (λ e. absurd cc, λ e. absurd cc, λ e. absurd cc))
-refused_or_wants words told old new (causes.IllTyped place code) bytes stop held is_told calm = inr (refused words told old new _ bytes stop held is_told (λ e. absurd cc, λ e. absurd cc, λ e. absurd cc))
-refused_or_wants words told old new (causes.Cyclic place names) bytes stop held is_told calm = inr (refused words told old new _ bytes stop held is_told (λ e. absurd cc, λ e. absurd cc, λ e. absurd cc))
-refused_or_wants words told old new (causes.Run place fault) bytes stop held is_told calm = inr (refused words told old new _ bytes stop held is_told (λ e. absurd cc, λ e. absurd cc, λ e. absurd cc))
-refused_or_wants words told old new (causes.Spent place) bytes stop held is_told calm = inr (refused words told old new _ bytes stop held is_told (λ e. absurd cc, λ e. absurd cc, λ e. absurd cc))
+refused_or_wants users words told old new causes.NoMemory bytes stop held is_told calm = inl refl
+refused_or_wants users words told old new causes.Write bytes stop held is_told calm = absurd (stop.reads_only refl)
+refused_or_wants users words told old new causes.Done bytes stop held is_told calm = inr (refused users words told old new _ bytes stop held is_told (λ e. absurd cc, λ e. absurd cc, λ e. absurd cc))
+refused_or_wants users words told old new causes.Words bytes stop held is_told calm = inr (refused users words told old new _ bytes stop held is_told (λ e. absurd cc, λ e. absurd cc, λ e. absurd cc))
+refused_or_wants users words told old new (causes.IllFormed place form) bytes stop held is_told calm = inr (refused users words told old new _ bytes stop held is_told (λ e. absurd cc, λ e. absurd cc, λ e. absurd cc))
+refused_or_wants users words told old new (causes.IllTyped place code) bytes stop held is_told calm = inr (refused users words told old new _ bytes stop held is_told (λ e. absurd cc, λ e. absurd cc, λ e. absurd cc))
+refused_or_wants users words told old new (causes.Cyclic place names) bytes stop held is_told calm = inr (refused users words told old new _ bytes stop held is_told (λ e. absurd cc, λ e. absurd cc, λ e. absurd cc))
+refused_or_wants users words told old new (causes.Run place fault) bytes stop held is_told calm = inr (refused users words told old new _ bytes stop held is_told (λ e. absurd cc, λ e. absurd cc, λ e. absurd cc))
+refused_or_wants users words told old new (causes.Spent place) bytes stop held is_told calm = inr (refused users words told old new _ bytes stop held is_told (λ e. absurd cc, λ e. absurd cc, λ e. absurd cc))
 
-pub from_refusal : (words : List (List ℕ)) (told : Option Held) (old new : List ℕ → ℕ) (report : Report) (out err err_after : Taken) →
+pub from_refusal : (users : List User) (words : List (List ℕ)) (told : Option Held) (old new : List ℕ → ℕ) (report : Report) (out err err_after : Taken) →
     IsFrontStop words told old new report.cause →
     report.status ≡ status_of report.cause →
     (¬ HasRisen err.faults err_after.faults → Appends err.bytes err_after.bytes (line_of report.cause)) →
     AppendsFront err.bytes err_after.bytes (line_of report.cause) →
-    RunHeadline words told old new report out out err err_after
-from_refusal words told old new report out err err_after stop status said said_front = record {
+    RunHeadline users words told old new report out out err err_after
+from_refusal users words told old new report out err err_after stop status said said_front = record {
   status = status;
   words = (λ e. stop.wordless.0 (sym status ∙ e), λ e. status ∙ stop.wordless.1 e);
   unwritten = λ e. refl;
-  exact = λ held is_told decides. refused words told old new report.cause out.bytes stop held is_told (subst Decides status decides);
+  exact = λ held is_told decides. refused users words told old new report.cause out.bytes stop held is_told (subst Decides status decides);
   front = λ held is_told cause printed given. nothing_front out.bytes printed;
   read = stop.read;
   write = λ e. absurd (stop.reads_only (sym status ∙ e));
-  complete = λ held is_told calm still. subst (λ n. (n ≡ 7) ⊎ EndsAsMeant (RunOutput words held) report.cause out.bytes out.bytes) (sym status)
-      (refused_or_wants words told old new report.cause out.bytes stop held is_told calm);
+  complete = λ held is_told calm still. subst (λ n. (n ≡ 7) ⊎ EndsAsMeant (RunOutput users words held) report.cause out.bytes out.bytes) (sym status)
+      (refused_or_wants users words told old new report.cause out.bytes stop held is_told calm);
   said = said;
   said_front = said_front;
 }

@@ -4,6 +4,7 @@ use Rattle.std.specs.FinMap as map
 use Rattle.cbl_io.specs.Held.{Held, IsRead}
 use Rattle.checked_tree.specs.Tasks.{Whole}
 use Rattle.comet_meaning.specs.Limits.{most_data}
+use Rattle.comet_meaning.specs.Users.{User}
 use Rattle.comet_syntax.specs.Place.{first_place}
 use Rattle.comet_syntax.specs.declared.stop.FormCause.TheVariants.{NotBuilt}
 use Rattle.comet_words.specs.Asked.{Asked, asked}
@@ -70,15 +71,15 @@ data_stops_files name data_file told old middle new program (causes.Spent place)
 data_stops_files name data_file told old middle new program causes.Write low holds stop = absurd stop
 
 -- what the program's file gives is what the words give
-pub gives_words : (words : List (List ℕ)) (asks : Asked) (name : List ℕ) (held : Held) (cause : Cause) (printed : List ℕ) → Some asks ≡ asked words → Some name ≡ program_named asks →
-    GivesHeld (map.get held name) asks.seed asks.fuel (data_of asks.data_file held) cause printed → RunOutput words held cause printed
-gives_words words asks name held cause printed is_asked named given =
-    subst (λ o. GivesAsked o held cause printed) is_asked (subst (λ o. GivesNamed o asks held cause printed) named given)
+pub gives_words : (users : List User) (words : List (List ℕ)) (asks : Asked) (name : List ℕ) (held : Held) (cause : Cause) (printed : List ℕ) → Some asks ≡ asked words → Some name ≡ program_named asks →
+    GivesHeld users (map.get held name) asks.seed asks.fuel (data_of asks.data_file held) cause printed → RunOutput users words held cause printed
+gives_words users words asks name held cause printed is_asked named given =
+    subst (λ o. GivesAsked users o held cause printed) is_asked (subst (λ o. GivesNamed users o asks held cause printed) named given)
 
-pub words_give : (words : List (List ℕ)) (asks : Asked) (name : List ℕ) (held : Held) (cause : Cause) (printed : List ℕ) → Some asks ≡ asked words → Some name ≡ program_named asks →
-    RunOutput words held cause printed → GivesHeld (map.get held name) asks.seed asks.fuel (data_of asks.data_file held) cause printed
-words_give words asks name held cause printed is_asked named given =
-    subst (λ o. GivesNamed o asks held cause printed) (sym named) (subst (λ o. GivesAsked o held cause printed) (sym is_asked) given)
+pub words_give : (users : List User) (words : List (List ℕ)) (asks : Asked) (name : List ℕ) (held : Held) (cause : Cause) (printed : List ℕ) → Some asks ≡ asked words → Some name ≡ program_named asks →
+    RunOutput users words held cause printed → GivesHeld users (map.get held name) asks.seed asks.fuel (data_of asks.data_file held) cause printed
+words_give users words asks name held cause printed is_asked named given =
+    subst (λ o. GivesNamed users o asks held cause printed) (sym named) (subst (λ o. GivesAsked users o held cause printed) (sym is_asked) given)
 
 -- words that ask for something are in form
 in_form : (words : List (List ℕ)) (asks : Asked) → Some asks ≡ asked words → asked words ≢ None
@@ -98,41 +99,41 @@ blamed : (words : List (List ℕ)) (told : Option Held) (old new : List ℕ → 
     (role : FileRole) → causes.Read mine ≡ causes.Read role → IsBlamed words told old new role
 blamed words told old new mine b role e = subst (λ r. IsBlamed words told old new r) (ap (role_or mine) e) b
 
-refused_gives : (name : List ℕ) (held : Held) (seed fuel : ℕ) (text : Option (List ℕ)) (cause : Cause) → IsRefused name held cause → ((found : List ℕ) → IsTextStop found cause → Gives found seed fuel text cause []) →
-    GivesHeld (map.get held name) seed fuel text cause []
-refused_gives name held seed fuel text cause r gives = subst (λ o. GivesHeld o seed fuel text cause []) (sym r.found) (gives r.text r.stop)
+refused_gives : (users : List User) (name : List ℕ) (held : Held) (seed fuel : ℕ) (text : Option (List ℕ)) (cause : Cause) → IsRefused name held cause → ((found : List ℕ) → IsTextStop found cause → Gives users found seed fuel text cause []) →
+    GivesHeld users (map.get held name) seed fuel text cause []
+refused_gives users name held seed fuel text cause r gives = subst (λ o. GivesHeld users o seed fuel text cause []) (sym r.found) (gives r.text r.stop)
 
 pub files_stop : (words : List (List ℕ)) (told : Option Held) (old new : List ℕ → ℕ) (asks : Asked) (name : List ℕ) (cause : Cause) → Some asks ≡ asked words → Some name ≡ program_named asks →
     IsFilesStop name asks.data_file told old new cause → IsFrontStop words told old new cause
 files_stop words told old new asks name (causes.IllFormed place form) is_asked named stop = record {
   wordless = never words asks 2 is_asked (λ e. absurd cc);
-  given = λ held is_told decides. gives_words words asks name held _ [] is_asked named
-      (refused_gives name held _ _ _ _ (stop held is_told) (λ found s. ill_formed (record { place = place; form = form; refused = s; ends = refl; prints = refl })));
+  given = λ users held is_told decides. gives_words users words asks name held _ [] is_asked named
+      (refused_gives users name held _ _ _ _ (stop held is_told) (λ found s. ill_formed (record { place = place; form = form; refused = s; ends = refl; prints = refl })));
   read = λ role e. absurd cc;
   reads_only = λ e. absurd cc;
 }
 files_stop words told old new asks name (causes.IllTyped place code) is_asked named stop = record {
   wordless = never words asks 3 is_asked (λ e. absurd cc);
-  given = λ held is_told decides. gives_words words asks name held _ [] is_asked named
-      (refused_gives name held _ _ _ _ (stop held is_told) (λ found s. ill_typed (record { place = place; code = code; refused = s; ends = refl; prints = refl })));
+  given = λ users held is_told decides. gives_words users words asks name held _ [] is_asked named
+      (refused_gives users name held _ _ _ _ (stop held is_told) (λ found s. ill_typed (record { place = place; code = code; refused = s; ends = refl; prints = refl })));
   read = λ role e. absurd cc;
   reads_only = λ e. absurd cc;
 }
 files_stop words told old new asks name causes.NoMemory is_asked named stop = record {
   wordless = never words asks 7 is_asked (λ e. absurd cc);
-  given = λ held is_told decides. absurd (decides.0 refl);
+  given = λ users held is_told decides. absurd (decides.0 refl);
   read = λ role e. absurd cc;
   reads_only = λ e. absurd cc;
 }
 files_stop words told old new asks name (causes.Read roles.Program) is_asked named stop = record {
   wordless = never words asks 8 is_asked (λ e. absurd cc);
-  given = λ held is_told decides. absurd (decides.1 refl);
+  given = λ users held is_told decides. absurd (decides.1 refl);
   read = blamed words told old new roles.Program (record { asks = asks; asked_is = sym is_asked; name = name; named = sym named; risen = stop; reached = λ held is_told. tt });
   reads_only = λ e. absurd cc;
 }
 files_stop words told old new asks name (causes.Read roles.Data) is_asked named stop = record {
   wordless = never words asks 8 is_asked (λ e. absurd cc);
-  given = λ held is_told decides. absurd (decides.1 refl);
+  given = λ users held is_told decides. absurd (decides.1 refl);
   read = blamed words told old new roles.Data (record {
     asks = asks;
     asked_is = sym is_asked;
@@ -154,7 +155,7 @@ files_stop words told old new asks name causes.Write is_asked named stop = absur
 pub words_stop : (words : List (List ℕ)) (told : Option Held) (old new : List ℕ → ℕ) → None ≡ asked words → IsFrontStop words told old new causes.Words
 words_stop words told old new none = record {
   wordless = (λ e. sym none, λ e. refl);
-  given = λ held is_told decides. subst (λ o. GivesAsked o held causes.Words []) none (refl, refl);
+  given = λ users held is_told decides. subst (λ o. GivesAsked users o held causes.Words []) none (refl, refl);
   read = λ role e. absurd cc;
   reads_only = λ e. absurd cc;
 }
@@ -164,7 +165,7 @@ pub not_built_stop : (words : List (List ℕ)) (told : Option Held) (old new : L
     IsFrontStop words told old new (causes.IllFormed first_place NotBuilt)
 not_built_stop words told old new asks is_asked none = record {
   wordless = never words asks 2 is_asked (λ e. absurd cc);
-  given = λ held is_told decides. subst (λ o. GivesAsked o held (causes.IllFormed first_place NotBuilt) []) is_asked (subst (λ o. GivesNamed o asks held (causes.IllFormed first_place NotBuilt) []) none (refl, refl));
+  given = λ users held is_told decides. subst (λ o. GivesAsked users o held (causes.IllFormed first_place NotBuilt) []) is_asked (subst (λ o. GivesNamed users o asks held (causes.IllFormed first_place NotBuilt) []) none (refl, refl));
   read = λ role e. absurd cc;
   reads_only = λ e. absurd cc;
 }

@@ -8,6 +8,7 @@ use Rattle.cbl_io.specs.Faults.{HasRisen}
 use Rattle.cbl_io.specs.Held.{Held}
 use Rattle.checked_tree.specs.Tasks.{Whole}
 use Rattle.comet_front.specs.Reading.{HasProgram}
+use Rattle.comet_meaning.specs.Users.{User}
 use Rattle.comet_words.specs.Asked.{Asked, asked}
 use Rattle.comet.specs.Asking.{program_named, file_for}
 use Rattle.comet.specs.Line.{line_of}
@@ -80,10 +81,10 @@ abbrev pub IsCalm : List (List ℕ) → (List ℕ → ℕ) → (List ℕ → ℕ
 IsCalm words faults faults_after = (asks : Asked) (role : FileRole) (name : List ℕ) → asked words ≡ Some asks → file_for role asks ≡ Some name → ¬ HasRisen (faults name) (faults_after name)
 
 -- the headline of a run from words and files
-abbrev pub RunHeadline : List (List ℕ) → Option Held → (List ℕ → ℕ) → (List ℕ → ℕ) → Report → Taken → Taken → Taken → Taken → Type 0
-RunHeadline words told faults faults_after =
-    Headline told (RunOutput words) (asked words ≡ None) (IsBlamed words told faults faults_after) (IsCalm words faults faults_after)
+abbrev pub RunHeadline : (users : List User) → List (List ℕ) → Option Held → (List ℕ → ℕ) → (List ℕ → ℕ) → Report → Taken → Taken → Taken → Taken → Type 0
+RunHeadline users words told faults faults_after =
+    Headline told (RunOutput users words) (asked words ≡ None) (IsBlamed words told faults faults_after) (IsCalm words faults faults_after)
 
 -- the headline of a run from a program, its seed, its fuel and its data: nothing of it depends on words or files
-abbrev pub JobHeadline : Whole → ℕ → ℕ → List ℕ → Report → Taken → Taken → Taken → Taken → Type 0
-JobHeadline program seed fuel text = Headline (Some tt) (λ (outside : Unit {0}). Runs program seed fuel text) ⊥ (λ role. ⊥) (Unit {0})
+abbrev pub JobHeadline : (users : List User) → Whole → ℕ → ℕ → List ℕ → Report → Taken → Taken → Taken → Taken → Type 0
+JobHeadline users program seed fuel text = Headline (Some tt) (λ (outside : Unit {0}). Runs users program seed fuel text) ⊥ (λ role. ⊥) (Unit {0})

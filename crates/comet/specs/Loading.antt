@@ -5,6 +5,7 @@ use Rattle.cbl_io.specs.Faults.{HasRisen}
 use Rattle.cbl_io.specs.Held.{Held}
 use Rattle.checked_tree.specs.Tasks.{Whole}
 use Rattle.comet_front.specs.Reading.{IsIllFormed, IsIllTyped}
+use Rattle.comet_meaning.specs.Users.{User}
 use Rattle.comet_words.specs.Asked.{Asked, asked}
 use Rattle.comet.specs.Asking.{program_named}
 use Rattle.comet.specs.Headline.{IsHeldProgram, IsBlamed}
@@ -34,7 +35,7 @@ pub record IsJob (words : List (List ℕ)) (held : Held) (program : Whole) (seed
 -- there is no memory
 pub record IsFrontStop (words : List (List ℕ)) (told : Option Held) (faults faults_after : List ℕ → ℕ) (cause : Cause) : Type 0 where
   pub wordless : (status_of cause ≡ 1) ↔ (asked words ≡ None)
-  pub given : (held : Held) → told ≡ Some held → Decides (status_of cause) → RunOutput words held cause []
+  pub given : (users : List User) (held : Held) → told ≡ Some held → Decides (status_of cause) → RunOutput users words held cause []
   pub read : (role : FileRole) → cause ≡ causes.Read role → IsBlamed words told faults faults_after role
   pub reads_only : status_of cause ≢ 9
 

@@ -7,6 +7,7 @@ use cbl_io::{MemFiles, MemSink};
 use comet_syntax::FormCause;
 use std::alloc::Global;
 use std::test::Fail;
+use user_constraint::UserConstraint;
 
 const SQUARE: &[u8] = b"Solver<LS> m(); var{int} x(m) := 3; var{int} y(m) <- x*x+1; m.close();
 cout << y << endl; x := 5; cout << y << endl;";
@@ -39,7 +40,8 @@ fn run_words(
     let mut files = MemFiles::new(alloc, entries, Vec::new(alloc));
     let mut sink = MemSink::new(alloc, 4096, most, failing)?;
     let mut err = MemSink::new(alloc, 4096, 4096, Vec::new(alloc))?;
-    let report = comet_run(alloc, words, &mut files, &mut sink, &mut err);
+    let users: Vec<Box<dyn UserConstraint>> = Vec::new(alloc);
+    let report = comet_run(alloc, words, &mut files, &mut sink, &mut err, users);
     Ok(Left { report, sink, err })
 }
 

@@ -3,8 +3,10 @@ ghost use Rattle.std.specs.Prelude.{◌≡◌, ◌≢◌, []};
 ghost use Rattle.cbl_io.specs.Appended.{Appends, AppendsFront};
 ghost use Rattle.cbl_io.specs.Faults.{HasRisen};
 ghost use Rattle.checked_tree.specs.Tasks.{program_of};
+ghost use Rattle.comet_meaning.specs.Program as programs;
 ghost use Rattle.comet_words.specs.View.{texts};
-ghost use Rattle.run_state.specs.Views.{state_seen};
+ghost use Rattle.run_outside.specs.HandedIn.{users_seen};
+ghost use Rattle.run_standing.specs.Seen.{standing_seen};
 ghost use Rattle.comet.specs.Headline.{JobHeadline, RunHeadline, taken};
 ghost use Rattle.comet.specs.Line.{line_of};
 ghost use Rattle.comet.specs.Output.{Decides, meant_with, start_with};
@@ -13,40 +15,52 @@ ghost use Rattle.comet.specs.Status.{cause_of, status_of};
 use crate::job::{Job, front};
 use crate::line::say;
 use crate::report::{Cause, Report};
+use cbl_base::NoMemory;
 use cbl_io::{Files, Sink, write_all};
 use checked_tree::Checked;
-use run_state::{Bytes, State};
+use run_outside::{HandedIn, handed_in};
+use run_standing::Standing;
+use run_state::Bytes;
 use std::alloc::Global;
 use stmt_run::run;
+use user_constraint::LocalConstraint;
 
 /// Runs the program whose file the words name, writes what it prints to `out`, and a line that tells why
-/// it ended, where it isn't done, to `err`. A fault of `err` changes nothing else.
-pub fn comet_run<F: Files, O: Sink, E: Sink>(
+/// it ended, where it isn't done, to `err`. The program posts the constraints in `users` by their names, in the order in
+/// which they are handed in; they are dropped with the run. A fault of `err` changes nothing else.
+pub fn comet_run<F: Files, O: Sink, E: Sink, U: LocalConstraint>(
     alloc: Global,
     words: &[String],
     files: &mut F,
     out: &mut O,
     err: &mut E,
+    users: Vec<U>,
 ) -> Report
-    ensures headline { RunHeadline (texts words.now) (F.held files.old) (F.faults files.old) (F.faults files.new) result
+    ensures headline { RunHeadline (users_seen U.user_name U.user_rule users.items) (texts words.now) (F.held files.old) (F.faults files.old) (F.faults files.new) result
         (taken (O.bytes out.old) (O.faults out.old)) (taken (O.bytes out.new) (O.faults out.new))
         (taken (E.bytes err.old) (E.faults err.old)) (taken (E.bytes err.new) (E.faults err.new)) }
 {
     match front(alloc, words, files) {
-        Ok(job) => run_still(alloc, job, out, err),
+        Ok(job) => run_still(alloc, job, out, err, users),
         Err(cause) => refuse(cause, err),
     }
 }
 
-/// Runs a job, which waits for nobody, writes what it prints to `out`, and a line that tells why it ended, where it isn't
-/// done, to `err`. A fault of `err` changes nothing else.
-pub fn run_still<O: Sink, E: Sink>(alloc: Global, job: Job, out: &mut O, err: &mut E) -> Report
-    ensures headline { JobHeadline (program_of job.program) job.seed job.fuel job.data.items result
+/// Runs a job, which waits for nobody, with these users' constraints, writes what it prints to `out`, and a line that tells
+/// why it ended, where it isn't done, to `err`. A fault of `err` changes nothing else.
+pub fn run_still<O: Sink, E: Sink, U: LocalConstraint>(
+    alloc: Global,
+    job: Job,
+    out: &mut O,
+    err: &mut E,
+    users: Vec<U>,
+) -> Report
+    ensures headline { JobHeadline (users_seen U.user_name U.user_rule users.items) (program_of job.program) job.seed job.fuel job.data.items result
         (taken (O.bytes out.old) (O.faults out.old)) (taken (O.bytes out.new) (O.faults out.new))
         (taken (E.bytes err.old) (E.faults err.old)) (taken (E.bytes err.new) (E.faults err.new)) }
 {
     let text = job.data;
-    let report = run_to(alloc, &job.program, job.seed, job.fuel, text, out);
+    let report = run_to(alloc, &job.program, job.seed, job.fuel, text, users, out);
     say(&report.cause, err);
     report
 }
@@ -62,36 +76,65 @@ fn refuse<E: Sink>(cause: Cause, err: &mut E) -> Report
     Report::of(cause)
 }
 
-/// The state at the start of a run with this seed, this fuel and this data.
-fn begin(alloc: Global, seed: u64, fuel: u64, text: Vec<u8>) -> State
-    ensures { state_seen result [] ≡ start_with seed fuel text.items }
+/// The start of a run with this seed, this fuel, this data and these users' constraints.
+fn begin<U: LocalConstraint>(
+    alloc: Global,
+    seed: u64,
+    fuel: u64,
+    text: Vec<u8>,
+    users: Vec<HandedIn<U>>,
+) -> Standing<U>
+    ensures { standing_seen result [] ≡ start_with users.items seed fuel text.items }
 {
-    State::new(alloc, seed, fuel, text)
+    Standing::new(alloc, seed, fuel, text, users)
 }
 
-/// Runs a program with this seed, this fuel and this data, and writes what it printed, whatever way it ended.
-fn run_to<O: Sink>(
+/// Runs a program with this seed, this fuel, this data and these users' constraints, and writes what it printed, whatever
+/// way it ended.
+fn run_to<O: Sink, U: LocalConstraint>(
     alloc: Global,
     program: &Checked,
     seed: u64,
     fuel: u64,
     text: Vec<u8>,
+    users: Vec<U>,
     out: &mut O,
 ) -> Report
     ensures status { result.status ≡ status_of result.cause }
     ensures ran { (result.status ≢ 1) × (result.status ≢ 8) }
     ensures exact { Decides result.status →
-        (result.cause ≡ cause_of (meant_with (program_of program.now) seed fuel text.items).end)
-        × Appends (O.bytes out.old) (O.bytes out.new) (meant_with (program_of program.now) seed fuel text.items).printed }
-    ensures front { AppendsFront (O.bytes out.old) (O.bytes out.new) (meant_with (program_of program.now) seed fuel text.items).printed }
+        (result.cause ≡ cause_of (meant_with (users_seen U.user_name U.user_rule users.items) (program_of program.now) seed fuel text.items).end)
+        × Appends (O.bytes out.old) (O.bytes out.new) (meant_with (users_seen U.user_name U.user_rule users.items) (program_of program.now) seed fuel text.items).printed }
+    ensures front { AppendsFront (O.bytes out.old) (O.bytes out.new) (meant_with (users_seen U.user_name U.user_rule users.items) (program_of program.now) seed fuel text.items).printed }
     ensures write { result.status ≡ 9 → HasRisen (O.faults out.old) (O.faults out.new) }
 {
-    let mut printed = Bytes {
+    match handed_in(alloc, users) {
+        Ok(users) => run_from(alloc, program, begin(alloc, seed, fuel, text, users), out),
+        Err(NoMemory) => Report::of(Cause::NoMemory),
+    }
+}
+
+/// Runs a program from a state on, and writes what it printed, whatever way it ended.
+fn run_from<O: Sink, U: LocalConstraint>(
+    alloc: Global,
+    program: &Checked,
+    standing: Standing<U>,
+    out: &mut O,
+) -> Report
+    ensures status { result.status ≡ status_of result.cause }
+    ensures ran { (result.status ≢ 1) × (result.status ≢ 8) }
+    ensures exact { Decides result.status →
+        (result.cause ≡ cause_of (programs.run (program_of program.now) (standing_seen standing [])).end)
+        × Appends (O.bytes out.old) (O.bytes out.new) (programs.run (program_of program.now) (standing_seen standing [])).printed }
+    ensures front { AppendsFront (O.bytes out.old) (O.bytes out.new) (programs.run (program_of program.now) (standing_seen standing [])).printed }
+    ensures write { result.status ≡ 9 → HasRisen (O.faults out.old) (O.faults out.new) }
+{
+    let printed = Bytes {
         bytes: Vec::new(alloc),
     };
-    let ended = run(alloc, program, begin(alloc, seed, fuel, text), &mut printed);
+    let ended = run(alloc, program, standing, printed);
     let cause = Cause::from(ended.end);
-    match write_all(out, printed.bytes.as_slice()) {
+    match write_all(out, ended.out.bytes.as_slice()) {
         Ok(()) => Report::of(cause),
         Err(_) => Report::of(Cause::Write),
     }

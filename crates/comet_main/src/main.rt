@@ -1,27 +1,49 @@
-//! The program: the files and streams of the system, one call of `comet_run`, and its status.
+//! The program: the files and streams of the system, the two users' constraints that every program can post, one call of
+//! `comet_run`, and its status.
 #![tactic(auto)]
 
-use cbl_io::{RealFiles, RealSink};
+use cbl_io::{Files, RealFiles, RealSink, Sink};
 use comet::{Cause, comet_run, say};
-use std::alloc::Global;
+use main_constraints::{AllEqual, Increasing};
+use std::alloc::{AllocError, Global};
 use std::env;
 use std::io::ErrorKind;
 use std::process::ExitCode;
 use std::rt::Env;
+use user_constraint::UserConstraint;
 
 fn main(rt: HostRuntime) -> ExitCode {
     let mut err = RealSink::new(rt.stderr());
     let words = match words_of(&rt) {
         Ok(words) => words,
-        Err(cause) => {
-            say(&cause, &mut err);
-            return ExitCode::from(cause.status());
-        }
+        Err(cause) => return refused(&cause, &mut err),
     };
     let mut files = RealFiles::new(rt.alloc(), rt);
     let mut out = RealSink::new(rt.stdout());
-    let report = comet_run(rt.alloc(), words.as_slice(), &mut files, &mut out, &mut err);
-    ExitCode::from(report.status)
+    match run_words(rt.alloc(), words.as_slice(), &mut files, &mut out, &mut err) {
+        Ok(status) => ExitCode::from(status),
+        Err(AllocError) => refused(&Cause::NoMemory, &mut err),
+    }
+}
+
+/// Runs the program that the words name, with `allequal` and `increasing`, and gives the run's status.
+fn run_words<F: Files, O: Sink, E: Sink>(
+    alloc: Global,
+    words: &[String],
+    files: &mut F,
+    out: &mut O,
+    err: &mut E,
+) -> Result<u8, AllocError> {
+    let all_equal: Box<dyn UserConstraint> = Box::new(alloc, AllEqual::new(alloc))?;
+    let increasing: Box<dyn UserConstraint> = Box::new(alloc, Increasing::new(alloc))?;
+    let users = vec![in alloc; all_equal, increasing]?;
+    Ok(comet_run(alloc, words, files, out, err, users).status)
+}
+
+/// Says why there is nothing to run, and gives the status.
+fn refused<E: Sink>(cause: &Cause, err: &mut E) -> ExitCode {
+    say(cause, err);
+    ExitCode::from(cause.status())
 }
 
 /// The words behind the program's own name. A word that isn't UTF-8 is out of form.

@@ -1,8 +1,8 @@
--- Where a solver keeps its model and its assignment, nothing changed, and no event is queued.
+-- Where a solver keeps its model, its assignment and its rules, nothing changed, and no event is queued.
 use Rattle.std.proofs.Common.{◌≡◌, refl, ap, ◌∙◌, rules, ℕ, ℤ, Bool, true, false, List, [], ◌∷◌, ◌++◌, Option, Some, None, filter_map, if◌then◌else◌}
 use Rattle.std.proofs.lemmas.List.{append-nil}
 use Rattle.std.specs.List.{range_with_len, cons_option}
-use Rattle.term_model.specs.Users.{no_users}
+use Rattle.posted_users.specs.KeptRule.{users_of}
 use Rattle.model_values.specs.VarOutcomes.{outcome_of_var}
 use Rattle.std.specs.Ordering.{int_eq}
 use Rattle.comet_meaning.specs.Values as values
@@ -27,15 +27,16 @@ none_of f (x ∷ xs) k = ap (λ o. cons_option o (filter_map f xs)) (k x) ∙ no
 pub nothing_between : (m : SolverState) → changes_between m m ≡ []
 nothing_between m = none_of _ (range_with_len 0 (variable_count m)) (λ x. same_value x (value_now m x))
 
-value_kept : (m n : SolverState) → n.model ≡ m.model → n.assignment ≡ m.assignment → (x : ℕ) → value_now n x ≡ value_now m x
-value_kept m n p q x =
-    ap (λ M. value_of (outcome_of_var no_users M n.assignment x)) p ∙ ap (λ a. value_of (outcome_of_var no_users m.model a x)) q
+value_kept : (m n : SolverState) → n.model ≡ m.model → n.assignment ≡ m.assignment → n.rules ≡ m.rules → (x : ℕ) → value_now n x ≡ value_now m x
+value_kept m n p q r x =
+    ap (λ M. value_of (outcome_of_var (users_of n.rules) M n.assignment x)) p ∙ (ap (λ a. value_of (outcome_of_var (users_of n.rules) m.model a x)) q
+    ∙ ap (λ rs. value_of (outcome_of_var (users_of rs) m.model m.assignment x)) r)
 
 -- what waits, and what the names are, changes no value
-pub nothing_changed : (m n : SolverState) → n.model ≡ m.model → n.assignment ≡ m.assignment → changes_of m n ≡ []
-nothing_changed m n p q = on m.closed where
+pub nothing_changed : (m n : SolverState) → n.model ≡ m.model → n.assignment ≡ m.assignment → n.rules ≡ m.rules → changes_of m n ≡ []
+nothing_changed m n p q r = on m.closed where
   between : changes_between m n ≡ []
-  between = none_of _ (range_with_len 0 (variable_count m)) (λ x. ap (λ v. change_between x (value_now m x) v) (value_kept m n p q x) ∙ same_value x (value_now m x))
+  between = none_of _ (range_with_len 0 (variable_count m)) (λ x. ap (λ v. change_between x (value_now m x) v) (value_kept m n p q r x) ∙ same_value x (value_now m x))
 
   on : (b : Bool) → (if b then changes_between m n else []) ≡ []
   on true = between

@@ -12,7 +12,7 @@ use Rattle.checked_tree.specs.Shape.{Shape}
 use Rattle.comet_meaning.specs.Outcome.{always}
 use Rattle.comet_meaning.specs.Levels.{Code, Level}
 use Rattle.comet_meaning.specs.Parts.{items}
-use Rattle.comet_meaning.specs.ConstraintForms.{relation_form, negation_form, members_form, combined_form, combination_form, joining_form, kept_cells, kept_set, all_different_form, bounded_form, knapsack_form, multi_knapsack_form, sequence_form, constraint_call, constraint_form}
+use Rattle.comet_meaning.specs.ConstraintForms.{relation_form, negation_form, members_form, combined_form, combination_form, joining_form, kept_cells, kept_set, all_different_form, bounded_form, knapsack_form, multi_knapsack_form, sequence_form, constraint_call, user_places, function_form, constraint_form}
 use Rattle.comet_meaning.specs.InTerms.{is_constraint, incremental_form, term_of_expression}
 use Rattle.comet_meaning.specs.Onward.{GoesOn}
 use Rattle.comet_meaning.proofs.GoingOn.{goes_then, goes_give, goes_if, goes_unless, goes_charge, goes_cells, goes_in_scope}
@@ -100,6 +100,15 @@ goes_constraint_call l h at builtins.MultiKnapsack (x ∷ z ∷ e ∷ []) = goes
 goes_constraint_call l h at builtins.Sequence (x ∷ v ∷ p ∷ q ∷ []) = goes_sequence l h at x v p q
 goes_constraint_call l h at f es = goes_give
 
+pub goes_user_places : (l : Level) → LevelGoesOn l → (at : Place) (x : Shape) → GoesOn (user_places l at x)
+unfolding user_places
+goes_user_places l h at x = goes_then (goes_terms l h x) (λ c. goes_then (goes_charge 1 at) (λ _. goes_then (goes_charge _ _) (λ _. goes_give)))
+
+pub goes_function : (l : Level) → LevelGoesOn l → (at : Place) (f : Builtin) (es : List Shape) → GoesOn (function_form l at f es)
+unfolding function_form
+goes_function l h at builtins.User (n ∷ x ∷ []) = goes_user_places l h at x
+goes_function l h at f es = goes_single (goes_constraint_call l h at f es)
+
 -- all of them
 
 pub goes_constraint_form : (l : Level) → LevelGoesOn l → (at : Place) (form : Shape) → GoesOn (constraint_form l at form)
@@ -109,7 +118,7 @@ goes_constraint_form l h at (shapes.unary o e) = goes_single (goes_negation l h 
 goes_constraint_form l h at (shapes.chain first links) = goes_single (goes_combination l h first (items links))
 goes_constraint_form l h at (shapes.compare c a b) = goes_single (goes_relation l h at c a b)
 goes_constraint_form l h at (shapes.aggregate a gs c body) = goes_single (goes_joining l h at a (items gs) c body)
-goes_constraint_form l h at (shapes.builtin f es) = goes_single (goes_constraint_call l h at f (items es))
+goes_constraint_form l h at (shapes.builtin f es) = goes_function l h at f (items es)
 goes_constraint_form l h at form = goes_give
 
 pub goes_incremental : (l : Level) → LevelGoesOn l → (at : Place) (kind : Kind) (form : Shape) → GoesOn (incremental_form l at kind form)

@@ -4,6 +4,8 @@ use Rattle.cbl_base.specs.declared.place.Place.{Place}
 use Rattle.cbl_base.specs.declared.faults.RunFault.TheVariants.{BadData}
 use Rattle.comet_syntax.specs.declared.tree.expressions.Aggregate.{Aggregate}
 use Rattle.comet_syntax.specs.declared.tree.expressions.Aggregate.TheVariants as aggregates
+use Rattle.cbl_operations.specs.declared.op.Op.TheVariants as ops
+use Rattle.term_model.specs.declared.term.Term.{Term}
 use Rattle.checked_tree.specs.declared.kind.Kind.{Kind}
 use Rattle.checked_tree.specs.declared.kind.Kind.TheVariants as kinds
 use Rattle.checked_tree.specs.declared.expressions.Builtin.{Builtin}
@@ -18,21 +20,23 @@ use Rattle.comet_meaning.specs.State.{left}
 use Rattle.comet_meaning.specs.Outcome.{always}
 use Rattle.comet_meaning.specs.Levels.{Code, Level}
 use Rattle.comet_meaning.specs.Limits.{most_data}
-use Rattle.comet_meaning.specs.Parts.{items}
+use Rattle.comet_meaning.specs.Parts.{items, place_of}
 use Rattle.comet_meaning.specs.Builtins.{builtin_value, builtin_form}
 use Rattle.comet_meaning.specs.Aggregates.{Element, with_element, element_form, aggregate_value, aggregate_form}
 use Rattle.comet_meaning.specs.Data.{spelled, behind_blanks, word_of, behind_word, unread, first_word, fitting, word_value, went_on, next_number}
-use Rattle.comet_meaning.specs.Posting.{weight_form, post_constraint, post_part}
+use Rattle.comet_meaning.specs.Users.{rule_in, with_given}
+use Rattle.comet_meaning.specs.Posting.{weight_form, user_name, post_one, post_taken, post_named, post_either, post_constraint, post_part}
 use Rattle.comet_meaning.specs.Methods.{fitting_number, put_set, method_value, object_value, asked_value, asked_values, called_form, restore_form, method_form}
 use Rattle.comet_meaning.specs.Calls.{argument_form, arguments_form, own_array, own_arrays, handed, body_form, called, call_form}
 use Rattle.comet_meaning.specs.Expressions.{set_form, value_of_form, value_of_expression}
 use Rattle.comet_meaning.specs.Onward.{GoesOn}
 use Rattle.comet_meaning.proofs.GoingOn.{onward_refl, goes_then, goes_give, goes_fault, goes_if, goes_give_or, goes_unless, goes_charge, goes_at, goes_look, goes_put, goes_in_scope, goes_in_frame, goes_count_cells, goes_new_array}
 use Rattle.comet_meaning.proofs.GoingModels.{goes_close, goes_domain_of}
-use Rattle.comet_meaning.proofs.GoingSystems.{goes_value_of, goes_violations, goes_assign_delta, goes_swap_delta, goes_post}
+use Rattle.comet_meaning.proofs.GoingSystems.{goes_value_of, goes_violations, goes_assign_delta, goes_swap_delta, goes_post, goes_post_user, goes_take_user}
+use Rattle.comet_meaning.proofs.GoingTerms.{goes_node}
 use Rattle.comet_meaning.proofs.GoingEvents.{goes_run_queue}
 use Rattle.comet_meaning.proofs.GoingSearch.{goes_draw, goes_has_move, goes_get_move, goes_restore}
-use Rattle.comet_meaning.proofs.GoingParts.{LevelGoesOn, goes_value, goes_number, goes_condition, goes_values, goes_one_term, goes_constraint, goes_unary, goes_chain, goes_compare, goes_range, goes_conditional, goes_list, goes_index, goes_cell, goes_count, goes_each_tuple}
+use Rattle.comet_meaning.proofs.GoingParts.{LevelGoesOn, goes_value, goes_number, goes_condition, goes_values, goes_one_term, goes_terms, goes_constraint, goes_unary, goes_chain, goes_compare, goes_range, goes_conditional, goes_list, goes_index, goes_cell, goes_count, goes_each_tuple}
 
 -- functions of the language
 
@@ -155,11 +159,30 @@ unfolding weight_form
 goes_weight l h [] = goes_give
 goes_weight l h (w ∷ ws) = goes_number l h w
 
+pub goes_post_one : (l : Level) → LevelGoesOn l → (at : Place) (o c : Shape) (ws : List Shape) → GoesOn (post_one l at o c ws)
+unfolding post_one
+goes_post_one l h at o c ws =
+    goes_then (goes_value l h o) (λ v. goes_then (goes_constraint l h c) (λ t. goes_then (goes_weight l h ws) (λ weight. goes_then (goes_charge 1 at) (λ _. goes_post at t weight v))))
+
+pub goes_post_taken : (at : Place) (n : ℕ) (ts : List Term) (weight : ℤ) (v : Value) → GoesOn (post_taken at n ts weight v)
+unfolding post_taken
+goes_post_taken at n ts weight v = record { from = λ s. (goes_post_user at (rule_in s.users n) ts weight v).from (record s { users = with_given s.users n }) }
+
+pub goes_post_named : (l : Level) → LevelGoesOn l → (at : Place) (o c : Shape) (ws : List Shape) (name : List ℕ) → GoesOn (post_named l at o c ws name)
+unfolding post_named
+goes_post_named l h at o c ws name =
+    goes_then (goes_value l h o) (λ v. goes_then (goes_terms l h c) (λ xs. goes_then (goes_take_user (place_of c) name) (λ n.
+    goes_then (goes_node (place_of c) (ops.User n) xs.terms) (λ _. goes_then (goes_weight l h ws) (λ weight. goes_then (goes_charge 1 at) (λ _.
+    goes_post_taken at n xs.terms weight v))))))
+
+pub goes_post_either : (l : Level) → LevelGoesOn l → (at : Place) (o c : Shape) (ws : List Shape) (name : Option (List ℕ)) → GoesOn (post_either l at o c ws name)
+goes_post_either l h at o c ws None = goes_post_one l h at o c ws
+goes_post_either l h at o c ws (Some name) = goes_post_named l h at o c ws name
+
 pub goes_post_constraint : (l : Level) → LevelGoesOn l → (at : Place) (o : Shape) (es : List Shape) → GoesOn (post_constraint l at o es)
 unfolding post_constraint
 goes_post_constraint l h at o [] = goes_give
-goes_post_constraint l h at o (c ∷ ws) =
-    goes_then (goes_value l h o) (λ v. goes_then (goes_constraint l h c) (λ t. goes_then (goes_weight l h ws) (λ weight. goes_then (goes_charge 1 at) (λ _. goes_post at t weight v))))
+goes_post_constraint l h at o (c ∷ ws) = goes_post_either l h at o c ws (user_name c)
 
 pub goes_post_part : (l : Level) → LevelGoesOn l → (at : Place) (o : Shape) (es : List Shape) → GoesOn (post_part l at o es)
 unfolding post_part

@@ -1,10 +1,11 @@
 -- What is asked of systems and objectives goes onward.
-use Rattle.std.proofs.Common.{ℕ, ℤ, pos, not, ◌&&◌, List, [], ◌∷◌, length, int_le, Option, Some, None, Result, Ok, Err}
+use Rattle.std.proofs.Common.{ℕ, ℤ, pos, Bool, true, false, not, ◌&&◌, List, [], ◌∷◌, length, int_le, Option, Some, None, Result, Ok, Err}
 use Rattle.std.specs.List.{list_all}
 use Rattle.cbl_base.specs.declared.ids.VarId.{VarId}
 use Rattle.cbl_base.specs.declared.place.Place.{Place}
 use Rattle.cbl_base.specs.declared.faults.RunFault.TheVariants.{AlreadyClosed, NotClosed, OutOfRange, WrongSolver}
 use Rattle.term_model.specs.declared.term.Term.{Term}
+use Rattle.posted_users.specs.KeptRule.{KeptRule}
 use Rattle.model_values.specs.declared.asked.AskStop.{AskStop}
 use Rattle.model_values.specs.declared.asked.AskStop.TheVariants.{Run, Fault, NoMemory}
 use Rattle.model_values.specs.declared.deltas.Move.{Move}
@@ -14,9 +15,11 @@ use Rattle.comet_meaning.specs.Solvers.{SolverState}
 use Rattle.comet_meaning.specs.Outcome.{Act}
 use Rattle.comet_meaning.specs.Members.{with_system, with_objective}
 use Rattle.comet_meaning.specs.Models.{owns}
-use Rattle.comet_meaning.specs.Systems.{of_whole, has_whole, adding_system, make_system, adding_sum, make_sum, posting, post_to, post, adding_objective, objective_by, make_objective, first_variable, valuing, whole_value, give_asked, asking, variable_violations, violations, delta, assign_delta, swap_delta}
+use Rattle.comet_meaning.specs.Systems.{of_whole, has_whole, adding_system, make_system, adding_sum, make_sum, posting, post_to, post, posting_user, post_user_to, post_user, adding_objective, objective_by, make_objective, first_variable, valuing, whole_value, give_asked, asking, variable_violations, violations, delta, assign_delta, swap_delta}
+use Rattle.comet_meaning.specs.State.{left}
+use Rattle.comet_meaning.specs.TakingUsers.{taking_user, take_user}
 use Rattle.comet_meaning.specs.Onward.{GoesOn}
-use Rattle.comet_meaning.proofs.GoingOn.{goes_then, goes_give, goes_fault, goes_give_or_met, goes_unless, goes_at}
+use Rattle.comet_meaning.proofs.GoingOn.{onward_refl, goes_then, goes_give, goes_fault, goes_give_or_met, goes_unless, goes_at}
 use Rattle.comet_meaning.proofs.GoingModels.{goes_put_solver}
 
 goes_of_whole : (f : ℕ → Whole → Act Value) (v : Value) → ((k : ℕ) (w : Whole) → GoesOn (f k w)) → GoesOn (of_whole f v)
@@ -58,6 +61,26 @@ goes_post_to at t weight k w = goes_at (λ s. goes_then (goes_posting at k w t w
 
 pub goes_post : (at : Place) (t : Term) (weight : ℤ) (v : Value) → GoesOn (post at t weight v)
 goes_post at t weight v = goes_of_whole (post_to at t weight) v (goes_post_to at t weight)
+
+goes_posting_user : (at : Place) (k : ℕ) (w : Whole) (rule : KeptRule) (ts : List Term) (weight : ℤ) (m : SolverState) → GoesOn (posting_user at k w rule ts weight m)
+unfolding posting_user
+goes_posting_user at k w rule ts weight m = goes_posting at k w _ weight _
+
+goes_post_user_to : (at : Place) (rule : KeptRule) (ts : List Term) (weight : ℤ) (k : ℕ) (w : Whole) → GoesOn (post_user_to at rule ts weight k w)
+unfolding post_user_to
+goes_post_user_to at rule ts weight k w = goes_at (λ s. goes_then (goes_posting_user at k w rule ts weight _) (λ _. goes_give {x = Nothing}))
+
+pub goes_post_user : (at : Place) (rule : KeptRule) (ts : List Term) (weight : ℤ) (v : Value) → GoesOn (post_user at rule ts weight v)
+goes_post_user at rule ts weight v = goes_of_whole (post_user_to at rule ts weight) v (goes_post_user_to at rule ts weight)
+
+goes_taking_user : (at : Place) (known : Bool) (n : Option ℕ) → GoesOn (taking_user at known n)
+goes_taking_user at known (Some n) = record { from = λ s. onward_refl (left s) }
+goes_taking_user at true None = goes_fault
+goes_taking_user at false None = goes_fault
+
+pub goes_take_user : (at : Place) (name : List ℕ) → GoesOn (take_user at name)
+unfolding take_user
+goes_take_user at name = goes_at (λ s. goes_taking_user at _ _)
 
 goes_adding_objective : (at : Place) (k : ℕ) (t : Term) (m : SolverState) → GoesOn (adding_objective at k t m)
 unfolding adding_objective

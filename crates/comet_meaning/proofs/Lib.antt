@@ -18,6 +18,7 @@ pub mod SpendingConstraints
 pub mod SpendingPrograms
 pub mod SpendingSelection
 pub mod Computing
+pub mod UserLaws
 pub mod Turns
 pub mod QueueTurns
 pub mod ChangeLaws

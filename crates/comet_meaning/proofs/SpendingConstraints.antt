@@ -13,7 +13,7 @@ use Rattle.comet_meaning.specs.Outcome.{always}
 use Rattle.comet_meaning.specs.Levels.{Code, Level}
 use Rattle.comet_meaning.specs.Parts.{items, is_moving, constraint}
 use Rattle.comet_meaning.specs.Purity.{is_pure}
-use Rattle.comet_meaning.specs.ConstraintForms.{relation_form, negation_form, members_form, combined_form, combination_form, joining_form, kept_cells, kept_set, all_different_form, bounded_form, knapsack_form, multi_knapsack_form, sequence_form, constraint_call, constraint_form}
+use Rattle.comet_meaning.specs.ConstraintForms.{relation_form, negation_form, members_form, combined_form, combination_form, joining_form, kept_cells, kept_set, all_different_form, bounded_form, knapsack_form, multi_knapsack_form, sequence_form, constraint_call, user_places, function_form, constraint_form}
 use Rattle.comet_meaning.specs.InTerms.{is_constraint, incremental_form, term_of_expression}
 use Rattle.comet_meaning.specs.Spending.{OnlySpends}
 use Rattle.comet_meaning.proofs.Spending.{binds, spends_then, spends_give, spends_if, spends_unless, spends_charge, spends_cells, spends_in_scope}
@@ -104,6 +104,15 @@ spends_constraint_call k l h at builtins.MultiKnapsack (x ∷ z ∷ e ∷ []) p 
 spends_constraint_call k l h at builtins.Sequence (x ∷ v ∷ e ∷ f ∷ []) p = spends_sequence k l h at x v e f p.0 p.1.0 p.1.1.0 p.1.1.1.0
 spends_constraint_call k l h at f es p = spends_give
 
+spends_user_places : (k : List Bool) (l : Level) → LevelSpends k l → (at : Place) (x : Shape) → is_pure k x ≡ true → OnlySpends (user_places l at x)
+unfolding user_places
+spends_user_places k l h at x p = spends_then (spends_terms k l h x p) (λ c. spends_then (spends_charge 1 at) (λ _. spends_then (spends_charge _ _) (λ _. spends_give)))
+
+spends_function : (k : List Bool) (l : Level) → LevelSpends k l → (at : Place) (f : Builtin) (es : List Shape) → AllPure k es → OnlySpends (function_form l at f es)
+unfolding function_form
+spends_function k l h at builtins.User (n ∷ x ∷ []) p = spends_user_places k l h at x p.1.0
+spends_function k l h at f es p = spends_single (spends_constraint_call k l h at f es p)
+
 -- all of them
 
 spends_constraint_form : (k : List Bool) (l : Level) → LevelSpends k l → (at : Place) (form : Shape) → is_pure k form ≡ true → OnlySpends (constraint_form l at form)
@@ -117,7 +126,7 @@ spends_constraint_form k l h at (shapes.compare c a b) p =
 spends_constraint_form k l h at (shapes.aggregate a gs c body) p =
     let q = and_left (is_pure k gs && is_pure k c) (is_pure k body) p in
     spends_single (spends_joining k l h at a (items gs) c body (items_pure k gs (and_left (is_pure k gs) (is_pure k c) q)) (and_right (is_pure k gs) (is_pure k c) q) (and_right (is_pure k gs && is_pure k c) (is_pure k body) p))
-spends_constraint_form k l h at (shapes.builtin f es) p = spends_single (spends_constraint_call k l h at f (items es) (items_pure k es p))
+spends_constraint_form k l h at (shapes.builtin f es) p = spends_function k l h at f (items es) (items_pure k es p)
 spends_constraint_form k l h at form p = spends_give
 
 spends_incremental : (k : List Bool) (l : Level) → LevelSpends k l → (at : Place) (kind : Kind) (form : Shape) → is_pure k form ≡ true → OnlySpends (incremental_form l at kind form)

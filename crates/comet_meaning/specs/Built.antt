@@ -1,12 +1,10 @@
--- The forms that run by now. A checked program that holds any other one is refused before it runs: a user's constraint;
--- monitors, as declarations or as parameters; and `parall`. What a monitor is asked stands only where there is one. A rule
--- of this project.
+-- The forms that run by now. A checked program that holds any other one is refused before it runs: monitors, as
+-- declarations or as parameters, and `parall`. What a monitor is asked stands only where there is one. A rule of this
+-- project.
 use Rattle.std.specs.Prelude.{Bool, true, false, ◌&&◌, List, Option, Some, None}
 use Rattle.std.specs.List.{list_all}
 use Rattle.checked_tree.specs.declared.kind.Kind.{Kind}
 use Rattle.checked_tree.specs.declared.kind.Kind.TheVariants as kinds
-use Rattle.checked_tree.specs.declared.expressions.Builtin.{Builtin}
-use Rattle.checked_tree.specs.declared.expressions.Builtin.TheVariants as builtins
 use Rattle.checked_tree.specs.declared.expressions.Method.{Method}
 use Rattle.checked_tree.specs.declared.expressions.Method.TheVariants as methods
 use Rattle.checked_tree.specs.Shape as shapes
@@ -45,10 +43,6 @@ is_built_method methods.GetMove = true
 is_built_method methods.Restore = true
 is_built_method m = false
 
-abbrev pub is_built_builtin : Builtin → Bool
-is_built_builtin builtins.User = false
-is_built_builtin f = true
-
 abbrev pub is_built_expression : Shape → Bool
 is_built_expression (shapes.more x xs) = is_built_expression x && is_built_expression xs
 is_built_expression (shapes.typed start at kind moving form) = is_built_expression form
@@ -65,7 +59,7 @@ is_built_expression (shapes.list es) = is_built_expression es
 is_built_expression (shapes.set es) = is_built_expression es
 is_built_expression (shapes.aggregate a gs c body) = is_built_expression gs && is_built_expression c && is_built_expression body
 is_built_expression (shapes.generator at slot domain) = is_built_expression domain
-is_built_expression (shapes.builtin f es) = is_built_builtin f && is_built_expression es
+is_built_expression (shapes.builtin f es) = is_built_expression es
 is_built_expression (shapes.call f es) = is_built_expression es
 is_built_expression (shapes.method m o es) = is_built_method m && is_built_expression o && is_built_expression es
 is_built_expression form = true

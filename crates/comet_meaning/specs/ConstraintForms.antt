@@ -1,8 +1,8 @@
 -- What an expression stands for where a constraint is posted. A relation, `&&`, `||`, `!`, `and`, `or` and a constraint
 -- function with incremental variables are operations that give violations; what a constraint function keeps beside its
 -- places is evaluated when the statement runs. A call costs a unit when its arguments have their values, and then each
--- cell of its arrays costs one, in order of the arguments; then come the faults of lengths and of windows. From the
--- language.
+-- cell of its arrays costs one, in order of the arguments; then come the faults of lengths and of windows. Of a user's
+-- constraint only its places are told here: `post` takes it by its name. From the language.
 use Rattle.std.specs.Prelude.{ℤ, pos, ◌&&◌, List, [], ◌∷◌, ◌++◌, length, nat_eq, int_le}
 use Rattle.cbl_base.specs.declared.place.Place.{Place}
 use Rattle.cbl_base.specs.declared.faults.RunFault.TheVariants.{OutOfRange}
@@ -22,7 +22,7 @@ use Rattle.checked_tree.specs.Shape.{Shape}
 use Rattle.model_view.specs.Building.{constant}
 use Rattle.comet_meaning.specs.Values.{members_of}
 use Rattle.comet_meaning.specs.State.{Cells}
-use Rattle.comet_meaning.specs.Terms.{InTerm, Single}
+use Rattle.comet_meaning.specs.Terms.{InTerm, Single, Several}
 use Rattle.comet_meaning.specs.Outcome.{Act, ◌>>=◌, give, unless, charge, always}
 use Rattle.comet_meaning.specs.Cells.{cells, in_scope}
 use Rattle.comet_meaning.specs.Levels.{Level}
@@ -161,6 +161,18 @@ constraint_call l at builtins.MultiKnapsack (x ∷ z ∷ e ∷ []) = multi_knaps
 constraint_call l at builtins.Sequence (x ∷ v ∷ p ∷ q ∷ []) = sequence_form l at x v p q
 constraint_call l at f es = give (constant (pos 0))
 
+-- the places of a user's constraint
+unfoldable pub user_places : Level → Place → Shape → Act InTerm
+user_places l at x = do
+  c ← terms l x
+  _ ← charge 1 at
+  _ ← charge (length c.terms) (place_of x)
+  give (Several c)
+
+unfoldable pub function_form : Level → Place → Builtin → List Shape → Act InTerm
+function_form l at builtins.User (n ∷ x ∷ []) = user_places l at x
+function_form l at f es = single (constraint_call l at f es)
+
 -- a constraint with incremental variables, at its place; a checked program has no other form of one
 unfoldable pub constraint_form : Level → Place → Shape → Act InTerm
 constraint_form l at (shapes.parentheses e) = l.term e
@@ -168,5 +180,5 @@ constraint_form l at (shapes.unary o e) = single (negation_form l at e)
 constraint_form l at (shapes.chain first links) = single (combination_form l first (items links))
 constraint_form l at (shapes.compare c a b) = single (relation_form l at c a b)
 constraint_form l at (shapes.aggregate a gs c body) = single (joining_form l at a (items gs) c body)
-constraint_form l at (shapes.builtin f es) = single (constraint_call l at f (items es))
+constraint_form l at (shapes.builtin f es) = function_form l at f (items es)
 constraint_form l at form = give (Single (constant (pos 0)))

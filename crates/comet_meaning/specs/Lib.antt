@@ -4,6 +4,7 @@ pub mod Limits
 pub mod Solvers
 pub mod Words
 pub mod Search
+pub mod Users
 pub mod State
 pub mod Outcome
 pub mod Cells
@@ -21,6 +22,7 @@ pub mod Data
 pub mod Models
 pub mod Members
 pub mod Systems
+pub mod TakingUsers
 pub mod Draws
 pub mod Candidates
 pub mod Selection
@@ -51,3 +53,4 @@ pub mod Spending
 pub mod Examples
 pub mod SystemExamples
 pub mod SearchExamples
+pub mod UserExamples

@@ -8,8 +8,8 @@ use Rattle.cbl_base.specs.declared.faults.RunFault.TheVariants.{NotClosed, Wrong
 use Rattle.checked_tree.specs.Shape as shapes
 use Rattle.checked_tree.specs.Shape.{Shape}
 use Rattle.comet_meaning.specs.Values.{Value, Nothing, Variable, Bounds, number_of, truth_of, bounds_of, value_of_input}
-use Rattle.term_model.specs.Users.{no_users}
 use Rattle.term_model.specs.declared.term.Term.{Term}
+use Rattle.posted_users.specs.KeptRule.{users_of}
 use Rattle.model_values.specs.VarOutcomes.{outcome_of_var}
 use Rattle.model_view.specs.Building.{constant}
 use Rattle.comet_meaning.specs.Terms.{TermCells, single_of, several_of}
@@ -45,7 +45,7 @@ value_of (Some x) = value_of_input x
 value_of None = Nothing
 
 abbrev pub value_now : SolverState → ℕ → Value
-value_now m x = value_of (outcome_of_var no_users m.model m.assignment x)
+value_now m x = value_of (outcome_of_var (users_of m.rules) m.model m.assignment x)
 
 -- whether only a closed solver has a value for it
 abbrev pub needs_close : SolverState → ℕ → Bool

@@ -6,6 +6,7 @@ use Rattle.std.specs.Prelude.{ℕ, zero, suc, List}
 use Rattle.cbl_base.specs.declared.faults.RunFault.TheVariants.{Depth}
 use Rattle.checked_tree.specs.Tasks.{Coded, Whole}
 use Rattle.comet_meaning.specs.Limits.{most_depth}
+use Rattle.comet_meaning.specs.Users.{User}
 use Rattle.comet_meaning.specs.State.{State, first_state}
 use Rattle.comet_meaning.specs.Outcome.{Halt, Outcome, Went, Halted, Act, fault}
 use Rattle.comet_meaning.specs.Levels.{Code, Level, Flow}
@@ -58,6 +59,6 @@ meaning_of_program p = tasks_form (level (code_of p.functions) most_depth) p.tas
 unfoldable pub run : Whole → State → Meant
 run p s = meant (meaning_of_program p s)
 
--- what a program does with this seed, this fuel and this data
-abbrev pub meaning : Whole → ℕ → ℕ → List ℕ → Meant
-meaning p seed fuel text = run p (first_state seed fuel text)
+-- what a program does with this seed, this fuel, this data and these users' constraints
+abbrev pub meaning : Whole → ℕ → ℕ → List ℕ → List User → Meant
+meaning p seed fuel text users = run p (first_state seed fuel text users)

@@ -1,12 +1,13 @@
--- A solver is its model, an assignment, and whether it is closed; and beside these the names of its variables, and what
--- waits for the end of an open `with`. Once it is closed the values of its variables are those of the model under the
--- assignment, evaluated afresh. From the book: a defined variable always equals its expression.
+-- A solver is its model, an assignment, and whether it is closed; the rules of the users' constraints that were posted in
+-- it, by their numbers; and beside these the names of its variables, and what waits for the end of an open `with`. Once it
+-- is closed the values of its variables are those of the model under the assignment, evaluated afresh. From the book: a
+-- defined variable always equals its expression.
 use Rattle.std.specs.Prelude.{ℕ, ℤ, Bool, false, List, [], length, map, Option, None, Some, Result, is_some, nat_lt, slice_index_or}
 use Rattle.cbl_base.specs.Inputs.{InputKind, number_kind}
 use Rattle.term_model.specs.Definitions.{definition_of}
 use Rattle.term_model.specs.Kinds.{kinds_in}
-use Rattle.term_model.specs.Users.{no_users}
 use Rattle.term_model.specs.declared.model.Model.{Model}
+use Rattle.posted_users.specs.KeptRule.{KeptRule, users_of}
 use Rattle.model_values.specs.Fresh.{Fresh, fresh_of}
 use Rattle.model_values.specs.declared.failure.Failure.{Failure}
 use Rattle.model_view.specs.Building.{empty_model}
@@ -17,12 +18,14 @@ pub record SolverState : Type 0 where
   pub model : Model
   pub assignment : List ℤ
   pub closed : Bool
+  -- those of the users' constraints, in order of posting
+  pub rules : List KeptRule
   pub names : List (List ℕ)
   -- while a `with` is open, the assignment that its end commits
   pub waiting : Option (List ℤ)
 
 abbrev pub new_solver : SolverState
-new_solver = record { model = empty_model; assignment = []; closed = false; names = []; waiting = None }
+new_solver = record { model = empty_model; assignment = []; closed = false; rules = []; names = []; waiting = None }
 
 abbrev pub variable_count : SolverState → ℕ
 variable_count m = length m.model.vars.items
@@ -43,7 +46,7 @@ kind_in m x = kind_or_number (kinds_in m.model.vars.items x)
 
 -- the values of all variables, or the fault of the least numbered operation that fails, with its place
 unfoldable pub fresh_values : SolverState → Result Fresh Failure
-fresh_values m = fresh_of no_users m.model m.assignment
+fresh_values m = fresh_of (users_of m.rules) m.model m.assignment
 
 -- the cycle that is named, if definitions lead from a variable back to it, and the names of its variables
 abbrev pub cycle_in : SolverState → Option (List ℕ)

@@ -1,7 +1,9 @@
--- A pure expression changes nothing of the state but the fuel, and prints nothing; and it sees nothing of the data, of
--- what was printed, and of what a search keeps beside its moves. What stands in an aggregate binds names of the frame besides. A rule of this project.
+-- A pure expression changes nothing of the state but the fuel, and prints nothing; and it sees nothing of the data, of the
+-- users' constraints, of what was printed, and of what a search keeps beside its moves. What stands in an aggregate binds
+-- names of the frame besides. A rule of this project.
 use Rattle.std.specs.Prelude.{◌≡◌, ℕ, List}
 use Rattle.comet_meaning.specs.Search.{Search}
+use Rattle.comet_meaning.specs.Users.{User}
 use Rattle.comet_meaning.specs.State.{State}
 use Rattle.comet_meaning.specs.Outcome.{Outcome, Went, Halted, Act}
 
@@ -13,16 +15,18 @@ abbrev pub IsBound : {A : Type 0} → State → Outcome A → Type 0
 IsBound s (Went x t) = t ≡ record s { fuel = t.fuel; frame = t.frame }
 IsBound s (Halted h t) = t.printed ≡ s.printed
 
--- the data, what each `InputFile` has not read of it yet, words, solutions, handlers and events, and what was printed
+-- the data, what each `InputFile` has not read of it yet, words, solutions, handlers and events, the users' constraints, and
+-- what was printed
 pub record Outside : Type 0 where
   pub inputs : List (List ℕ)
   pub data_text : List ℕ
   pub search : Search
+  pub users : List User
   pub printed : List ℕ
 
 -- a state with these in place of its own
 abbrev pub with_outside : Outside → State → State
-with_outside o s = record s { inputs = o.inputs; data_text = o.data_text; search = o.search; printed = o.printed }
+with_outside o s = record s { inputs = o.inputs; data_text = o.data_text; search = o.search; users = o.users; printed = o.printed }
 
 -- an outcome that leaves these
 abbrev pub leaving : {A : Type 0} → Outside → Outcome A → Outcome A

@@ -1,12 +1,13 @@
 -- The state of a run: the cells of the global names and of those of the running call; the arrays of numbers and of
--- variables, and the objects; the moves that are kept, and what else a search keeps; how much fuel is left; and what was printed. The frames of the calls that wait are kept by these calls, and how many
--- statements and expressions are being executed inside each other is told by the level of the meaning that is asked.
--- From the language.
+-- variables, and the objects; the moves that are kept, and what else a search keeps; the users' constraints; how much fuel
+-- is left; and what was printed. The frames of the calls that wait are kept by these calls, and how many statements and
+-- expressions are being executed inside each other is told by the level of the meaning that is asked. From the language.
 use Rattle.std.specs.Prelude.{ℕ, ℤ, List, [], Option}
 use Rattle.cbl_base.specs.declared.ids.VarId.{VarId}
 use Rattle.comet_meaning.specs.Values.{Value, Bounds}
 use Rattle.comet_meaning.specs.Solvers.{SolverState}
 use Rattle.comet_meaning.specs.Search.{KeptMove, Search, first_search}
+use Rattle.comet_meaning.specs.Users.{User}
 
 -- an array of numbers with one dimension or two, row by row
 pub record Cells : Type 0 where
@@ -32,6 +33,8 @@ pub record State : Type 0 where
   -- what each `MinNeighborSelector` keeps
   pub moves : List (Option KeptMove)
   pub search : Search
+  -- all that were handed in, in their order
+  pub users : List User
   pub fuel : ℕ
   pub printed : List ℕ
 
@@ -43,9 +46,9 @@ pub record Left : Type 0 where
 abbrev pub left : State → Left
 left s = record { fuel = s.fuel; printed = s.printed }
 
--- the state at the start of a run, with this seed, this fuel and this data
-abbrev pub first_state : ℕ → ℕ → List ℕ → State
-first_state seed fuel text = record {
+-- the state at the start of a run, with this seed, this fuel, this data and these users' constraints
+abbrev pub first_state : ℕ → ℕ → List ℕ → List User → State
+first_state seed fuel text users = record {
   globals = [];
   frame = [];
   arrays = [];
@@ -55,6 +58,7 @@ first_state seed fuel text = record {
   data_text = text;
   moves = [];
   search = first_search seed;
+  users = users;
   fuel = fuel;
   printed = [];
 }

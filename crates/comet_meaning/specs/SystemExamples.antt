@@ -16,7 +16,7 @@ use Rattle.comet_meaning.specs.Examples.{column, part, moving_part, literal, use
 -- what follows stands behind `Solver<LS> m(); var{int} x(m) := 1; var{int} y(m) := 2;`
 
 -- `ConstraintSystem<LS> S(m);`
-abbrev system_of : ℕ → Work
+abbrev pub system_of : ℕ → Work
 system_of n = statement n (deeds.making (Global 3) kinds.System (use_of (n + 23) kinds.Solver (Global 0) ∷ []))
 
 abbrev asked : ℕ → Kind → ℕ → Method → List Seen → Seen
@@ -28,7 +28,7 @@ asked n kind cell m es = record {
   form = shapes.method m (whole (use_of n kind (Global cell))) (wholes es);
 }
 
-abbrev of_system : ℕ → Method → List Seen → Seen
+abbrev pub of_system : ℕ → Method → List Seen → Seen
 of_system n m es = asked n kinds.System 3 m es
 
 -- `ConstraintSystem<LS> S(m); cout << S.violations();`

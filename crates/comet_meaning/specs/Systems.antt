@@ -1,18 +1,19 @@
 -- Constraint systems and objectives: what is asked of them when the operands have their values. Before `close` nothing is
 -- read of them, and after it none comes and none gets a member. All values are those of the model under the assignment,
 -- evaluated afresh; while a `with` is open that is the assignment at its start. From the language.
-use Rattle.std.specs.Prelude.{ℕ, ℤ, pos, Bool, not, ◌&&◌, List, [], ◌∷◌, length, Option, Some, None, Result, Ok, Err, int_le, nat_lt, if◌then◌else◌}
+use Rattle.std.specs.Prelude.{ℕ, ℤ, pos, Bool, not, ◌&&◌, List, [], ◌∷◌, ◌++◌, length, Option, Some, None, Result, Ok, Err, int_le, nat_lt, if◌then◌else◌}
 use Rattle.std.specs.List.{list_all}
 use Rattle.cbl_base.specs.Inputs.{number_kind}
 use Rattle.cbl_base.specs.declared.ids.VarId.{VarId}
 use Rattle.cbl_base.specs.declared.place.Place.{Place}
 use Rattle.cbl_base.specs.declared.faults.Limit.TheVariants.{TermNodes}
+use Rattle.cbl_operations.specs.declared.op.Op.TheVariants as ops
 use Rattle.cbl_base.specs.declared.faults.RunFault.TheVariants.{AlreadyClosed, NotClosed, OutOfRange, TooMany, WrongSolver}
 use Rattle.term_model.specs.Kinds.{kinds_in, kind_of_term}
-use Rattle.term_model.specs.Users.{no_users}
 use Rattle.term_model.specs.declared.term.Term.{Term}
 use Rattle.term_model.specs.declared.term.Term.TheOpen.{Term-F}
 use Rattle.term_model.specs.declared.term.Term.TheFolds.{fold-Term}
+use Rattle.posted_users.specs.KeptRule.{KeptRule, users_of}
 use Rattle.model_values.specs.Delta.{value_of, delta_of}
 use Rattle.violation_shares.specs.VariableViolations.{variable_violations_of}
 use Rattle.model_values.specs.declared.asked.AskStop.{AskStop}
@@ -21,7 +22,7 @@ use Rattle.model_values.specs.declared.deltas.Move.{Move}
 use Rattle.model_values.specs.declared.deltas.Move.TheVariants.{Assign, Swap}
 use Rattle.model_values.specs.declared.wholes.Whole.{Whole}
 use Rattle.model_values.specs.declared.wholes.Whole.TheVariants as wholes
-use Rattle.model_view.specs.Building.{constant}
+use Rattle.model_view.specs.Building.{constant, node}
 use Rattle.model_view.specs.Variables.{all_variables}
 use Rattle.comet_meaning.specs.Values.{Value, Nothing, Number, Variable, System, Objective, number_of}
 use Rattle.comet_meaning.specs.Solvers.{SolverState}
@@ -83,6 +84,24 @@ post_to at t weight k w = λ s. (posting at k w t weight (solver_at s k) >>= λ 
 abbrev pub post : Place → Term → ℤ → Value → Act Value
 post at t weight v = of_whole (post_to at t weight) v
 
+-- the same of a user's constraint over these places: it gets the next number of its solver, and its rule stands behind those
+-- of the solver; its node has no place, since it never fails
+
+abbrev pub user_node : List Term → SolverState → Term
+user_node ts m = node (ops.User (length m.rules)) ts (record { line = 0; col = 0 })
+
+abbrev pub with_rule : KeptRule → SolverState → SolverState
+with_rule rule m = record m { rules = m.rules ++ rule ∷ [] }
+
+unfoldable pub posting_user : Place → ℕ → Whole → KeptRule → List Term → ℤ → SolverState → Act (Unit {0})
+posting_user at k w rule ts weight m = posting at k w (user_node ts m) weight (with_rule rule m)
+
+unfoldable pub post_user_to : Place → KeptRule → List Term → ℤ → ℕ → Whole → Act Value
+post_user_to at rule ts weight k w = λ s. (posting_user at k w rule ts weight (solver_at s k) >>= λ _. give Nothing) s
+
+abbrev pub post_user : Place → KeptRule → List Term → ℤ → Value → Act Value
+post_user at rule ts weight v = of_whole (post_user_to at rule ts weight) v
+
 -- a new objective of one term, in the solver of the first variable in it, in the order of the operations' arguments
 
 abbrev pub first_of : List (Option VarId) → Option VarId
@@ -119,7 +138,7 @@ unfoldable pub valuing : Place → Whole → SolverState → Act Value
 valuing at w m = do
   _ ← unless m.closed at NotClosed
   _ ← unless (has_whole m w) at WrongSolver
-  z ← give_or_met (value_of no_users m.model m.assignment w)
+  z ← give_or_met (value_of (users_of m.rules) m.model m.assignment w)
   give (Number z)
 
 unfoldable pub whole_value : Place → ℕ → Whole → Act Value
@@ -143,7 +162,7 @@ asking at k w xs answer m = do
 -- the violations of a variable in a system
 
 abbrev pub violations_answer : SolverState → Whole → VarId → Result ℤ AskStop
-violations_answer m (wholes.System i) x = variable_violations_of no_users m.model m.assignment i x.index
+violations_answer m (wholes.System i) x = variable_violations_of (users_of m.rules) m.model m.assignment i x.index
 violations_answer m (wholes.Objective i) x = Ok (pos 0)
 
 unfoldable pub variable_violations : Place → VarId → ℕ → Whole → Act Value
@@ -157,7 +176,7 @@ violations at v vs = give Nothing
 -- the delta of an assignment, and of a swap: the value after the move less the value now
 
 abbrev pub delta_answer : SolverState → Whole → Move → Result ℤ AskStop
-delta_answer m w move = delta_of no_users m.model m.assignment w move
+delta_answer m w move = delta_of (users_of m.rules) m.model m.assignment w move
 
 unfoldable pub delta : Place → List VarId → Move → ℕ → Whole → Act Value
 delta at xs move k w = λ s. asking at k w xs (delta_answer (solver_at s k) w move) (solver_at s k) s

@@ -7,7 +7,8 @@ use Rattle.checked_tree.specs.declared.expressions.Builtin.TheVariants as builti
 use Rattle.checked_tree.specs.declared.expressions.Typed.{Typed}
 use Rattle.checked_tree.specs.Shape.{Shape}
 use Rattle.model_view.specs.Building.{constant}
-use Rattle.comet_meaning.specs.ConstraintForms.{all_different_form, bounded_form, constraint_call, knapsack_form, multi_knapsack_form, sequence_form}
+use Rattle.comet_meaning.specs.ConstraintForms.{all_different_form, bounded_form, constraint_call, function_form, knapsack_form, multi_knapsack_form, sequence_form, user_places}
+use Rattle.comet_meaning.specs.TermForms.{single}
 use Rattle.comet_meaning.specs.State.{State}
 use Rattle.comet_meaning.specs.Outcome.{Act, Went}
 use Rattle.comet_meaning.specs.Levels.{Level}
@@ -77,6 +78,28 @@ module _ (l : Level) (at : Place) (s : State) where
   call_of_others builtins.MultiKnapsack es a b c d e f g = absurd (f refl)
   call_of_others builtins.Sequence es a b c d e f g = absurd (g refl)
   call_of_others h es a b c d e f g = refl
+
+-- a function in a constraint, by whether it is a user's constraint
+
+module _ (l : Level) (at : Place) where
+  pub user_as : (es : List Typed) (x : Typed) (s : State) → length es ≡ 2 → x ≡ get_or es 1 x → function_form l at builtins.User (row es) s ≡ user_places l at (part x) s
+  unfolding function_form
+  user_as [] x s h p = absurd (omega (arith, h))
+  user_as (a ∷ []) x s h p = absurd (omega (arith, h))
+  user_as (a ∷ b ∷ []) x s h p = λ k. user_places l at (part (sym p k)) s
+  user_as (a ∷ b ∷ c ∷ es) x s h p = absurd (omega (arith, h))
+
+  pub user_of_others : (es : List Typed) (s : State) → (length es ≡ 2 → ⊥) → function_form l at builtins.User (row es) s ≡ single (constraint_call l at builtins.User (row es)) s
+  unfolding function_form
+  user_of_others [] s h = refl
+  user_of_others (a ∷ []) s h = refl
+  user_of_others (a ∷ b ∷ []) s h = absurd (h refl)
+  user_of_others (a ∷ b ∷ c ∷ es) s h = refl
+
+  pub function_of_others : (f : Builtin) (es : List Shape) (s : State) → (f ≡ builtins.User → ⊥) → function_form l at f es s ≡ single (constraint_call l at f es) s
+  unfolding function_form
+  function_of_others builtins.User es s a = absurd (a refl)
+  function_of_others h es s a = refl
 
 -- the arguments, where they are as many as are asked, and where they are more or fewer
 

@@ -15,7 +15,7 @@ use Rattle.comet_meaning.specs.Levels.{Level}
 use Rattle.comet_meaning.specs.Outcome.{Act, ◌>>=◌, charge, give, unless}
 use Rattle.comet_meaning.specs.State.{Cells}
 use Rattle.comet_meaning.specs.TermForms.{node_form, sides}
-use Rattle.comet_meaning.specs.Terms.{TermCells}
+use Rattle.comet_meaning.specs.Terms.{InTerm, Several, TermCells}
 
 -- `a == b` and its like
 abbrev pub related : Place → Comparison → Term → Term → Act Term
@@ -36,6 +36,13 @@ all_different_node at place c = do
   _ ← charge 1 at
   _ ← charge (length c.terms) place
   node_form at ops.AllDifferent c.terms
+
+-- the places of a user's constraint
+abbrev pub places_of : Place → Place → TermCells → Act InTerm
+places_of at place c = do
+  _ ← charge 1 at
+  _ ← charge (length c.terms) place
+  give (Several c)
 
 abbrev pub bounded_node : Place → Builtin → Place → Cells → Place → TermCells → Act Term
 bounded_node at f place bounds other c = do

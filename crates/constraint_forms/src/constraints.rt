@@ -7,12 +7,12 @@ ghost use Rattle.run_state.specs.InTerms.{in_term_seen};
 ghost use Rattle.run_state.specs.Views.{state_seen};
 ghost use Rattle.run_steps.specs.Does.{Does};
 
-use crate::calls::constraint_call;
+use crate::calls::function_form;
 use crate::joinings::joining_term;
 use crate::operators::{combination_term, negation_term, relation_term};
 use cbl_base::Place;
 use checked_tree::Form;
-use run_state::{InTerm, Out, State};
+use run_state::{InTerm, Outside, State};
 use run_steps::inside::Defining;
 use run_values::Stop;
 use term_forms::nodes::as_in_term;
@@ -20,7 +20,7 @@ use term_forms::terms::zero;
 
 /// What a constraint with incremental variables at a place stands for, by its form.
 #[tactic(auto, unfolding(checked_tree::specs::Shape::shape_of, comet_meaning::specs::ConstraintForms::constraint_form))]
-pub fn constraint_form<O: Out, W: Defining<O>>(
+pub fn constraint_form<O: Outside, W: Defining<O>>(
     s: &mut State,
     out: &mut O,
     inside: &W,
@@ -29,7 +29,7 @@ pub fn constraint_form<O: Out, W: Defining<O>>(
 ) -> Result<InTerm, Stop>
     requires ready { W.is_ready inside.now }
     requires defines { W.can_define inside.now }
-    ensures did { Does in_term_seen result (state_seen s.new (O.taken out.new)) (forms.constraint_form (level (W.code inside.now) (W.depth inside.now)) at (shape_of form.now) (state_seen s.old (O.taken out.old))) }
+    ensures did { Does in_term_seen result (state_seen s.new (O.told out.new)) (forms.constraint_form (level (W.code inside.now) (W.depth inside.now)) at (shape_of form.now) (state_seen s.old (O.told out.old))) }
 {
     match form {
         Form::Parentheses(inner) => inside.define(s, out, inner),
@@ -49,7 +49,7 @@ pub fn constraint_form<O: Out, W: Defining<O>>(
             body,
         } => as_in_term(joining_term(s, out, inside, at, *aggregate, generators, condition, body)),
         Form::Builtin { builtin, arguments } => {
-            as_in_term(constraint_call(s, out, inside, at, *builtin, arguments))
+            function_form(s, out, inside, at, *builtin, arguments)
         }
         Form::Number(_) => Ok(zero()),
         Form::Truth(_) => Ok(zero()),

@@ -4,8 +4,9 @@ ghost use Rattle.std.specs.Prelude.{◌≡◌, ◌&&◌, ℕ, List, IfErr, IfOk,
 ghost use Rattle.cbl_operations.specs.declared.op.Op.TheVariants as ops;
 ghost use Rattle.comet_meaning.specs.ConstraintForms.{bounded_op};
 ghost use Rattle.comet_meaning.specs.State as states;
-ghost use Rattle.constraint_forms.specs.Steps.{all_different_node, bounded_node, even_node, knapsack_node, multi_knapsack_node, sequence_node, window_node};
-ghost use Rattle.run_state.specs.InTerms.{term_cells_seen};
+ghost use Rattle.constraint_forms.specs.Steps.{all_different_node, bounded_node, even_node, knapsack_node, multi_knapsack_node, places_of, sequence_node, window_node};
+ghost use Rattle.run_state.specs.InTerms.{in_term_seen, term_cells_seen};
+ghost use Rattle.run_outside.specs.Told.{Told};
 ghost use Rattle.run_state.specs.Views.{state_seen};
 ghost use Rattle.run_steps.specs.Does.{Does};
 ghost use Rattle.run_steps.specs.Following.{Follows};
@@ -16,14 +17,14 @@ use cbl_base::{IntSet, Numbers, Place, RunFault};
 use cbl_operations::Op;
 use checked_tree::Builtin;
 use run_solvers::Built;
-use run_state::{State, TermCells};
+use run_state::{InTerm, State, TermCells};
 use run_values::{Cells, Stop};
 use std::alloc::Global;
 use term_forms::nodes::node_of;
 
 /// `alldifferent`, of the cells, which are charged at the second place.
 fn all_different_of(s: &mut State, at: Place, place: Place, cells: TermCells) -> Result<Built, Stop>
-    ensures did { (printed : List ℕ) → Does (λ t. t) result (state_seen s.new printed) (all_different_node at place (term_cells_seen cells) (state_seen s.old printed)) }
+    ensures did { (told : Told) → Does (λ t. t) result (state_seen s.new told) (all_different_node at place (term_cells_seen cells) (state_seen s.old told)) }
 {
     s.charge(1, at)?;
     let count = cells.terms.len();
@@ -38,11 +39,36 @@ pub(crate) fn all_different_with(
     place: Place,
     cells: Result<TermCells, Stop>,
 ) -> Result<Built, Stop>
-    ensures did { (printed : List ℕ) → Follows term_cells_seen (λ t. t) cells result (state_seen s.old printed) (state_seen s.new printed) (all_different_node at place) }
+    ensures did { (told : Told) → Follows term_cells_seen (λ t. t) cells result (state_seen s.old told) (state_seen s.new told) (all_different_node at place) }
 {
     match cells {
         Err(stop) => Err(stop),
         Ok(cells) => all_different_of(s, at, place, cells),
+    }
+}
+
+/// The places of a user's constraint, of the cells, which are charged at the second place.
+fn places_of(s: &mut State, at: Place, place: Place, cells: TermCells) -> Result<InTerm, Stop>
+    ensures did { (told : Told) → Does in_term_seen result (state_seen s.new told) (places_of at place (term_cells_seen cells) (state_seen s.old told)) }
+{
+    s.charge(1, at)?;
+    let count = cells.terms.len();
+    s.charge(count as u64, place)?;
+    Ok(InTerm::Several(cells))
+}
+
+/// The same with the array's answer.
+pub(crate) fn places_with(
+    s: &mut State,
+    at: Place,
+    place: Place,
+    cells: Result<TermCells, Stop>,
+) -> Result<InTerm, Stop>
+    ensures did { (told : Told) → Follows term_cells_seen in_term_seen cells result (state_seen s.old told) (state_seen s.new told) (places_of at place) }
+{
+    match cells {
+        Err(stop) => Err(stop),
+        Ok(cells) => places_of(s, at, place, cells),
     }
 }
 
@@ -81,7 +107,7 @@ fn bounded_of(
     other: Place,
     cells: TermCells,
 ) -> Result<Built, Stop>
-    ensures did { (printed : List ℕ) → Does (λ t. t) result (state_seen s.new printed) (bounded_node at function place (cells_seen bounds.now) other (term_cells_seen cells) (state_seen s.old printed)) }
+    ensures did { (told : Told) → Does (λ t. t) result (state_seen s.new told) (bounded_node at function place (cells_seen bounds.now) other (term_cells_seen cells) (state_seen s.old told)) }
 {
     s.charge(1, at)?;
     let bound_count = bounds.len();
@@ -102,7 +128,7 @@ pub(crate) fn bounded_with(
     other: Place,
     cells: Result<TermCells, Stop>,
 ) -> Result<Built, Stop>
-    ensures did { (printed : List ℕ) → Follows term_cells_seen (λ t. t) cells result (state_seen s.old printed) (state_seen s.new printed) (bounded_node at function place (cells_seen bounds.now) other) }
+    ensures did { (told : Told) → Follows term_cells_seen (λ t. t) cells result (state_seen s.old told) (state_seen s.new told) (bounded_node at function place (cells_seen bounds.now) other) }
 {
     match cells {
         Err(stop) => Err(stop),
@@ -141,7 +167,7 @@ fn knapsack_of(
     cells: TermCells,
     capacity: i64,
 ) -> Result<Built, Stop>
-    ensures did { (printed : List ℕ) → Does (λ t. t) result (state_seen s.new printed) (knapsack_node at place (cells_seen weights.now) other (term_cells_seen cells) capacity (state_seen s.old printed)) }
+    ensures did { (told : Told) → Does (λ t. t) result (state_seen s.new told) (knapsack_node at place (cells_seen weights.now) other (term_cells_seen cells) capacity (state_seen s.old told)) }
 {
     s.charge(1, at)?;
     let weight_count = weights.len();
@@ -162,7 +188,7 @@ pub(crate) fn knapsack_with(
     cells: TermCells,
     capacity: Result<i64, Stop>,
 ) -> Result<Built, Stop>
-    ensures did { (printed : List ℕ) → Follows (λ z. z) (λ t. t) capacity result (state_seen s.old printed) (state_seen s.new printed) (knapsack_node at place (cells_seen weights.now) other (term_cells_seen cells)) }
+    ensures did { (told : Told) → Follows (λ z. z) (λ t. t) capacity result (state_seen s.old told) (state_seen s.new told) (knapsack_node at place (cells_seen weights.now) other (term_cells_seen cells)) }
 {
     match capacity {
         Err(stop) => Err(stop),
@@ -197,7 +223,7 @@ fn multi_knapsack_of(
     last: Place,
     capacities: &Cells,
 ) -> Result<Built, Stop>
-    ensures did { (printed : List ℕ) → Does (λ t. t) result (state_seen s.new printed) (multi_knapsack_node at place (term_cells_seen cells) other (cells_seen sizes.now) last (cells_seen capacities.now) (state_seen s.old printed)) }
+    ensures did { (told : Told) → Does (λ t. t) result (state_seen s.new told) (multi_knapsack_node at place (term_cells_seen cells) other (cells_seen sizes.now) last (cells_seen capacities.now) (state_seen s.old told)) }
 {
     s.charge(1, at)?;
     let count = cells.terms.len();
@@ -221,7 +247,7 @@ pub(crate) fn multi_knapsack_with(
     last: Place,
     capacities: Result<Cells, Stop>,
 ) -> Result<Built, Stop>
-    ensures did { (printed : List ℕ) → Follows cells_seen (λ t. t) capacities result (state_seen s.old printed) (state_seen s.new printed) (multi_knapsack_node at place (term_cells_seen cells) other (cells_seen sizes.now) last) }
+    ensures did { (told : Told) → Follows cells_seen (λ t. t) capacities result (state_seen s.old told) (state_seen s.new told) (multi_knapsack_node at place (term_cells_seen cells) other (cells_seen sizes.now) last) }
 {
     match capacities {
         Err(stop) => Err(stop),
@@ -270,7 +296,7 @@ fn sequence_of(
     most: i64,
     window: i64,
 ) -> Result<Built, Stop>
-    ensures did { (printed : List ℕ) → Does (λ t. t) result (state_seen s.new printed) (sequence_node at place (term_cells_seen cells) members most window (state_seen s.old printed)) }
+    ensures did { (told : Told) → Does (λ t. t) result (state_seen s.new told) (sequence_node at place (term_cells_seen cells) members most window (state_seen s.old told)) }
 {
     s.charge(1, at)?;
     let count = cells.terms.len();
@@ -288,7 +314,7 @@ pub(crate) fn sequence_with(
     most: i64,
     window: Result<i64, Stop>,
 ) -> Result<Built, Stop>
-    ensures did { (printed : List ℕ) → Follows (λ z. z) (λ t. t) window result (state_seen s.old printed) (state_seen s.new printed) (sequence_node at place (term_cells_seen cells) members most) }
+    ensures did { (told : Told) → Follows (λ z. z) (λ t. t) window result (state_seen s.old told) (state_seen s.new told) (sequence_node at place (term_cells_seen cells) members most) }
 {
     match window {
         Err(stop) => Err(stop),

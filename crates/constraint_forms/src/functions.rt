@@ -2,26 +2,28 @@
 ghost use Rattle.std.specs.Prelude.{◌≡◌, ℕ, List};
 ghost use Rattle.comet_meaning.specs.ConstraintForms as forms;
 ghost use Rattle.comet_meaning.specs.Program.{level};
+ghost use Rattle.run_state.specs.InTerms.{in_term_seen};
 ghost use Rattle.run_state.specs.Views.{state_seen};
 ghost use Rattle.run_steps.specs.Does.{Does};
 ghost use Rattle.run_steps.specs.Views.{part};
 
 use crate::function_nodes::{
-    all_different_with, bounded_with, knapsack_with, multi_knapsack_with, sequence_with,
+    all_different_with, bounded_with, knapsack_with, multi_knapsack_with, places_with,
+    sequence_with,
 };
 use crate::kept::{kept_cells, kept_set};
 use cbl_base::Place;
 use checked_tree::{Builtin, Typed};
 use run_solvers::Built;
-use run_state::{Out, State};
+use run_state::{InTerm, Outside, State};
 use run_steps::inside::Defining;
 use run_values::Stop;
 use term_forms::evaluating::expressions::number_of;
-use term_forms::parts::term_cells;
+use term_forms::evaluating::parts::term_cells;
 
 /// `alldifferent(x)`
 #[tactic(auto, unfolding(comet_meaning::specs::ConstraintForms::all_different_form))]
-pub(crate) fn all_different_term<O: Out, W: Defining<O>>(
+pub(crate) fn all_different_term<O: Outside, W: Defining<O>>(
     s: &mut State,
     out: &mut O,
     inside: &W,
@@ -29,16 +31,33 @@ pub(crate) fn all_different_term<O: Out, W: Defining<O>>(
     places: &Typed,
 ) -> Result<Built, Stop>
     requires defines { W.can_define inside.now }
-    ensures did { Does (λ t. t) result (state_seen s.new (O.taken out.new)) (forms.all_different_form (level (W.code inside.now) (W.depth inside.now)) at (part places.now) (state_seen s.old (O.taken out.old))) }
+    ensures did { Does (λ t. t) result (state_seen s.new (O.told out.new)) (forms.all_different_form (level (W.code inside.now) (W.depth inside.now)) at (part places.now) (state_seen s.old (O.told out.old))) }
 {
     let place = places.place;
     let cells = term_cells(s, out, inside, places);
     all_different_with(s, at, place, cells)
 }
 
+/// `user(name, x)`, of which a constraint has the places
+#[tactic(auto, unfolding(comet_meaning::specs::ConstraintForms::user_places))]
+pub(crate) fn user_places<O: Outside, W: Defining<O>>(
+    s: &mut State,
+    out: &mut O,
+    inside: &W,
+    at: Place,
+    places: &Typed,
+) -> Result<InTerm, Stop>
+    requires defines { W.can_define inside.now }
+    ensures did { Does in_term_seen result (state_seen s.new (O.told out.new)) (forms.user_places (level (W.code inside.now) (W.depth inside.now)) at (part places.now) (state_seen s.old (O.told out.old))) }
+{
+    let place = places.place;
+    let cells = term_cells(s, out, inside, places);
+    places_with(s, at, place, cells)
+}
+
 /// `atmost(b, x)`, `atleast(b, x)` and `exactly(b, x)`
 #[tactic(auto, unfolding(comet_meaning::specs::ConstraintForms::bounded_form))]
-pub(crate) fn bounded_term<O: Out, W: Defining<O>>(
+pub(crate) fn bounded_term<O: Outside, W: Defining<O>>(
     s: &mut State,
     out: &mut O,
     inside: &W,
@@ -49,7 +68,7 @@ pub(crate) fn bounded_term<O: Out, W: Defining<O>>(
 ) -> Result<Built, Stop>
     requires ready { W.is_ready inside.now }
     requires defines { W.can_define inside.now }
-    ensures did { Does (λ t. t) result (state_seen s.new (O.taken out.new)) (forms.bounded_form (level (W.code inside.now) (W.depth inside.now)) at function (part bounds.now) (part places.now) (state_seen s.old (O.taken out.old))) }
+    ensures did { Does (λ t. t) result (state_seen s.new (O.told out.new)) (forms.bounded_form (level (W.code inside.now) (W.depth inside.now)) at function (part bounds.now) (part places.now) (state_seen s.old (O.told out.old))) }
 {
     let place = bounds.place;
     let other = places.place;
@@ -60,7 +79,7 @@ pub(crate) fn bounded_term<O: Out, W: Defining<O>>(
 
 /// `knapsack(w, x, c)`
 #[tactic(auto, unfolding(comet_meaning::specs::ConstraintForms::knapsack_form))]
-pub(crate) fn knapsack_term<O: Out, W: Defining<O>>(
+pub(crate) fn knapsack_term<O: Outside, W: Defining<O>>(
     s: &mut State,
     out: &mut O,
     inside: &W,
@@ -71,7 +90,7 @@ pub(crate) fn knapsack_term<O: Out, W: Defining<O>>(
 ) -> Result<Built, Stop>
     requires ready { W.is_ready inside.now }
     requires defines { W.can_define inside.now }
-    ensures did { Does (λ t. t) result (state_seen s.new (O.taken out.new)) (forms.knapsack_form (level (W.code inside.now) (W.depth inside.now)) at (part weights.now) (part places.now) (part capacity.now) (state_seen s.old (O.taken out.old))) }
+    ensures did { Does (λ t. t) result (state_seen s.new (O.told out.new)) (forms.knapsack_form (level (W.code inside.now) (W.depth inside.now)) at (part weights.now) (part places.now) (part capacity.now) (state_seen s.old (O.told out.old))) }
 {
     let place = weights.place;
     let other = places.place;
@@ -83,7 +102,7 @@ pub(crate) fn knapsack_term<O: Out, W: Defining<O>>(
 
 /// `multiknapsack(x, w, c)`
 #[tactic(auto, unfolding(comet_meaning::specs::ConstraintForms::multi_knapsack_form))]
-pub(crate) fn multi_knapsack_term<O: Out, W: Defining<O>>(
+pub(crate) fn multi_knapsack_term<O: Outside, W: Defining<O>>(
     s: &mut State,
     out: &mut O,
     inside: &W,
@@ -94,7 +113,7 @@ pub(crate) fn multi_knapsack_term<O: Out, W: Defining<O>>(
 ) -> Result<Built, Stop>
     requires ready { W.is_ready inside.now }
     requires defines { W.can_define inside.now }
-    ensures did { Does (λ t. t) result (state_seen s.new (O.taken out.new)) (forms.multi_knapsack_form (level (W.code inside.now) (W.depth inside.now)) at (part places.now) (part sizes.now) (part capacities.now) (state_seen s.old (O.taken out.old))) }
+    ensures did { Does (λ t. t) result (state_seen s.new (O.told out.new)) (forms.multi_knapsack_form (level (W.code inside.now) (W.depth inside.now)) at (part places.now) (part sizes.now) (part capacities.now) (state_seen s.old (O.told out.old))) }
 {
     let place = places.place;
     let other = sizes.place;
@@ -107,7 +126,7 @@ pub(crate) fn multi_knapsack_term<O: Out, W: Defining<O>>(
 
 /// `sequence(x, s, p, q)`
 #[tactic(auto, unfolding(comet_meaning::specs::ConstraintForms::sequence_form))]
-pub(crate) fn sequence_term<O: Out, W: Defining<O>>(
+pub(crate) fn sequence_term<O: Outside, W: Defining<O>>(
     s: &mut State,
     out: &mut O,
     inside: &W,
@@ -119,7 +138,7 @@ pub(crate) fn sequence_term<O: Out, W: Defining<O>>(
 ) -> Result<Built, Stop>
     requires ready { W.is_ready inside.now }
     requires defines { W.can_define inside.now }
-    ensures did { Does (λ t. t) result (state_seen s.new (O.taken out.new)) (forms.sequence_form (level (W.code inside.now) (W.depth inside.now)) at (part places.now) (part members.now) (part most.now) (part window.now) (state_seen s.old (O.taken out.old))) }
+    ensures did { Does (λ t. t) result (state_seen s.new (O.told out.new)) (forms.sequence_form (level (W.code inside.now) (W.depth inside.now)) at (part places.now) (part members.now) (part most.now) (part window.now) (state_seen s.old (O.told out.old))) }
 {
     let place = places.place;
     let cells = term_cells(s, out, inside, places)?;

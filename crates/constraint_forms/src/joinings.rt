@@ -11,13 +11,13 @@ use cbl_base::Place;
 use checked_tree::{Generator, Typed};
 use comet_syntax::tree::Aggregate;
 use run_solvers::Built;
-use run_state::{Out, State};
+use run_state::{Outside, State};
 use run_steps::inside::Defining;
 use run_values::Stop;
 use term_forms::aggregates::bodies_of;
 
 /// `and(..) c` and `or(..) c`. The names of the generators end with it.
-pub(crate) fn joining_term<O: Out, W: Defining<O>>(
+pub(crate) fn joining_term<O: Outside, W: Defining<O>>(
     s: &mut State,
     out: &mut O,
     inside: &W,
@@ -29,7 +29,7 @@ pub(crate) fn joining_term<O: Out, W: Defining<O>>(
 ) -> Result<Built, Stop>
     requires ready { W.is_ready inside.now }
     requires defines { W.can_define inside.now }
-    ensures did { Does (λ t. t) result (state_seen s.new (O.taken out.new)) (forms.joining_form (level (W.code inside.now) (W.depth inside.now)) at aggregate (generators_seen generators.now) (part_or_none condition.now) (part body.now) (state_seen s.old (O.taken out.old))) }
+    ensures did { Does (λ t. t) result (state_seen s.new (O.told out.new)) (forms.joining_form (level (W.code inside.now) (W.depth inside.now)) at aggregate (generators_seen generators.now) (part_or_none condition.now) (part body.now) (state_seen s.old (O.told out.old))) }
 {
     let frame = s.copied_frame()?;
     let bodies = bodies_of(s, out, inside, at, aggregate, generators, condition, body)?;

@@ -6,6 +6,7 @@ ghost use Rattle.comet_meaning.specs.Outcome.{give};
 ghost use Rattle.comet_meaning.specs.Program.{level};
 ghost use Rattle.comet_meaning.specs.State as states;
 ghost use Rattle.comet_meaning.specs.Values.{members_of};
+ghost use Rattle.run_outside.specs.Told.{Told};
 ghost use Rattle.run_state.specs.Views.{state_seen};
 ghost use Rattle.run_steps.specs.Does.{Does};
 ghost use Rattle.run_steps.specs.Following.{Follows};
@@ -14,7 +15,7 @@ ghost use Rattle.run_values.specs.Views.{cells_seen, value_seen};
 
 use cbl_base::IntSet;
 use checked_tree::Typed;
-use run_state::{Out, State};
+use run_state::{Outside, State};
 use run_steps::inside::Within;
 use run_values::{Cells, Stop, Value};
 use std::alloc::Global;
@@ -22,14 +23,14 @@ use term_forms::evaluating::expressions::value_of;
 
 /// An array that is kept.
 #[tactic(auto, unfolding(comet_meaning::specs::ConstraintForms::kept_cells))]
-pub(crate) fn kept_cells<O: Out, W: Within<O>>(
+pub(crate) fn kept_cells<O: Outside, W: Within<O>>(
     s: &mut State,
     out: &mut O,
     inside: &W,
     e: &Typed,
 ) -> Result<Cells, Stop>
     requires ready { W.is_ready inside.now }
-    ensures did { Does cells_seen result (state_seen s.new (O.taken out.new)) (forms.kept_cells (level (W.code inside.now) (W.depth inside.now)) (part e.now) (state_seen s.old (O.taken out.old))) }
+    ensures did { Does cells_seen result (state_seen s.new (O.told out.new)) (forms.kept_cells (level (W.code inside.now) (W.depth inside.now)) (part e.now) (state_seen s.old (O.told out.old))) }
 {
     let value = value_of(s, out, inside, e);
     as_cells(s, value)
@@ -37,7 +38,7 @@ pub(crate) fn kept_cells<O: Out, W: Within<O>>(
 
 /// A value as the cells of an array.
 fn as_cells(s: &State, value: Result<Value, Stop>) -> Result<Cells, Stop>
-    ensures did { (printed : List ℕ) → Follows value_seen cells_seen value result (state_seen s.now printed) (state_seen s.now printed) cells }
+    ensures did { (told : Told) → Follows value_seen cells_seen value result (state_seen s.now told) (state_seen s.now told) cells }
 {
     match value {
         Err(stop) => Err(stop),
@@ -47,14 +48,14 @@ fn as_cells(s: &State, value: Result<Value, Stop>) -> Result<Cells, Stop>
 
 /// A set that is kept.
 #[tactic(auto, unfolding(comet_meaning::specs::ConstraintForms::kept_set))]
-pub(crate) fn kept_set<O: Out, W: Within<O>>(
+pub(crate) fn kept_set<O: Outside, W: Within<O>>(
     s: &mut State,
     out: &mut O,
     inside: &W,
     e: &Typed,
 ) -> Result<IntSet, Stop>
     requires ready { W.is_ready inside.now }
-    ensures did { Does (λ set. set) result (state_seen s.new (O.taken out.new)) (forms.kept_set (level (W.code inside.now) (W.depth inside.now)) (part e.now) (state_seen s.old (O.taken out.old))) }
+    ensures did { Does (λ set. set) result (state_seen s.new (O.told out.new)) (forms.kept_set (level (W.code inside.now) (W.depth inside.now)) (part e.now) (state_seen s.old (O.told out.old))) }
 {
     let value = value_of(s, out, inside, e);
     as_set(s.alloc, value)

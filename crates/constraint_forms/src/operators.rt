@@ -12,14 +12,14 @@ use cbl_base::Place;
 use checked_tree::{Link, Typed};
 use comet_syntax::tree::{ChainOperator, Comparison};
 use run_solvers::Built;
-use run_state::{Out, State};
+use run_state::{Outside, State};
 use run_steps::inside::Defining;
 use run_values::Stop;
 use term_forms::evaluating::parts::{constraint_part, single_term};
 
 /// `a == b` and its like.
 #[tactic(auto, unfolding(comet_meaning::specs::ConstraintForms::relation_form))]
-pub(crate) fn relation_term<O: Out, W: Defining<O>>(
+pub(crate) fn relation_term<O: Outside, W: Defining<O>>(
     s: &mut State,
     out: &mut O,
     inside: &W,
@@ -29,7 +29,7 @@ pub(crate) fn relation_term<O: Out, W: Defining<O>>(
     right: &Typed,
 ) -> Result<Built, Stop>
     requires defines { W.can_define inside.now }
-    ensures did { Does (λ t. t) result (state_seen s.new (O.taken out.new)) (forms.relation_form (level (W.code inside.now) (W.depth inside.now)) at comparison (part left.now) (part right.now) (state_seen s.old (O.taken out.old))) }
+    ensures did { Does (λ t. t) result (state_seen s.new (O.told out.new)) (forms.relation_form (level (W.code inside.now) (W.depth inside.now)) at comparison (part left.now) (part right.now) (state_seen s.old (O.told out.old))) }
 {
     let left = single_term(s, out, inside, left)?;
     let right = single_term(s, out, inside, right);
@@ -38,7 +38,7 @@ pub(crate) fn relation_term<O: Out, W: Defining<O>>(
 
 /// `!c`
 #[tactic(auto, unfolding(comet_meaning::specs::ConstraintForms::negation_form))]
-pub(crate) fn negation_term<O: Out, W: Defining<O>>(
+pub(crate) fn negation_term<O: Outside, W: Defining<O>>(
     s: &mut State,
     out: &mut O,
     inside: &W,
@@ -47,7 +47,7 @@ pub(crate) fn negation_term<O: Out, W: Defining<O>>(
 ) -> Result<Built, Stop>
     requires ready { W.is_ready inside.now }
     requires defines { W.can_define inside.now }
-    ensures did { Does (λ t. t) result (state_seen s.new (O.taken out.new)) (forms.negation_form (level (W.code inside.now) (W.depth inside.now)) at (part operand.now) (state_seen s.old (O.taken out.old))) }
+    ensures did { Does (λ t. t) result (state_seen s.new (O.told out.new)) (forms.negation_form (level (W.code inside.now) (W.depth inside.now)) at (part operand.now) (state_seen s.old (O.told out.old))) }
 {
     let operand = constraint_part(s, out, inside, operand);
     negate(s.alloc, at, operand)
@@ -55,7 +55,7 @@ pub(crate) fn negation_term<O: Out, W: Defining<O>>(
 
 /// A chain of `&&` or of `||`.
 #[tactic(auto, unfolding(comet_meaning::specs::ConstraintForms::combination_form))]
-pub(crate) fn combination_term<O: Out, W: Defining<O>>(
+pub(crate) fn combination_term<O: Outside, W: Defining<O>>(
     s: &mut State,
     out: &mut O,
     inside: &W,
@@ -64,14 +64,14 @@ pub(crate) fn combination_term<O: Out, W: Defining<O>>(
 ) -> Result<Built, Stop>
     requires ready { W.is_ready inside.now }
     requires defines { W.can_define inside.now }
-    ensures did { Does (λ t. t) result (state_seen s.new (O.taken out.new)) (forms.combination_form (level (W.code inside.now) (W.depth inside.now)) (part first.now) (links_seen links.now) (state_seen s.old (O.taken out.old))) }
+    ensures did { Does (λ t. t) result (state_seen s.new (O.told out.new)) (forms.combination_form (level (W.code inside.now) (W.depth inside.now)) (part first.now) (links_seen links.now) (state_seen s.old (O.told out.old))) }
 {
     let term = constraint_part(s, out, inside, first)?;
     combined_term(s, out, inside, links, term)
 }
 
 /// The chain behind its first member, which has this term: one operation at its first operator.
-fn combined_term<O: Out, W: Defining<O>>(
+fn combined_term<O: Outside, W: Defining<O>>(
     s: &mut State,
     out: &mut O,
     inside: &W,
@@ -80,7 +80,7 @@ fn combined_term<O: Out, W: Defining<O>>(
 ) -> Result<Built, Stop>
     requires ready { W.is_ready inside.now }
     requires defines { W.can_define inside.now }
-    ensures did { Does (λ t. t) result (state_seen s.new (O.taken out.new)) (forms.combined_form (level (W.code inside.now) (W.depth inside.now)) (links_seen links.now) first (state_seen s.old (O.taken out.old))) }
+    ensures did { Does (λ t. t) result (state_seen s.new (O.told out.new)) (forms.combined_form (level (W.code inside.now) (W.depth inside.now)) (links_seen links.now) first (state_seen s.old (O.told out.old))) }
 {
     match links.first() {
         None => Ok(first),
@@ -89,7 +89,7 @@ fn combined_term<O: Out, W: Defining<O>>(
 }
 
 /// One operation of all members, at a place.
-fn members_term<O: Out, W: Defining<O>>(
+fn members_term<O: Outside, W: Defining<O>>(
     s: &mut State,
     out: &mut O,
     inside: &W,
@@ -100,14 +100,14 @@ fn members_term<O: Out, W: Defining<O>>(
 ) -> Result<Built, Stop>
     requires ready { W.is_ready inside.now }
     requires defines { W.can_define inside.now }
-    ensures did { Does (λ t. t) result (state_seen s.new (O.taken out.new)) (members_node (level (W.code inside.now) (W.depth inside.now)) at operator (links_seen links.now) first (state_seen s.old (O.taken out.old))) }
+    ensures did { Does (λ t. t) result (state_seen s.new (O.told out.new)) (members_node (level (W.code inside.now) (W.depth inside.now)) at operator (links_seen links.now) first (state_seen s.old (O.told out.old))) }
 {
     let members = members_of(s, out, inside, links, first);
     combine(at, operator, members)
 }
 
 /// The terms of all members, the first of which is known.
-fn members_of<O: Out, W: Defining<O>>(
+fn members_of<O: Outside, W: Defining<O>>(
     s: &mut State,
     out: &mut O,
     inside: &W,
@@ -116,7 +116,7 @@ fn members_of<O: Out, W: Defining<O>>(
 ) -> Result<Vec<Built>, Stop>
     requires ready { W.is_ready inside.now }
     requires defines { W.can_define inside.now }
-    ensures did { Does (λ terms. terms.items) result (state_seen s.new (O.taken out.new)) (forms.members_form (level (W.code inside.now) (W.depth inside.now)) (links_seen links.now) (first ∷ []) (state_seen s.old (O.taken out.old))) }
+    ensures did { Does (λ terms. terms.items) result (state_seen s.new (O.told out.new)) (forms.members_form (level (W.code inside.now) (W.depth inside.now)) (links_seen links.now) (first ∷ []) (state_seen s.old (O.told out.old))) }
 {
     let mut terms = Vec::new(s.alloc);
     terms.push(first)?;

@@ -21,7 +21,7 @@ ghost use Rattle.run_values.specs.Views.{bounds_seen, cells_seen};
 use cbl_base::Place;
 use checked_tree::{Dimension, Slot, Start, Typed, Way};
 use expression_forms::expressions::{bounds_of, number_of, value_of};
-use run_state::{Out, State};
+use run_state::{Outside, State};
 use run_steps::cells::{Extent, cell_count, put_named};
 use run_steps::effects::{make_array, push_number, take_list};
 use run_steps::inside::Within;
@@ -29,7 +29,7 @@ use run_values::Stop;
 
 /// An array with dimensions: these are evaluated first, and then each cell gets its number.
 #[tactic(auto, unfolding(comet_meaning::specs::Declarations::array_form))]
-pub fn declare_array<O: Out, W: Within<O>>(
+pub fn declare_array<O: Outside, W: Within<O>>(
     s: &mut State,
     out: &mut O,
     inside: &W,
@@ -39,7 +39,7 @@ pub fn declare_array<O: Out, W: Within<O>>(
     start: &Option<Start>,
 ) -> Result<(), Stop>
     requires ready { W.is_ready inside.now }
-    ensures did { Does (λ _. tt) result (state_seen s.new (O.taken out.new)) (array_form (level (W.code inside.now) (W.depth inside.now)) at slot (map dimension_of dimensions.now) (option_map start_of start.now) (state_seen s.old (O.taken out.old))) }
+    ensures did { Does (λ _. tt) result (state_seen s.new (O.told out.new)) (array_form (level (W.code inside.now) (W.depth inside.now)) at slot (map dimension_of dimensions.now) (option_map start_of start.now) (state_seen s.old (O.told out.old))) }
 {
     let extents = extents_of(s, out, inside, dimensions)?;
     let sides = extents.as_slice();
@@ -49,14 +49,14 @@ pub fn declare_array<O: Out, W: Within<O>>(
 }
 
 /// The bounds of dimensions, evaluated in order.
-pub(crate) fn extents_of<O: Out, W: Within<O>>(
+pub(crate) fn extents_of<O: Outside, W: Within<O>>(
     s: &mut State,
     out: &mut O,
     inside: &W,
     dimensions: &[Dimension],
 ) -> Result<Vec<Extent>, Stop>
     requires ready { W.is_ready inside.now }
-    ensures did { Does (λ extents. map extent_seen extents.items) result (state_seen s.new (O.taken out.new)) (dimensions_form (level (W.code inside.now) (W.depth inside.now)) (map dimension_of dimensions.now) [] (state_seen s.old (O.taken out.old))) }
+    ensures did { Does (λ extents. map extent_seen extents.items) result (state_seen s.new (O.told out.new)) (dimensions_form (level (W.code inside.now) (W.depth inside.now)) (map dimension_of dimensions.now) [] (state_seen s.old (O.told out.old))) }
 {
     let mut extents = Vec::new(s.alloc);
     for dimension in dimensions {
@@ -71,7 +71,7 @@ pub(crate) fn extents_of<O: Out, W: Within<O>>(
 
 /// The numbers of all cells.
 #[tactic(auto, unfolding(comet_meaning::specs::Declarations::numbers_form, comet_meaning::specs::Declarations::started_cells))]
-fn first_numbers<O: Out, W: Within<O>>(
+fn first_numbers<O: Outside, W: Within<O>>(
     s: &mut State,
     out: &mut O,
     inside: &W,
@@ -82,7 +82,7 @@ fn first_numbers<O: Out, W: Within<O>>(
 ) -> Result<Vec<i64>, Stop>
     requires ready { W.is_ready inside.now }
     requires known { count ≡ meaning.cell_count (map extent_seen extents.now) }
-    ensures did { Does (λ numbers. numbers.items) result (state_seen s.new (O.taken out.new)) (numbers_form (level (W.code inside.now) (W.depth inside.now)) at (map extent_seen extents.now) (option_map start_of start.now) (state_seen s.old (O.taken out.old))) }
+    ensures did { Does (λ numbers. numbers.items) result (state_seen s.new (O.told out.new)) (numbers_form (level (W.code inside.now) (W.depth inside.now)) at (map extent_seen extents.now) (option_map start_of start.now) (state_seen s.old (O.told out.old))) }
 {
     match start {
         None => fill_all(s, out, inside, at, count, None, extents),
@@ -96,7 +96,7 @@ fn first_numbers<O: Out, W: Within<O>>(
 
 /// The numbers of all cells, each evaluated; where there is no cell nothing is done, however many rows there are.
 #[tactic(auto, unfolding(comet_meaning::specs::Declarations::every_cell))]
-fn fill_all<O: Out, W: Within<O>>(
+fn fill_all<O: Outside, W: Within<O>>(
     s: &mut State,
     out: &mut O,
     inside: &W,
@@ -107,7 +107,7 @@ fn fill_all<O: Out, W: Within<O>>(
 ) -> Result<Vec<i64>, Stop>
     requires ready { W.is_ready inside.now }
     requires known { count ≡ meaning.cell_count (map extent_seen extents.now) }
-    ensures did { Does (λ numbers. numbers.items) result (state_seen s.new (O.taken out.new)) (every_cell (next_cell (level (W.code inside.now) (W.depth inside.now)) at (option_map seen (option_copied value.entry))) (map extent_seen extents.now) (state_seen s.old (O.taken out.old))) }
+    ensures did { Does (λ numbers. numbers.items) result (state_seen s.new (O.told out.new)) (every_cell (next_cell (level (W.code inside.now) (W.depth inside.now)) at (option_map seen (option_copied value.entry))) (map extent_seen extents.now) (state_seen s.old (O.told out.old))) }
 {
     let none = Vec::new(s.alloc);
     if count == 0 {
@@ -118,7 +118,7 @@ fn fill_all<O: Out, W: Within<O>>(
 
 /// The numbers of a list of exactly as many.
 #[tactic(auto, unfolding(comet_meaning::specs::Declarations::listed_form))]
-fn listed_numbers<O: Out, W: Within<O>>(
+fn listed_numbers<O: Outside, W: Within<O>>(
     s: &mut State,
     out: &mut O,
     inside: &W,
@@ -127,16 +127,16 @@ fn listed_numbers<O: Out, W: Within<O>>(
     list: &Typed,
 ) -> Result<Vec<i64>, Stop>
     requires ready { W.is_ready inside.now }
-    ensures did { Does (λ numbers. numbers.items) result (state_seen s.new (O.taken out.new)) (listed_form (level (W.code inside.now) (W.depth inside.now)) at count (seen list.now) (state_seen s.old (O.taken out.old))) }
+    ensures did { Does (λ numbers. numbers.items) result (state_seen s.new (O.told out.new)) (listed_form (level (W.code inside.now) (W.depth inside.now)) at count (seen list.now) (state_seen s.old (O.told out.old))) }
 {
     let place = list.place;
     let list = value_of(s, out, inside, list);
-    take_list(s, at, place, count, list)
+    take_list(s, out, at, place, count, list)
 }
 
 /// Puts the numbers of the cells that these dimensions have behind those so far.
 #[cycle(fill)]
-fn fill<O: Out, W: Within<O>>(
+fn fill<O: Outside, W: Within<O>>(
     s: &mut State,
     out: &mut O,
     inside: &W,
@@ -146,7 +146,7 @@ fn fill<O: Out, W: Within<O>>(
     numbers: Vec<i64>,
 ) -> Result<Vec<i64>, Stop>
     requires ready { W.is_ready inside.now }
-    ensures did { (is : List ℤ) → Does (λ numbers. numbers.items) result (state_seen s.new (O.taken out.new)) (each_cell (next_cell (level (W.code inside.now) (W.depth inside.now)) at (option_map seen (option_copied value.entry))) (map extent_seen extents.now) is numbers.items (state_seen s.old (O.taken out.old))) }
+    ensures did { (is : List ℤ) → Does (λ numbers. numbers.items) result (state_seen s.new (O.told out.new)) (each_cell (next_cell (level (W.code inside.now) (W.depth inside.now)) at (option_map seen (option_copied value.entry))) (map extent_seen extents.now) is numbers.items (state_seen s.old (O.told out.old))) }
 {
     match extents.first() {
         None => push_cell(s, out, inside, at, value, numbers),
@@ -156,7 +156,7 @@ fn fill<O: Out, W: Within<O>>(
 
 /// The same along a dimension, with those behind it for each of its indices.
 #[cycle(fill)]
-fn fill_along<O: Out, W: Within<O>>(
+fn fill_along<O: Outside, W: Within<O>>(
     s: &mut State,
     out: &mut O,
     inside: &W,
@@ -167,7 +167,7 @@ fn fill_along<O: Out, W: Within<O>>(
     numbers: Vec<i64>,
 ) -> Result<Vec<i64>, Stop>
     requires ready { W.is_ready inside.now }
-    ensures did { (is : List ℤ) → Does (λ numbers. numbers.items) result (state_seen s.new (O.taken out.new)) (along (next_cell (level (W.code inside.now) (W.depth inside.now)) at (option_map seen (option_copied value.entry))) (extent_seen extent) (map extent_seen later.now) is numbers.items (state_seen s.old (O.taken out.old))) }
+    ensures did { (is : List ℤ) → Does (λ numbers. numbers.items) result (state_seen s.new (O.told out.new)) (along (next_cell (level (W.code inside.now) (W.depth inside.now)) at (option_map seen (option_copied value.entry))) (extent_seen extent) (map extent_seen later.now) is numbers.items (state_seen s.old (O.told out.old))) }
 {
     let is_empty = extent.bounds.up < extent.bounds.low;
     if is_empty {
@@ -188,7 +188,7 @@ fn fill_along<O: Out, W: Within<O>>(
 
 /// The same at one index.
 #[cycle(fill)]
-fn fill_at<O: Out, W: Within<O>>(
+fn fill_at<O: Outside, W: Within<O>>(
     s: &mut State,
     out: &mut O,
     inside: &W,
@@ -200,7 +200,7 @@ fn fill_at<O: Out, W: Within<O>>(
     numbers: Vec<i64>,
 ) -> Result<Vec<i64>, Stop>
     requires ready { W.is_ready inside.now }
-    ensures did { (is : List ℤ) → Does (λ numbers. numbers.items) result (state_seen s.new (O.taken out.new)) (at_index (next_cell (level (W.code inside.now) (W.depth inside.now)) at (option_map seen (option_copied value.entry))) slot (map extent_seen later.now) is index numbers.items (state_seen s.old (O.taken out.old))) }
+    ensures did { (is : List ℤ) → Does (λ numbers. numbers.items) result (state_seen s.new (O.told out.new)) (at_index (next_cell (level (W.code inside.now) (W.depth inside.now)) at (option_map seen (option_copied value.entry))) slot (map extent_seen later.now) is index numbers.items (state_seen s.old (O.told out.old))) }
 {
     put_named(s, slot, index)?;
     fill(s, out, inside, at, value, later, numbers)
@@ -208,7 +208,7 @@ fn fill_at<O: Out, W: Within<O>>(
 
 /// One more cell: its unit, and then its number.
 #[tactic(auto, unfolding(comet_meaning::specs::Declarations::next_cell))]
-fn push_cell<O: Out, W: Within<O>>(
+fn push_cell<O: Outside, W: Within<O>>(
     s: &mut State,
     out: &mut O,
     inside: &W,
@@ -217,7 +217,7 @@ fn push_cell<O: Out, W: Within<O>>(
     numbers: Vec<i64>,
 ) -> Result<Vec<i64>, Stop>
     requires ready { W.is_ready inside.now }
-    ensures did { (is : List ℤ) → Does (λ numbers. numbers.items) result (state_seen s.new (O.taken out.new)) (next_cell (level (W.code inside.now) (W.depth inside.now)) at (option_map seen (option_copied value.entry)) is numbers.items (state_seen s.old (O.taken out.old))) }
+    ensures did { (is : List ℤ) → Does (λ numbers. numbers.items) result (state_seen s.new (O.told out.new)) (next_cell (level (W.code inside.now) (W.depth inside.now)) at (option_map seen (option_copied value.entry)) is numbers.items (state_seen s.old (O.told out.old))) }
 {
     s.charge(1, at)?;
     push_number(numbers, start_number(s, out, inside, value))
@@ -225,14 +225,14 @@ fn push_cell<O: Out, W: Within<O>>(
 
 /// The number of a cell; without a start it is 0.
 #[tactic(auto, unfolding(comet_meaning::specs::Declarations::start_number))]
-fn start_number<O: Out, W: Within<O>>(
+fn start_number<O: Outside, W: Within<O>>(
     s: &mut State,
     out: &mut O,
     inside: &W,
     value: Option<&Typed>,
 ) -> Result<i64, Stop>
     requires ready { W.is_ready inside.now }
-    ensures did { Does (λ z. z) result (state_seen s.new (O.taken out.new)) (start_number (level (W.code inside.now) (W.depth inside.now)) (option_map seen (option_copied value.entry)) (state_seen s.old (O.taken out.old))) }
+    ensures did { Does (λ z. z) result (state_seen s.new (O.told out.new)) (start_number (level (W.code inside.now) (W.depth inside.now)) (option_map seen (option_copied value.entry)) (state_seen s.old (O.told out.old))) }
 {
     match value {
         None => Ok(0),

@@ -17,7 +17,7 @@ use checked_tree::{Kind, Slot, Start, Typed, Variable, Way};
 use expression_forms::expressions::{bounds_of, number_of, value_of};
 use expression_forms::parts::single_term;
 use run_solvers::Beginning;
-use run_state::{Out, State};
+use run_state::{Outside, State};
 use run_steps::declaring::{as_defined, as_free, begin_variable, begins_with, variable_kind};
 use run_steps::effects::declare_value;
 use run_steps::inside::{Defining, Within};
@@ -27,7 +27,7 @@ use term_model::VarKind;
 
 /// A name of one value, or of an array that is copied.
 #[tactic(auto, unfolding(comet_meaning::specs::Declarations::scalar_form))]
-pub fn declare<O: Out, W: Within<O>>(
+pub fn declare<O: Outside, W: Within<O>>(
     s: &mut State,
     out: &mut O,
     inside: &W,
@@ -37,21 +37,21 @@ pub fn declare<O: Out, W: Within<O>>(
     start: &Option<Typed>,
 ) -> Result<(), Stop>
     requires ready { W.is_ready inside.now }
-    ensures did { Does (λ _. tt) result (state_seen s.new (O.taken out.new)) (scalar_form (level (W.code inside.now) (W.depth inside.now)) at slot kind (option_map seen start.now) (state_seen s.old (O.taken out.old))) }
+    ensures did { Does (λ _. tt) result (state_seen s.new (O.told out.new)) (scalar_form (level (W.code inside.now) (W.depth inside.now)) at slot kind (option_map seen start.now) (state_seen s.old (O.told out.old))) }
 {
     match start {
         None => s.put(slot, first_value(s.alloc, kind)),
         Some(value) => {
             let place = value.place;
             let value = value_of(s, out, inside, value);
-            declare_value(s, at, place, slot, kind, value)
+            declare_value(s, out, at, place, slot, kind, value)
         }
     }
 }
 
 /// A variable, or an array of variables where it has dimensions.
 #[tactic(auto, unfolding(comet_meaning::specs::Variables::variable_form))]
-pub fn declare_variable<O: Out, W: Defining<O>>(
+pub fn declare_variable<O: Outside, W: Defining<O>>(
     s: &mut State,
     out: &mut O,
     inside: &W,
@@ -60,7 +60,7 @@ pub fn declare_variable<O: Out, W: Defining<O>>(
 ) -> Result<(), Stop>
     requires ready { W.is_ready inside.now }
     requires defines { W.can_define inside.now }
-    ensures did { Does (λ _. tt) result (state_seen s.new (O.taken out.new)) (variable_form (level (W.code inside.now) (W.depth inside.now)) at (variable_of variable.now) (state_seen s.old (O.taken out.old))) }
+    ensures did { Does (λ _. tt) result (state_seen s.new (O.told out.new)) (variable_form (level (W.code inside.now) (W.depth inside.now)) at (variable_of variable.now) (state_seen s.old (O.told out.old))) }
 {
     let count = variable.dimensions.len();
     if count == 0 {
@@ -72,7 +72,7 @@ pub fn declare_variable<O: Out, W: Defining<O>>(
 
 /// One variable: its domain, then its number or its definition.
 #[tactic(auto, unfolding(comet_meaning::specs::Variables::single_form))]
-fn declare_single<O: Out, W: Defining<O>>(
+fn declare_single<O: Outside, W: Defining<O>>(
     s: &mut State,
     out: &mut O,
     inside: &W,
@@ -81,24 +81,24 @@ fn declare_single<O: Out, W: Defining<O>>(
 ) -> Result<(), Stop>
     requires ready { W.is_ready inside.now }
     requires defines { W.can_define inside.now }
-    ensures did { Does (λ _. tt) result (state_seen s.new (O.taken out.new)) (single_form (level (W.code inside.now) (W.depth inside.now)) at (variable_of variable.now) (state_seen s.old (O.taken out.old))) }
+    ensures did { Does (λ _. tt) result (state_seen s.new (O.told out.new)) (single_form (level (W.code inside.now) (W.depth inside.now)) at (variable_of variable.now) (state_seen s.old (O.told out.old))) }
 {
     let domain = domain_of(s, out, inside, &variable.domain)?;
     let kind = variable_kind(variable.kind);
     let beginning = beginning_of(s, out, inside, kind, &variable.start);
-    begin_variable(s, at, variable, domain, beginning)
+    begin_variable(s, out, at, variable, domain, beginning)
 }
 
 /// The domain of a variable; all numbers where it is left out.
 #[tactic(auto, unfolding(comet_meaning::specs::Variables::domain_form))]
-pub(crate) fn domain_of<O: Out, W: Within<O>>(
+pub(crate) fn domain_of<O: Outside, W: Within<O>>(
     s: &mut State,
     out: &mut O,
     inside: &W,
     domain: &Option<Typed>,
 ) -> Result<Bounds, Stop>
     requires ready { W.is_ready inside.now }
-    ensures did { Does bounds_seen result (state_seen s.new (O.taken out.new)) (domain_form (level (W.code inside.now) (W.depth inside.now)) (option_map seen domain.now) (state_seen s.old (O.taken out.old))) }
+    ensures did { Does bounds_seen result (state_seen s.new (O.told out.new)) (domain_form (level (W.code inside.now) (W.depth inside.now)) (option_map seen domain.now) (state_seen s.old (O.told out.old))) }
 {
     match domain {
         None => Ok(Bounds {
@@ -111,7 +111,7 @@ pub(crate) fn domain_of<O: Out, W: Within<O>>(
 
 /// How a variable of this kind begins; with 0 or the empty set where that is left out.
 #[tactic(auto, unfolding(comet_meaning::specs::Variables::beginning_form))]
-pub(crate) fn beginning_of<O: Out, W: Defining<O>>(
+pub(crate) fn beginning_of<O: Outside, W: Defining<O>>(
     s: &mut State,
     out: &mut O,
     inside: &W,
@@ -120,7 +120,7 @@ pub(crate) fn beginning_of<O: Out, W: Defining<O>>(
 ) -> Result<Beginning, Stop>
     requires ready { W.is_ready inside.now }
     requires defines { W.can_define inside.now }
-    ensures did { Does beginning_seen result (state_seen s.new (O.taken out.new)) (beginning_form (level (W.code inside.now) (W.depth inside.now)) kind (option_map start_of start.now) (state_seen s.old (O.taken out.old))) }
+    ensures did { Does beginning_seen result (state_seen s.new (O.told out.new)) (beginning_form (level (W.code inside.now) (W.depth inside.now)) kind (option_map start_of start.now) (state_seen s.old (O.told out.old))) }
 {
     match start {
         None => Ok(begins_with(s.alloc, kind, 0)),
@@ -130,7 +130,7 @@ pub(crate) fn beginning_of<O: Out, W: Defining<O>>(
 
 /// The number or the definition that a variable of this kind begins with.
 #[tactic(auto, unfolding(comet_meaning::specs::Variables::started_form))]
-fn begin<O: Out, W: Defining<O>>(
+fn begin<O: Outside, W: Defining<O>>(
     s: &mut State,
     out: &mut O,
     inside: &W,
@@ -140,7 +140,7 @@ fn begin<O: Out, W: Defining<O>>(
 ) -> Result<Beginning, Stop>
     requires ready { W.is_ready inside.now }
     requires defines { W.can_define inside.now }
-    ensures did { Does beginning_seen result (state_seen s.new (O.taken out.new)) (started_form (level (W.code inside.now) (W.depth inside.now)) kind way (whole (seen value.now)) (state_seen s.old (O.taken out.old))) }
+    ensures did { Does beginning_seen result (state_seen s.new (O.told out.new)) (started_form (level (W.code inside.now) (W.depth inside.now)) kind way (whole (seen value.now)) (state_seen s.old (O.told out.old))) }
 {
     match way {
         Way::Define => as_defined(single_term(s, out, inside, value)),
@@ -150,7 +150,7 @@ fn begin<O: Out, W: Defining<O>>(
 }
 
 /// The number that a variable of this kind begins with.
-fn begin_number<O: Out, W: Within<O>>(
+fn begin_number<O: Outside, W: Within<O>>(
     s: &mut State,
     out: &mut O,
     inside: &W,
@@ -158,7 +158,7 @@ fn begin_number<O: Out, W: Within<O>>(
     value: &Typed,
 ) -> Result<Beginning, Stop>
     requires ready { W.is_ready inside.now }
-    ensures did { Does beginning_seen result (state_seen s.new (O.taken out.new)) (begun_number (level (W.code inside.now) (W.depth inside.now)) kind (whole (seen value.now)) (state_seen s.old (O.taken out.old))) }
+    ensures did { Does beginning_seen result (state_seen s.new (O.told out.new)) (begun_number (level (W.code inside.now) (W.depth inside.now)) kind (whole (seen value.now)) (state_seen s.old (O.told out.old))) }
 {
     let number = number_of(s, out, inside, value);
     as_free(s.alloc, kind, number)

@@ -14,7 +14,7 @@ use cbl_base::Place;
 use checked_tree::{Kind, Slot, Typed};
 use expression_forms::expressions::value_of;
 use expression_forms::parts::single_term;
-use run_state::{Out, State};
+use run_state::{Outside, State};
 use run_steps::effects::{
     distribution_made, input_made, objective_made, put_made, selector_made, solution_made,
     solver_made, sum_made, system_made,
@@ -24,7 +24,7 @@ use run_values::{Stop, Value};
 
 /// A name gets a new object of this kind: a system, a sum and a solution are made in the solver that stands among the
 /// arguments, an objective of the term there, and a distribution of the range there. Where it is no object nothing is done.
-pub fn declare_object<O: Out, W: Defining<O>>(
+pub fn declare_object<O: Outside, W: Defining<O>>(
     s: &mut State,
     out: &mut O,
     inside: &W,
@@ -35,11 +35,11 @@ pub fn declare_object<O: Out, W: Defining<O>>(
 ) -> Result<(), Stop>
     requires ready { W.is_ready inside.now }
     requires defines { W.can_define inside.now }
-    ensures did { Does (λ _. tt) result (state_seen s.new (O.taken out.new)) (object_form (level (W.code inside.now) (W.depth inside.now)) at slot kind (map seen arguments.now) (state_seen s.old (O.taken out.old))) }
+    ensures did { Does (λ _. tt) result (state_seen s.new (O.told out.new)) (object_form (level (W.code inside.now) (W.depth inside.now)) at slot kind (map seen arguments.now) (state_seen s.old (O.told out.old))) }
 {
     match kind {
         Kind::Solver => {
-            let made = solver_made(s);
+            let made = solver_made(out, s.alloc);
             put_made(s, slot, made)
         }
         Kind::Input => {
@@ -76,7 +76,7 @@ pub fn declare_object<O: Out, W: Defining<O>>(
 
 /// A system in the solver that stands among the arguments.
 #[tactic(auto, unfolding(comet_meaning::specs::Declarations::made_in))]
-fn new_system<O: Out, W: Within<O>>(
+fn new_system<O: Outside, W: Within<O>>(
     s: &mut State,
     out: &mut O,
     inside: &W,
@@ -84,18 +84,18 @@ fn new_system<O: Out, W: Within<O>>(
     arguments: &[Typed],
 ) -> Result<Value, Stop>
     requires ready { W.is_ready inside.now }
-    ensures did { Does value_seen result (state_seen s.new (O.taken out.new)) (declarations.made_in (level (W.code inside.now) (W.depth inside.now)) (make_system at) (map seen arguments.now) (state_seen s.old (O.taken out.old))) }
+    ensures did { Does value_seen result (state_seen s.new (O.told out.new)) (declarations.made_in (level (W.code inside.now) (W.depth inside.now)) (make_system at) (map seen arguments.now) (state_seen s.old (O.told out.old))) }
 {
     if arguments.len() != 1 {
         return Ok(Value::Nothing);
     }
     let solver = value_of(s, out, inside, &arguments[0]);
-    system_made(s, at, solver)
+    system_made(out, at, solver)
 }
 
 /// A sum in the solver that stands among the arguments.
 #[tactic(auto, unfolding(comet_meaning::specs::Declarations::made_in))]
-fn new_sum<O: Out, W: Within<O>>(
+fn new_sum<O: Outside, W: Within<O>>(
     s: &mut State,
     out: &mut O,
     inside: &W,
@@ -103,18 +103,18 @@ fn new_sum<O: Out, W: Within<O>>(
     arguments: &[Typed],
 ) -> Result<Value, Stop>
     requires ready { W.is_ready inside.now }
-    ensures did { Does value_seen result (state_seen s.new (O.taken out.new)) (declarations.made_in (level (W.code inside.now) (W.depth inside.now)) (make_sum at) (map seen arguments.now) (state_seen s.old (O.taken out.old))) }
+    ensures did { Does value_seen result (state_seen s.new (O.told out.new)) (declarations.made_in (level (W.code inside.now) (W.depth inside.now)) (make_sum at) (map seen arguments.now) (state_seen s.old (O.told out.old))) }
 {
     if arguments.len() != 1 {
         return Ok(Value::Nothing);
     }
     let solver = value_of(s, out, inside, &arguments[0]);
-    sum_made(s, at, solver)
+    sum_made(out, at, solver)
 }
 
 /// An objective of the term that stands among the arguments.
 #[tactic(auto, unfolding(comet_meaning::specs::Declarations::made_of_term))]
-fn new_objective<O: Out, W: Defining<O>>(
+fn new_objective<O: Outside, W: Defining<O>>(
     s: &mut State,
     out: &mut O,
     inside: &W,
@@ -122,18 +122,18 @@ fn new_objective<O: Out, W: Defining<O>>(
     arguments: &[Typed],
 ) -> Result<Value, Stop>
     requires defines { W.can_define inside.now }
-    ensures did { Does value_seen result (state_seen s.new (O.taken out.new)) (declarations.made_of_term (level (W.code inside.now) (W.depth inside.now)) at (map seen arguments.now) (state_seen s.old (O.taken out.old))) }
+    ensures did { Does value_seen result (state_seen s.new (O.told out.new)) (declarations.made_of_term (level (W.code inside.now) (W.depth inside.now)) at (map seen arguments.now) (state_seen s.old (O.told out.old))) }
 {
     if arguments.len() != 1 {
         return Ok(Value::Nothing);
     }
     let term = single_term(s, out, inside, &arguments[0]);
-    objective_made(s, at, term)
+    objective_made(out, at, term)
 }
 
 /// A solution of the solver that stands among the arguments.
 #[tactic(auto, unfolding(comet_meaning::specs::Declarations::made_in))]
-fn new_solution<O: Out, W: Within<O>>(
+fn new_solution<O: Outside, W: Within<O>>(
     s: &mut State,
     out: &mut O,
     inside: &W,
@@ -141,25 +141,25 @@ fn new_solution<O: Out, W: Within<O>>(
     arguments: &[Typed],
 ) -> Result<Value, Stop>
     requires ready { W.is_ready inside.now }
-    ensures did { Does value_seen result (state_seen s.new (O.taken out.new)) (declarations.made_in (level (W.code inside.now) (W.depth inside.now)) (make_solution at) (map seen arguments.now) (state_seen s.old (O.taken out.old))) }
+    ensures did { Does value_seen result (state_seen s.new (O.told out.new)) (declarations.made_in (level (W.code inside.now) (W.depth inside.now)) (make_solution at) (map seen arguments.now) (state_seen s.old (O.told out.old))) }
 {
     if arguments.len() != 1 {
         return Ok(Value::Nothing);
     }
     let solver = value_of(s, out, inside, &arguments[0]);
-    solution_made(s, at, solver)
+    solution_made(s, out, at, solver)
 }
 
 /// A distribution over the range that stands among the arguments.
 #[tactic(auto, unfolding(comet_meaning::specs::Declarations::made_of_range))]
-fn new_distribution<O: Out, W: Within<O>>(
+fn new_distribution<O: Outside, W: Within<O>>(
     s: &mut State,
     out: &mut O,
     inside: &W,
     arguments: &[Typed],
 ) -> Result<Value, Stop>
     requires ready { W.is_ready inside.now }
-    ensures did { Does value_seen result (state_seen s.new (O.taken out.new)) (declarations.made_of_range (level (W.code inside.now) (W.depth inside.now)) (map seen arguments.now) (state_seen s.old (O.taken out.old))) }
+    ensures did { Does value_seen result (state_seen s.new (O.told out.new)) (declarations.made_of_range (level (W.code inside.now) (W.depth inside.now)) (map seen arguments.now) (state_seen s.old (O.told out.old))) }
 {
     if arguments.len() != 1 {
         return Ok(Value::Nothing);

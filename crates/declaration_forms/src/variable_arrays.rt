@@ -16,7 +16,7 @@ use crate::declarations::{beginning_of, domain_of};
 use cbl_base::{Place, VarId};
 use checked_tree::{Slot, Typed, Variable, Way};
 use expression_forms::expressions::value_of;
-use run_state::{Out, State};
+use run_state::{Outside, State};
 use run_steps::cells::{Extent, cell_count, put_named, with_index};
 use run_steps::declaring::{
     begins_with, declared, make_variables, push_variable, take_numbers, variable_kind,
@@ -36,7 +36,7 @@ struct Making {
 
 /// An array of variables: its dimensions, the domain once, and then each cell.
 #[tactic(auto, unfolding(comet_meaning::specs::Variables::several_form))]
-pub(crate) fn declare_variables<O: Out, W: Defining<O>>(
+pub(crate) fn declare_variables<O: Outside, W: Defining<O>>(
     s: &mut State,
     out: &mut O,
     inside: &W,
@@ -45,7 +45,7 @@ pub(crate) fn declare_variables<O: Out, W: Defining<O>>(
 ) -> Result<(), Stop>
     requires ready { W.is_ready inside.now }
     requires defines { W.can_define inside.now }
-    ensures did { Does (λ _. tt) result (state_seen s.new (O.taken out.new)) (several_form (level (W.code inside.now) (W.depth inside.now)) at (variable_of variable.now) (state_seen s.old (O.taken out.old))) }
+    ensures did { Does (λ _. tt) result (state_seen s.new (O.told out.new)) (several_form (level (W.code inside.now) (W.depth inside.now)) at (variable_of variable.now) (state_seen s.old (O.told out.old))) }
 {
     let extents = extents_of(s, out, inside, &variable.dimensions)?;
     let sides = extents.as_slice();
@@ -58,7 +58,7 @@ pub(crate) fn declare_variables<O: Out, W: Defining<O>>(
 
 /// The variables of all cells.
 #[tactic(auto, unfolding(comet_meaning::specs::Variables::cells_form))]
-fn cells_of<O: Out, W: Defining<O>>(
+fn cells_of<O: Outside, W: Defining<O>>(
     s: &mut State,
     out: &mut O,
     inside: &W,
@@ -71,7 +71,7 @@ fn cells_of<O: Out, W: Defining<O>>(
     requires ready { W.is_ready inside.now }
     requires defines { W.can_define inside.now }
     requires known { count ≡ meaning.cell_count (map extent_seen extents.now) }
-    ensures did { Does (λ cells. cells.items) result (state_seen s.new (O.taken out.new)) (cells_form (level (W.code inside.now) (W.depth inside.now)) at (variable_of variable.now) decl (map extent_seen extents.now) (option_map start_of variable.now.start) (state_seen s.old (O.taken out.old))) }
+    ensures did { Does (λ cells. cells.items) result (state_seen s.new (O.told out.new)) (cells_form (level (W.code inside.now) (W.depth inside.now)) at (variable_of variable.now) decl (map extent_seen extents.now) (option_map start_of variable.now.start) (state_seen s.old (O.told out.old))) }
 {
     match &variable.start {
         None => started_cells(s, out, inside, at, variable, decl, count, extents),
@@ -96,7 +96,7 @@ fn cells_of<O: Out, W: Defining<O>>(
 }
 
 /// The variables of all cells, each begun by its start.
-fn started_cells<O: Out, W: Defining<O>>(
+fn started_cells<O: Outside, W: Defining<O>>(
     s: &mut State,
     out: &mut O,
     inside: &W,
@@ -109,7 +109,7 @@ fn started_cells<O: Out, W: Defining<O>>(
     requires ready { W.is_ready inside.now }
     requires defines { W.can_define inside.now }
     requires known { count ≡ meaning.cell_count (map extent_seen extents.now) }
-    ensures did { Does (λ cells. cells.items) result (state_seen s.new (O.taken out.new)) (every_cell (next_cell (level (W.code inside.now) (W.depth inside.now)) at (variable_of variable.now) decl) (map extent_seen extents.now) (state_seen s.old (O.taken out.old))) }
+    ensures did { Does (λ cells. cells.items) result (state_seen s.new (O.told out.new)) (every_cell (next_cell (level (W.code inside.now) (W.depth inside.now)) at (variable_of variable.now) decl) (map extent_seen extents.now) (state_seen s.old (O.told out.old))) }
 {
     let making = Making {
         at,
@@ -121,7 +121,7 @@ fn started_cells<O: Out, W: Defining<O>>(
 
 /// The variables of all cells, which begin with the numbers of a list of exactly as many.
 #[tactic(auto, unfolding(comet_meaning::specs::Variables::listed_cells))]
-fn listed_cells<O: Out, W: Defining<O>>(
+fn listed_cells<O: Outside, W: Defining<O>>(
     s: &mut State,
     out: &mut O,
     inside: &W,
@@ -135,7 +135,7 @@ fn listed_cells<O: Out, W: Defining<O>>(
     requires ready { W.is_ready inside.now }
     requires defines { W.can_define inside.now }
     requires known { count ≡ meaning.cell_count (map extent_seen extents.now) }
-    ensures did { Does (λ cells. cells.items) result (state_seen s.new (O.taken out.new)) (listed_cells (level (W.code inside.now) (W.depth inside.now)) at (variable_of variable.now) decl (map extent_seen extents.now) (seen list.now) (state_seen s.old (O.taken out.old))) }
+    ensures did { Does (λ cells. cells.items) result (state_seen s.new (O.told out.new)) (listed_cells (level (W.code inside.now) (W.depth inside.now)) at (variable_of variable.now) decl (map extent_seen extents.now) (seen list.now) (state_seen s.old (O.told out.old))) }
 {
     let numbers = numbers_of_list(s, out, inside, at, count, list)?;
     let making = Making {
@@ -147,7 +147,7 @@ fn listed_cells<O: Out, W: Defining<O>>(
 }
 
 /// The numbers of a list of exactly as many.
-fn numbers_of_list<O: Out, W: Defining<O>>(
+fn numbers_of_list<O: Outside, W: Defining<O>>(
     s: &mut State,
     out: &mut O,
     inside: &W,
@@ -156,16 +156,16 @@ fn numbers_of_list<O: Out, W: Defining<O>>(
     list: &Typed,
 ) -> Result<Vec<i64>, Stop>
     requires ready { W.is_ready inside.now }
-    ensures did { Does (λ numbers. numbers.items) result (state_seen s.new (O.taken out.new)) (exact_list (level (W.code inside.now) (W.depth inside.now)) at count (seen list.now) (state_seen s.old (O.taken out.old))) }
+    ensures did { Does (λ numbers. numbers.items) result (state_seen s.new (O.told out.new)) (exact_list (level (W.code inside.now) (W.depth inside.now)) at count (seen list.now) (state_seen s.old (O.told out.old))) }
 {
     let place = list.place;
     let value = value_of(s, out, inside, list);
-    take_numbers(s, at, place, count, value)
+    take_numbers(s, out, at, place, count, value)
 }
 
 /// The variables of all cells; where there is no cell nothing is done, however many rows there are.
 #[tactic(auto, unfolding(comet_meaning::specs::Declarations::every_cell))]
-fn make_all<O: Out, W: Defining<O>>(
+fn make_all<O: Outside, W: Defining<O>>(
     s: &mut State,
     out: &mut O,
     inside: &W,
@@ -177,7 +177,7 @@ fn make_all<O: Out, W: Defining<O>>(
     requires ready { W.is_ready inside.now }
     requires defines { W.can_define inside.now }
     requires known { count ≡ meaning.cell_count (map extent_seen extents.now) }
-    ensures did { Does (λ cells. cells.items) result (state_seen s.new (O.taken out.new)) (every_cell (variable_cell (level (W.code inside.now) (W.depth inside.now)) making.now.at (variable_of variable.now) making.now.decl (option_map (λ numbers. numbers.items) making.now.list)) (map extent_seen extents.now) (state_seen s.old (O.taken out.old))) }
+    ensures did { Does (λ cells. cells.items) result (state_seen s.new (O.told out.new)) (every_cell (variable_cell (level (W.code inside.now) (W.depth inside.now)) making.now.at (variable_of variable.now) making.now.decl (option_map (λ numbers. numbers.items) making.now.list)) (map extent_seen extents.now) (state_seen s.old (O.told out.old))) }
 {
     let none = Vec::new(s.alloc);
     if count == 0 {
@@ -188,7 +188,7 @@ fn make_all<O: Out, W: Defining<O>>(
 
 /// Puts the variables of the cells that these dimensions have, behind these indices, behind those so far.
 #[cycle(make)]
-fn make<O: Out, W: Defining<O>>(
+fn make<O: Outside, W: Defining<O>>(
     s: &mut State,
     out: &mut O,
     inside: &W,
@@ -200,7 +200,7 @@ fn make<O: Out, W: Defining<O>>(
 ) -> Result<Vec<VarId>, Stop>
     requires ready { W.is_ready inside.now }
     requires defines { W.can_define inside.now }
-    ensures did { Does (λ cells. cells.items) result (state_seen s.new (O.taken out.new)) (each_cell (variable_cell (level (W.code inside.now) (W.depth inside.now)) making.now.at (variable_of variable.now) making.now.decl (option_map (λ numbers. numbers.items) making.now.list)) (map extent_seen extents.now) indices.now cells.items (state_seen s.old (O.taken out.old))) }
+    ensures did { Does (λ cells. cells.items) result (state_seen s.new (O.told out.new)) (each_cell (variable_cell (level (W.code inside.now) (W.depth inside.now)) making.now.at (variable_of variable.now) making.now.decl (option_map (λ numbers. numbers.items) making.now.list)) (map extent_seen extents.now) indices.now cells.items (state_seen s.old (O.told out.old))) }
 {
     match extents.first() {
         None => push_cell(s, out, inside, variable, making, indices, cells),
@@ -222,7 +222,7 @@ fn make<O: Out, W: Defining<O>>(
 
 /// The same along a dimension, with those behind it for each of its indices.
 #[cycle(make)]
-fn make_along<O: Out, W: Defining<O>>(
+fn make_along<O: Outside, W: Defining<O>>(
     s: &mut State,
     out: &mut O,
     inside: &W,
@@ -235,7 +235,7 @@ fn make_along<O: Out, W: Defining<O>>(
 ) -> Result<Vec<VarId>, Stop>
     requires ready { W.is_ready inside.now }
     requires defines { W.can_define inside.now }
-    ensures did { Does (λ cells. cells.items) result (state_seen s.new (O.taken out.new)) (along (variable_cell (level (W.code inside.now) (W.depth inside.now)) making.now.at (variable_of variable.now) making.now.decl (option_map (λ numbers. numbers.items) making.now.list)) (extent_seen extent) (map extent_seen later.now) indices.now cells.items (state_seen s.old (O.taken out.old))) }
+    ensures did { Does (λ cells. cells.items) result (state_seen s.new (O.told out.new)) (along (variable_cell (level (W.code inside.now) (W.depth inside.now)) making.now.at (variable_of variable.now) making.now.decl (option_map (λ numbers. numbers.items) making.now.list)) (extent_seen extent) (map extent_seen later.now) indices.now cells.items (state_seen s.old (O.told out.old))) }
 {
     let is_empty = extent.bounds.up < extent.bounds.low;
     if is_empty {
@@ -267,7 +267,7 @@ fn make_along<O: Out, W: Defining<O>>(
 
 /// The same at one index.
 #[cycle(make)]
-fn make_at<O: Out, W: Defining<O>>(
+fn make_at<O: Outside, W: Defining<O>>(
     s: &mut State,
     out: &mut O,
     inside: &W,
@@ -281,7 +281,7 @@ fn make_at<O: Out, W: Defining<O>>(
 ) -> Result<Vec<VarId>, Stop>
     requires ready { W.is_ready inside.now }
     requires defines { W.can_define inside.now }
-    ensures did { Does (λ cells. cells.items) result (state_seen s.new (O.taken out.new)) (at_index (variable_cell (level (W.code inside.now) (W.depth inside.now)) making.now.at (variable_of variable.now) making.now.decl (option_map (λ numbers. numbers.items) making.now.list)) slot (map extent_seen later.now) indices.now index cells.items (state_seen s.old (O.taken out.old))) }
+    ensures did { Does (λ cells. cells.items) result (state_seen s.new (O.told out.new)) (at_index (variable_cell (level (W.code inside.now) (W.depth inside.now)) making.now.at (variable_of variable.now) making.now.decl (option_map (λ numbers. numbers.items) making.now.list)) slot (map extent_seen later.now) indices.now index cells.items (state_seen s.old (O.told out.old))) }
 {
     put_named(s, slot, index)?;
     let inner = with_index(s.alloc, indices, index)?;
@@ -289,7 +289,7 @@ fn make_at<O: Out, W: Defining<O>>(
 }
 
 /// One more cell: its unit, its number or term, and then its variable.
-fn push_cell<O: Out, W: Defining<O>>(
+fn push_cell<O: Outside, W: Defining<O>>(
     s: &mut State,
     out: &mut O,
     inside: &W,
@@ -300,7 +300,7 @@ fn push_cell<O: Out, W: Defining<O>>(
 ) -> Result<Vec<VarId>, Stop>
     requires ready { W.is_ready inside.now }
     requires defines { W.can_define inside.now }
-    ensures did { Does (λ cells. cells.items) result (state_seen s.new (O.taken out.new)) (variable_cell (level (W.code inside.now) (W.depth inside.now)) making.now.at (variable_of variable.now) making.now.decl (option_map (λ numbers. numbers.items) making.now.list) indices.now cells.items (state_seen s.old (O.taken out.old))) }
+    ensures did { Does (λ cells. cells.items) result (state_seen s.new (O.told out.new)) (variable_cell (level (W.code inside.now) (W.depth inside.now)) making.now.at (variable_of variable.now) making.now.decl (option_map (λ numbers. numbers.items) making.now.list) indices.now cells.items (state_seen s.old (O.told out.old))) }
 {
     match &making.list {
         None => push_started(
@@ -330,7 +330,7 @@ fn push_cell<O: Out, W: Defining<O>>(
 
 /// One more cell, begun by its start.
 #[tactic(auto, unfolding(comet_meaning::specs::Variables::next_cell))]
-fn push_started<O: Out, W: Defining<O>>(
+fn push_started<O: Outside, W: Defining<O>>(
     s: &mut State,
     out: &mut O,
     inside: &W,
@@ -342,17 +342,17 @@ fn push_started<O: Out, W: Defining<O>>(
 ) -> Result<Vec<VarId>, Stop>
     requires ready { W.is_ready inside.now }
     requires defines { W.can_define inside.now }
-    ensures did { Does (λ cells. cells.items) result (state_seen s.new (O.taken out.new)) (next_cell (level (W.code inside.now) (W.depth inside.now)) at (variable_of variable.now) decl indices.now cells.items (state_seen s.old (O.taken out.old))) }
+    ensures did { Does (λ cells. cells.items) result (state_seen s.new (O.told out.new)) (next_cell (level (W.code inside.now) (W.depth inside.now)) at (variable_of variable.now) decl indices.now cells.items (state_seen s.old (O.told out.old))) }
 {
     s.charge(1, at)?;
     let kind = variable_kind(variable.kind);
     let beginning = beginning_of(s, out, inside, kind, &variable.start);
-    push_variable(s, at, variable, decl, indices, cells, beginning)
+    push_variable(s, out, at, variable, decl, indices, cells, beginning)
 }
 
 /// One more cell, begun by its number in a list.
 #[tactic(auto, unfolding(comet_meaning::specs::Variables::listed_cell))]
-fn push_listed<O: Out>(
+fn push_listed<O: Outside>(
     s: &mut State,
     out: &mut O,
     at: Place,
@@ -362,12 +362,12 @@ fn push_listed<O: Out>(
     indices: &[i64],
     cells: Vec<VarId>,
 ) -> Result<Vec<VarId>, Stop>
-    ensures did { Does (λ cells. cells.items) result (state_seen s.new (O.taken out.new)) (listed_cell at (variable_of variable.now) decl numbers.now indices.now cells.items (state_seen s.old (O.taken out.old))) }
+    ensures did { Does (λ cells. cells.items) result (state_seen s.new (O.told out.new)) (listed_cell at (variable_of variable.now) decl numbers.now indices.now cells.items (state_seen s.old (O.told out.old))) }
 {
     s.charge(1, at)?;
     let number = number_at(numbers, cells.len());
     let beginning = begins_with(s.alloc, variable_kind(variable.kind), number);
-    push_variable(s, at, variable, decl, indices, cells, Ok(beginning))
+    push_variable(s, out, at, variable, decl, indices, cells, Ok(beginning))
 }
 
 /// The number at an index, and 0 where there is none.

@@ -6,10 +6,11 @@ ghost use Rattle.event_forms.specs.Bindings.{bound_by};
 ghost use Rattle.run_search.specs.Searches.{closure_seen};
 ghost use Rattle.run_state.specs.Views.{state_seen};
 ghost use Rattle.run_steps.specs.Does.{Does};
+ghost use Rattle.run_outside.specs.Told.{Told};
 ghost use Rattle.run_values.specs.Did.{Did};
 
 use checked_tree::EventSlots;
-use run_state::{Closure, Out, State};
+use run_state::{Closure, Outside, State};
 use run_steps::inside::Within;
 use run_values::{Stop, Value};
 use std::mem;
@@ -23,7 +24,7 @@ pub struct Binding {
 }
 
 /// A statement that runs later, in a frame of its own, which is that of its closure, with these names bound first.
-pub fn run_closure<O: Out, W: Within<O>>(
+pub fn run_closure<O: Outside, W: Within<O>>(
     s: &mut State,
     out: &mut O,
     inside: &W,
@@ -31,7 +32,7 @@ pub fn run_closure<O: Out, W: Within<O>>(
     binding: Option<Binding>,
 ) -> Result<(), Stop>
     requires ready { W.is_ready inside.now }
-    ensures did { Does (λ _. tt) result (state_seen s.new (O.taken out.new)) (events.run_closure (level (W.code inside.now) (W.depth inside.now)) (closure_seen closure) (bound_by binding) (state_seen s.old (O.taken out.old))) }
+    ensures did { Does (λ _. tt) result (state_seen s.new (O.told out.new)) (events.run_closure (level (W.code inside.now) (W.depth inside.now)) (closure_seen closure) (bound_by binding) (state_seen s.old (O.told out.old))) }
 {
     let frame = mem::replace(&mut s.frame, closure.frame);
     bind(s, binding)?;
@@ -42,7 +43,7 @@ pub fn run_closure<O: Out, W: Within<O>>(
 
 /// The names get their values.
 fn bind(s: &mut State, binding: Option<Binding>) -> Result<(), Stop>
-    ensures did { (printed : List ℕ) → Did (λ _. tt) result (state_seen s.new printed) (bound_by binding (state_seen s.old printed)) }
+    ensures did { (told : Told) → Did (λ _. tt) result (state_seen s.new told) (bound_by binding (state_seen s.old told)) }
     ensures fuel { s.new.fuel ≡ s.old.fuel }
 {
     match binding {

@@ -19,20 +19,20 @@ ghost use Rattle.run_values.specs.Views.{value_seen};
 use crate::closures::{Binding, run_closure};
 use cbl_base::Place;
 use checked_tree::EventSlots;
-use run_state::{Event, Out, State, Target};
+use run_state::{Event, Outside, State, Target};
 use run_steps::code::Flow;
 use run_steps::inside::Within;
 use run_values::{Stop, Value};
 
 /// Runs the queue, where no commit does: the events in order, and those that come while their handlers run.
-pub fn run_queue<O: Out, W: Within<O>>(
+pub fn run_queue<O: Outside, W: Within<O>>(
     s: &mut State,
     out: &mut O,
     inside: &W,
     at: Place,
 ) -> Result<(), Stop>
     requires ready { W.is_ready inside.now }
-    ensures did { Does (λ _. tt) result (state_seen s.new (O.taken out.new)) (events.run_queue (level (W.code inside.now) (W.depth inside.now)) at (state_seen s.old (O.taken out.old))) }
+    ensures did { Does (λ _. tt) result (state_seen s.new (O.told out.new)) (events.run_queue (level (W.code inside.now) (W.depth inside.now)) at (state_seen s.old (O.told out.old))) }
 {
     if s.search.is_running() {
         return Ok(());
@@ -41,14 +41,14 @@ pub fn run_queue<O: Out, W: Within<O>>(
 }
 
 /// Runs the queue.
-fn run_all<O: Out, W: Within<O>>(
+fn run_all<O: Outside, W: Within<O>>(
     s: &mut State,
     out: &mut O,
     inside: &W,
     at: Place,
 ) -> Result<(), Stop>
     requires ready { W.is_ready inside.now }
-    ensures did { Does (λ _. tt) result (state_seen s.new (O.taken out.new)) (events.run_all (level (W.code inside.now) (W.depth inside.now)) at (state_seen s.old (O.taken out.old))) }
+    ensures did { Does (λ _. tt) result (state_seen s.new (O.told out.new)) (events.run_all (level (W.code inside.now) (W.depth inside.now)) at (state_seen s.old (O.told out.old))) }
 {
     s.search.set_running(true);
     run_events(s, out, inside, at)?;
@@ -57,14 +57,14 @@ fn run_all<O: Out, W: Within<O>>(
 }
 
 /// Runs the events in order, to the last one. Each spends fuel, so they end.
-fn run_events<O: Out, W: Within<O>>(
+fn run_events<O: Outside, W: Within<O>>(
     s: &mut State,
     out: &mut O,
     inside: &W,
     at: Place,
 ) -> Result<(), Stop>
     requires ready { W.is_ready inside.now }
-    ensures did { Does (λ _. levels.Next) result (state_seen s.new (O.taken out.new)) (repeated at (events.next_event (level (W.code inside.now) (W.depth inside.now))) (state_seen s.old (O.taken out.old))) }
+    ensures did { Does (λ _. levels.Next) result (state_seen s.new (O.told out.new)) (repeated at (events.next_event (level (W.code inside.now) (W.depth inside.now))) (state_seen s.old (O.told out.old))) }
 {
     'events: loop {
         match s.search.next_event() {
@@ -75,14 +75,14 @@ fn run_events<O: Out, W: Within<O>>(
 }
 
 /// What an event names runs.
-fn react<O: Out, W: Within<O>>(
+fn react<O: Outside, W: Within<O>>(
     s: &mut State,
     out: &mut O,
     inside: &W,
     event: Event,
 ) -> Result<(), Stop>
     requires ready { W.is_ready inside.now }
-    ensures did { Does (λ _. tt) result (state_seen s.new (O.taken out.new)) (events.react (level (W.code inside.now) (W.depth inside.now)) (event_seen event) (slice_index_or (search_seen s.old.search).reactions event.closure no_reaction) (state_seen s.old (O.taken out.old))) }
+    ensures did { Does (λ _. tt) result (state_seen s.new (O.told out.new)) (events.react (level (W.code inside.now) (W.depth inside.now)) (event_seen event) (slice_index_or (search_seen s.old.search).reactions event.closure no_reaction) (state_seen s.old (O.told out.old))) }
 {
     let reaction = s.search.reaction(s.alloc, event.closure)?;
     let binding = binding_of(reaction.names, event);
@@ -104,7 +104,7 @@ fn binding_of(names: Option<EventSlots>, event: Event) -> Option<Binding>
 }
 
 /// Handlers run behind what was assigned, where that was a variable.
-pub fn behind_commit<O: Out, W: Within<O>>(
+pub fn behind_commit<O: Outside, W: Within<O>>(
     s: &mut State,
     out: &mut O,
     inside: &W,
@@ -113,7 +113,7 @@ pub fn behind_commit<O: Out, W: Within<O>>(
     done: Result<(), Stop>,
 ) -> Result<(), Stop>
     requires ready { W.is_ready inside.now }
-    ensures did { Follows (λ _. tt) (λ _. tt) done result (state_seen s.old (O.taken out.old)) (state_seen s.new (O.taken out.new)) (λ (u : Unit {0}). events.behind_commit (level (W.code inside.now) (W.depth inside.now)) at (target_seen target.now)) }
+    ensures did { Follows (λ _. tt) (λ _. tt) done result (state_seen s.old (O.told out.old)) (state_seen s.new (O.told out.new)) (λ (u : Unit {0}). events.behind_commit (level (W.code inside.now) (W.depth inside.now)) at (target_seen target.now)) }
 {
     match done {
         Err(stop) => Err(stop),
@@ -122,7 +122,7 @@ pub fn behind_commit<O: Out, W: Within<O>>(
 }
 
 /// The same, where it was done.
-fn run_behind<O: Out, W: Within<O>>(
+fn run_behind<O: Outside, W: Within<O>>(
     s: &mut State,
     out: &mut O,
     inside: &W,
@@ -130,7 +130,7 @@ fn run_behind<O: Out, W: Within<O>>(
     target: &Target,
 ) -> Result<(), Stop>
     requires ready { W.is_ready inside.now }
-    ensures did { Does (λ _. tt) result (state_seen s.new (O.taken out.new)) (events.behind_commit (level (W.code inside.now) (W.depth inside.now)) at (target_seen target.now) (state_seen s.old (O.taken out.old))) }
+    ensures did { Does (λ _. tt) result (state_seen s.new (O.told out.new)) (events.behind_commit (level (W.code inside.now) (W.depth inside.now)) at (target_seen target.now) (state_seen s.old (O.told out.old))) }
 {
     match target {
         Target::Moved(_) => run_queue(s, out, inside, at),
@@ -139,7 +139,7 @@ fn run_behind<O: Out, W: Within<O>>(
 }
 
 /// Handlers run behind the end of the outermost `with` on a solver.
-pub fn behind_block<O: Out, W: Within<O>>(
+pub fn behind_block<O: Outside, W: Within<O>>(
     s: &mut State,
     out: &mut O,
     inside: &W,
@@ -147,7 +147,7 @@ pub fn behind_block<O: Out, W: Within<O>>(
     flow: Result<Flow, Stop>,
 ) -> Result<Flow, Stop>
     requires ready { W.is_ready inside.now }
-    ensures did { Follows flow_seen flow_seen flow result (state_seen s.old (O.taken out.old)) (state_seen s.new (O.taken out.new)) (λ flow t. then_do (events.run_queue (level (W.code inside.now) (W.depth inside.now)) at t) (λ _. give flow)) }
+    ensures did { Follows flow_seen flow_seen flow result (state_seen s.old (O.told out.old)) (state_seen s.new (O.told out.new)) (λ flow t. then_do (events.run_queue (level (W.code inside.now) (W.depth inside.now)) at t) (λ _. give flow)) }
 {
     match flow {
         Err(stop) => Err(stop),
@@ -156,7 +156,7 @@ pub fn behind_block<O: Out, W: Within<O>>(
 }
 
 /// The queue, and then how the block ended.
-fn run_before_flow<O: Out, W: Within<O>>(
+fn run_before_flow<O: Outside, W: Within<O>>(
     s: &mut State,
     out: &mut O,
     inside: &W,
@@ -164,7 +164,7 @@ fn run_before_flow<O: Out, W: Within<O>>(
     flow: Flow,
 ) -> Result<Flow, Stop>
     requires ready { W.is_ready inside.now }
-    ensures did { Does flow_seen result (state_seen s.new (O.taken out.new)) (then_do (events.run_queue (level (W.code inside.now) (W.depth inside.now)) at (state_seen s.old (O.taken out.old))) (λ _. give (flow_seen flow))) }
+    ensures did { Does flow_seen result (state_seen s.new (O.told out.new)) (then_do (events.run_queue (level (W.code inside.now) (W.depth inside.now)) at (state_seen s.old (O.told out.old))) (λ _. give (flow_seen flow))) }
 {
     match run_queue(s, out, inside, at) {
         Err(stop) => Err(stop),
@@ -173,7 +173,7 @@ fn run_before_flow<O: Out, W: Within<O>>(
 }
 
 /// Handlers run behind a `restore`.
-pub fn behind_restore<O: Out, W: Within<O>>(
+pub fn behind_restore<O: Outside, W: Within<O>>(
     s: &mut State,
     out: &mut O,
     inside: &W,
@@ -181,7 +181,7 @@ pub fn behind_restore<O: Out, W: Within<O>>(
     value: Result<Value, Stop>,
 ) -> Result<Value, Stop>
     requires ready { W.is_ready inside.now }
-    ensures did { Follows value_seen value_seen value result (state_seen s.old (O.taken out.old)) (state_seen s.new (O.taken out.new)) (λ value t. then_do (events.run_queue (level (W.code inside.now) (W.depth inside.now)) at t) (λ _. give value)) }
+    ensures did { Follows value_seen value_seen value result (state_seen s.old (O.told out.old)) (state_seen s.new (O.told out.new)) (λ value t. then_do (events.run_queue (level (W.code inside.now) (W.depth inside.now)) at t) (λ _. give value)) }
 {
     match value {
         Err(stop) => Err(stop),
@@ -190,7 +190,7 @@ pub fn behind_restore<O: Out, W: Within<O>>(
 }
 
 /// The queue, and then what the method gives.
-fn run_before_value<O: Out, W: Within<O>>(
+fn run_before_value<O: Outside, W: Within<O>>(
     s: &mut State,
     out: &mut O,
     inside: &W,
@@ -198,7 +198,7 @@ fn run_before_value<O: Out, W: Within<O>>(
     value: Value,
 ) -> Result<Value, Stop>
     requires ready { W.is_ready inside.now }
-    ensures did { Does value_seen result (state_seen s.new (O.taken out.new)) (then_do (events.run_queue (level (W.code inside.now) (W.depth inside.now)) at (state_seen s.old (O.taken out.old))) (λ _. give (value_seen value))) }
+    ensures did { Does value_seen result (state_seen s.new (O.told out.new)) (then_do (events.run_queue (level (W.code inside.now) (W.depth inside.now)) at (state_seen s.old (O.told out.old))) (λ _. give (value_seen value))) }
 {
     match run_queue(s, out, inside, at) {
         Err(stop) => Err(stop),

@@ -1,2 +1,3 @@
 pub mod MethodLaws
 pub mod PostLaws
+pub mod UserPostLaws

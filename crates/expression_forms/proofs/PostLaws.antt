@@ -1,5 +1,5 @@
 -- What is posted: the first argument, and behind it a weight where there is one.
-use Rattle.std.proofs.Common.{◌≡◌, ◌∙◌, ◌-◌, refl, sym, ap, pos, true, false, List, [], ◌∷◌, length, take, drop, get_or, Bool, if◌then◌else◌, arith}
+use Rattle.std.proofs.Common.{◌≡◌, ◌∙◌, ◌-◌, refl, sym, ap, ℕ, pos, true, false, Some, None, List, [], ◌∷◌, length, take, drop, get_or, Bool, if◌then◌else◌, arith}
 use Rattle.std.proofs.lemmas.List.{take_rest}
 use Rattle.cbl_base.specs.declared.place.Place.{Place}
 use Rattle.checked_tree.specs.declared.expressions.Typed.{Typed}
@@ -9,7 +9,7 @@ use Rattle.comet_meaning.specs.State.{State}
 use Rattle.comet_meaning.specs.Outcome.{Went, give, ◌>>=◌}
 use Rattle.comet_meaning.specs.Levels.{Level}
 use Rattle.comet_meaning.specs.Parts.{number, truth, term, constraint, broken}
-use Rattle.comet_meaning.specs.Posting.{weight_form, post_constraint, post_part}
+use Rattle.comet_meaning.specs.Posting.{weight_form, user_name, post_one, post_named, post_either, post_constraint, post_part}
 use Rattle.run_steps.specs.Views.{part, row}
 
 -- a part of a constraint, by whether it holds incremental variables
@@ -38,6 +38,16 @@ pub no_part : (l : Level) (at : Place) (o : Shape) (es : List Typed) (s : State)
 unfolding post_part
 no_part l at o [] s h = refl
 no_part l at o (x ∷ xs) s h = absurd (omega (arith, h))
+
+-- what is posted, by its name
+
+pub nameless_post : (l : Level) (at : Place) (o c : Shape) (ws : List Shape) (s : State) → user_name c ≡ None → post_constraint l at o (c ∷ ws) s ≡ post_one l at o c ws s
+unfolding post_constraint
+nameless_post l at o c ws s e = ap (λ n. post_either l at o c ws n s) e
+
+pub named_post : (l : Level) (at : Place) (o c : Shape) (ws : List Shape) (name : List ℕ) (s : State) → user_name c ≡ Some name → post_constraint l at o (c ∷ ws) s ≡ post_named l at o c ws name s
+unfolding post_constraint
+named_post l at o c ws name s e = ap (λ n. post_either l at o c ws n s) e
 
 -- the weight
 

@@ -15,14 +15,14 @@ use crate::tuples::next_tuple;
 use cbl_base::Place;
 use checked_tree::{Generator, Typed};
 use comet_syntax::tree::Aggregate;
-use run_state::{Out, State};
+use run_state::{Outside, State};
 use run_steps::inside::Within;
 use run_steps::tuples::{Tuples, pending_of};
 use run_values::aggregates::{Element, aggregate_value, push_element};
 use run_values::{Stop, Value};
 
 /// The value of an aggregate. The names of its generators end with it.
-pub fn evaluate_aggregate<O: Out, W: Within<O>>(
+pub fn evaluate_aggregate<O: Outside, W: Within<O>>(
     s: &mut State,
     out: &mut O,
     inside: &W,
@@ -33,7 +33,7 @@ pub fn evaluate_aggregate<O: Out, W: Within<O>>(
     body: &Typed,
 ) -> Result<Value, Stop>
     requires ready { W.is_ready inside.now }
-    ensures did { Does value_seen result (state_seen s.new (O.taken out.new)) (aggregates.aggregate_form (level (W.code inside.now) (W.depth inside.now)) at aggregate (generators_seen generators.now) (part_or_none condition.now) (part body.now) (state_seen s.old (O.taken out.old))) }
+    ensures did { Does value_seen result (state_seen s.new (O.told out.new)) (aggregates.aggregate_form (level (W.code inside.now) (W.depth inside.now)) at aggregate (generators_seen generators.now) (part_or_none condition.now) (part body.now) (state_seen s.old (O.told out.old))) }
 {
     let frame = s.copied_frame()?;
     let elements = elements_of(s, out, inside, at, aggregate, generators, condition, body)?;
@@ -42,7 +42,7 @@ pub fn evaluate_aggregate<O: Out, W: Within<O>>(
 }
 
 /// The elements of the tuples that pass the condition, in order.
-fn elements_of<O: Out, W: Within<O>>(
+fn elements_of<O: Outside, W: Within<O>>(
     s: &mut State,
     out: &mut O,
     inside: &W,
@@ -53,7 +53,7 @@ fn elements_of<O: Out, W: Within<O>>(
     body: &Typed,
 ) -> Result<Vec<Element>, Stop>
     requires ready { W.is_ready inside.now }
-    ensures did { Does (λ elements. map element_seen elements.items) result (state_seen s.new (O.taken out.new)) (each_tuple (level (W.code inside.now) (W.depth inside.now)) at always (aggregates.element_form (level (W.code inside.now) (W.depth inside.now)) at aggregate (part_or_none condition.now) (part body.now)) [] (generators_seen generators.now) [] (state_seen s.old (O.taken out.old))) }
+    ensures did { Does (λ elements. map element_seen elements.items) result (state_seen s.new (O.told out.new)) (each_tuple (level (W.code inside.now) (W.depth inside.now)) at always (aggregates.element_form (level (W.code inside.now) (W.depth inside.now)) at aggregate (part_or_none condition.now) (part body.now)) [] (generators_seen generators.now) [] (state_seen s.old (O.told out.old))) }
 {
     let mut elements = Vec::new(s.alloc);
     if generators.len() == 0 {
@@ -83,7 +83,7 @@ fn elements_of<O: Out, W: Within<O>>(
 
 /// Adds the element of a tuple, if it passes the condition.
 #[tactic(auto, unfolding(comet_meaning::specs::Aggregates::element_form))]
-fn add_element<O: Out, W: Within<O>>(
+fn add_element<O: Outside, W: Within<O>>(
     s: &mut State,
     out: &mut O,
     inside: &W,
@@ -95,7 +95,7 @@ fn add_element<O: Out, W: Within<O>>(
     elements: &mut Vec<Element>,
 ) -> Result<(), Stop>
     requires ready { W.is_ready inside.now }
-    ensures did { Does (λ _. map element_seen elements.new.items) result (state_seen s.new (O.taken out.new)) (aggregates.element_form (level (W.code inside.now) (W.depth inside.now)) at aggregate (part_or_none condition.now) (part body.now) key (map element_seen elements.old.items) (state_seen s.old (O.taken out.old))) }
+    ensures did { Does (λ _. map element_seen elements.new.items) result (state_seen s.new (O.told out.new)) (aggregates.element_form (level (W.code inside.now) (W.depth inside.now)) at aggregate (part_or_none condition.now) (part body.now) key (map element_seen elements.old.items) (state_seen s.old (O.told out.old))) }
 {
     if !passes(s, out, inside, condition)? {
         return Ok(());
@@ -106,14 +106,14 @@ fn add_element<O: Out, W: Within<O>>(
 
 /// Whether a condition holds, as it does where it is left out.
 #[tactic(auto, unfolding(comet_meaning::specs::Parts::condition))]
-fn passes<O: Out, W: Within<O>>(
+fn passes<O: Outside, W: Within<O>>(
     s: &mut State,
     out: &mut O,
     inside: &W,
     condition: &Option<Box<Typed>>,
 ) -> Result<bool, Stop>
     requires ready { W.is_ready inside.now }
-    ensures did { Does (λ b. b) result (state_seen s.new (O.taken out.new)) (parts.condition (level (W.code inside.now) (W.depth inside.now)) (part_or_none condition.now) (state_seen s.old (O.taken out.old))) }
+    ensures did { Does (λ b. b) result (state_seen s.new (O.told out.new)) (parts.condition (level (W.code inside.now) (W.depth inside.now)) (part_or_none condition.now) (state_seen s.old (O.told out.old))) }
 {
     match condition {
         None => Ok(true),

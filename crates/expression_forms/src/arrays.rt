@@ -14,7 +14,7 @@ ghost use Rattle.run_values.specs.Views.{value_seen};
 use crate::expressions::{number_of, value_of, values_of};
 use cbl_base::Place;
 use checked_tree::{Builtin, Typed};
-use run_state::{Out, State};
+use run_state::{Outside, State};
 use run_steps::inside::Within;
 use run_steps::operands::{call_builtin, count_in_array, index_array, index_grid};
 use run_values::operators::{row_of_values, set_of_values};
@@ -22,14 +22,14 @@ use run_values::{Stop, Value};
 
 /// A list: its numbers in a row.
 #[tactic(auto, unfolding(comet_meaning::specs::Arrays::list_form))]
-pub fn evaluate_list<O: Out, W: Within<O>>(
+pub fn evaluate_list<O: Outside, W: Within<O>>(
     s: &mut State,
     out: &mut O,
     inside: &W,
     cells: &[Typed],
 ) -> Result<Value, Stop>
     requires ready { W.is_ready inside.now }
-    ensures did { Does value_seen result (state_seen s.new (O.taken out.new)) (arrays.list_form (level (W.code inside.now) (W.depth inside.now)) (row cells.now) (state_seen s.old (O.taken out.old))) }
+    ensures did { Does value_seen result (state_seen s.new (O.told out.new)) (arrays.list_form (level (W.code inside.now) (W.depth inside.now)) (row cells.now) (state_seen s.old (O.told out.old))) }
 {
     let values = values_of(s, out, inside, cells)?;
     row_of_values(s.alloc, &values)
@@ -37,14 +37,14 @@ pub fn evaluate_list<O: Out, W: Within<O>>(
 
 /// `{..}`: the set of the numbers.
 #[tactic(auto, unfolding(comet_meaning::specs::Expressions::set_form))]
-pub fn evaluate_set<O: Out, W: Within<O>>(
+pub fn evaluate_set<O: Outside, W: Within<O>>(
     s: &mut State,
     out: &mut O,
     inside: &W,
     members: &[Typed],
 ) -> Result<Value, Stop>
     requires ready { W.is_ready inside.now }
-    ensures did { Does value_seen result (state_seen s.new (O.taken out.new)) (expressions.set_form (level (W.code inside.now) (W.depth inside.now)) (row members.now) (state_seen s.old (O.taken out.old))) }
+    ensures did { Does value_seen result (state_seen s.new (O.told out.new)) (expressions.set_form (level (W.code inside.now) (W.depth inside.now)) (row members.now) (state_seen s.old (O.told out.old))) }
 {
     let values = values_of(s, out, inside, members)?;
     set_of_values(s.alloc, &values)
@@ -52,7 +52,7 @@ pub fn evaluate_set<O: Out, W: Within<O>>(
 
 /// `a[i]`: the cell, and `OutOfRange` outside the array.
 #[tactic(auto, unfolding(comet_meaning::specs::Arrays::index_form))]
-pub fn evaluate_index<O: Out, W: Within<O>>(
+pub fn evaluate_index<O: Outside, W: Within<O>>(
     s: &mut State,
     out: &mut O,
     inside: &W,
@@ -61,7 +61,7 @@ pub fn evaluate_index<O: Out, W: Within<O>>(
     index: &Typed,
 ) -> Result<Value, Stop>
     requires ready { W.is_ready inside.now }
-    ensures did { Does value_seen result (state_seen s.new (O.taken out.new)) (arrays.index_form (level (W.code inside.now) (W.depth inside.now)) at (part array.now) (part index.now) (state_seen s.old (O.taken out.old))) }
+    ensures did { Does value_seen result (state_seen s.new (O.told out.new)) (arrays.index_form (level (W.code inside.now) (W.depth inside.now)) at (part array.now) (part index.now) (state_seen s.old (O.told out.old))) }
 {
     let array = value_of(s, out, inside, array)?;
     let index = number_of(s, out, inside, index);
@@ -70,7 +70,7 @@ pub fn evaluate_index<O: Out, W: Within<O>>(
 
 /// `a[i,j]`: the cell, and `OutOfRange` outside the array.
 #[tactic(auto, unfolding(comet_meaning::specs::Arrays::cell_form))]
-pub fn evaluate_cell<O: Out, W: Within<O>>(
+pub fn evaluate_cell<O: Outside, W: Within<O>>(
     s: &mut State,
     out: &mut O,
     inside: &W,
@@ -80,7 +80,7 @@ pub fn evaluate_cell<O: Out, W: Within<O>>(
     column: &Typed,
 ) -> Result<Value, Stop>
     requires ready { W.is_ready inside.now }
-    ensures did { Does value_seen result (state_seen s.new (O.taken out.new)) (arrays.cell_form (level (W.code inside.now) (W.depth inside.now)) at (part grid.now) (part row.now) (part column.now) (state_seen s.old (O.taken out.old))) }
+    ensures did { Does value_seen result (state_seen s.new (O.told out.new)) (arrays.cell_form (level (W.code inside.now) (W.depth inside.now)) at (part grid.now) (part row.now) (part column.now) (state_seen s.old (O.told out.old))) }
 {
     let grid = value_of(s, out, inside, grid)?;
     let row = number_of(s, out, inside, row)?;
@@ -90,7 +90,7 @@ pub fn evaluate_cell<O: Out, W: Within<O>>(
 
 /// `count(a, e)`: how often a number stands in an array.
 #[tactic(auto, unfolding(comet_meaning::specs::Arrays::count_form))]
-fn evaluate_count<O: Out, W: Within<O>>(
+fn evaluate_count<O: Outside, W: Within<O>>(
     s: &mut State,
     out: &mut O,
     inside: &W,
@@ -99,16 +99,16 @@ fn evaluate_count<O: Out, W: Within<O>>(
     number: &Typed,
 ) -> Result<Value, Stop>
     requires ready { W.is_ready inside.now }
-    ensures did { Does value_seen result (state_seen s.new (O.taken out.new)) (arrays.count_form (level (W.code inside.now) (W.depth inside.now)) at (part array.now) (part number.now) (state_seen s.old (O.taken out.old))) }
+    ensures did { Does value_seen result (state_seen s.new (O.told out.new)) (arrays.count_form (level (W.code inside.now) (W.depth inside.now)) at (part array.now) (part number.now) (state_seen s.old (O.told out.old))) }
 {
     let place = array.place;
     let array = value_of(s, out, inside, array)?;
     let number = number_of(s, out, inside, number);
-    count_in_array(s, at, place, &array, number)
+    count_in_array(s, out, at, place, &array, number)
 }
 
 /// A call of a function of the language.
-pub fn evaluate_builtin<O: Out, W: Within<O>>(
+pub fn evaluate_builtin<O: Outside, W: Within<O>>(
     s: &mut State,
     out: &mut O,
     inside: &W,
@@ -117,7 +117,7 @@ pub fn evaluate_builtin<O: Out, W: Within<O>>(
     arguments: &[Typed],
 ) -> Result<Value, Stop>
     requires ready { W.is_ready inside.now }
-    ensures did { Does value_seen result (state_seen s.new (O.taken out.new)) (builtins.builtin_form (level (W.code inside.now) (W.depth inside.now)) at function (row arguments.now) (state_seen s.old (O.taken out.old))) }
+    ensures did { Does value_seen result (state_seen s.new (O.told out.new)) (builtins.builtin_form (level (W.code inside.now) (W.depth inside.now)) at function (row arguments.now) (state_seen s.old (O.told out.old))) }
 {
     match function {
         Builtin::Count => evaluate_count_call(s, out, inside, at, arguments),
@@ -126,7 +126,7 @@ pub fn evaluate_builtin<O: Out, W: Within<O>>(
 }
 
 /// A call of `count`, with any number of arguments.
-fn evaluate_count_call<O: Out, W: Within<O>>(
+fn evaluate_count_call<O: Outside, W: Within<O>>(
     s: &mut State,
     out: &mut O,
     inside: &W,
@@ -134,7 +134,7 @@ fn evaluate_count_call<O: Out, W: Within<O>>(
     arguments: &[Typed],
 ) -> Result<Value, Stop>
     requires ready { W.is_ready inside.now }
-    ensures did { Does value_seen result (state_seen s.new (O.taken out.new)) (builtins.builtin_form (level (W.code inside.now) (W.depth inside.now)) at Count (row arguments.now) (state_seen s.old (O.taken out.old))) }
+    ensures did { Does value_seen result (state_seen s.new (O.told out.new)) (builtins.builtin_form (level (W.code inside.now) (W.depth inside.now)) at Count (row arguments.now) (state_seen s.old (O.told out.old))) }
 {
     if arguments.len() != 2 {
         return evaluate_plain(s, out, inside, at, Builtin::Count, arguments);
@@ -143,7 +143,7 @@ fn evaluate_count_call<O: Out, W: Within<O>>(
 }
 
 /// A function of the language whose arguments are all evaluated: a unit for the call, and then its value.
-fn evaluate_plain<O: Out, W: Within<O>>(
+fn evaluate_plain<O: Outside, W: Within<O>>(
     s: &mut State,
     out: &mut O,
     inside: &W,
@@ -152,7 +152,7 @@ fn evaluate_plain<O: Out, W: Within<O>>(
     arguments: &[Typed],
 ) -> Result<Value, Stop>
     requires ready { W.is_ready inside.now }
-    ensures did { Does value_seen result (state_seen s.new (O.taken out.new)) (plain_builtin (level (W.code inside.now) (W.depth inside.now)) at function (row arguments.now) (state_seen s.old (O.taken out.old))) }
+    ensures did { Does value_seen result (state_seen s.new (O.told out.new)) (plain_builtin (level (W.code inside.now) (W.depth inside.now)) at function (row arguments.now) (state_seen s.old (O.told out.old))) }
 {
     let values = values_of(s, out, inside, arguments);
     call_builtin(s, at, function, values)

@@ -11,7 +11,7 @@ ghost use Rattle.run_values.specs.Views.{value_seen};
 use crate::expressions::value_as;
 use cbl_base::Place;
 use checked_tree::{Function, Kind, Typed};
-use run_state::{Out, State};
+use run_state::{Outside, State};
 use run_steps::code::{Code, function_at, given, is_handed_itself, is_pure, parameter_at};
 use run_steps::inside::Within;
 use run_values::{Stop, Value};
@@ -19,7 +19,7 @@ use std::mem;
 
 /// A call of a function.
 #[tactic(auto, unfolding(comet_meaning::specs::Calls::call_form))]
-pub fn evaluate_call<O: Out, W: Within<O>>(
+pub fn evaluate_call<O: Outside, W: Within<O>>(
     s: &mut State,
     out: &mut O,
     inside: &W,
@@ -30,7 +30,7 @@ pub fn evaluate_call<O: Out, W: Within<O>>(
 ) -> Result<Value, Stop>
     requires ready { W.is_ready inside.now }
     requires same_code { W.code inside.now ≡ code_seen code.now }
-    ensures did { Does value_seen result (state_seen s.new (O.taken out.new)) (calls.call_form (W.code inside.now) (level (W.code inside.now) (W.depth inside.now)) at function (row arguments.now) (state_seen s.old (O.taken out.old))) }
+    ensures did { Does value_seen result (state_seen s.new (O.told out.new)) (calls.call_form (W.code inside.now) (level (W.code inside.now) (W.depth inside.now)) at function (row arguments.now) (state_seen s.old (O.told out.old))) }
 {
     match function_at(code, function) {
         Some(callee) => {
@@ -42,7 +42,7 @@ pub fn evaluate_call<O: Out, W: Within<O>>(
 }
 
 /// The arguments from the left, a unit for the call, and then the body.
-fn call<O: Out, W: Within<O>>(
+fn call<O: Outside, W: Within<O>>(
     s: &mut State,
     out: &mut O,
     inside: &W,
@@ -52,7 +52,7 @@ fn call<O: Out, W: Within<O>>(
     arguments: &[Typed],
 ) -> Result<Value, Stop>
     requires ready { W.is_ready inside.now }
-    ensures did { Does value_seen result (state_seen s.new (O.taken out.new)) (calls.called (level (W.code inside.now) (W.depth inside.now)) at (row arguments.now) «pure» (Some (function_of callee.now)) (state_seen s.old (O.taken out.old))) }
+    ensures did { Does value_seen result (state_seen s.new (O.told out.new)) (calls.called (level (W.code inside.now) (W.depth inside.now)) at (row arguments.now) «pure» (Some (function_of callee.now)) (state_seen s.old (O.told out.old))) }
 {
     let values = arguments_of(s, out, inside, &callee.parameters, arguments)?;
     s.charge(1, at)?;
@@ -61,7 +61,7 @@ fn call<O: Out, W: Within<O>>(
 }
 
 /// The arguments, each as its parameter holds it; those without a parameter are left out.
-fn arguments_of<O: Out, W: Within<O>>(
+fn arguments_of<O: Outside, W: Within<O>>(
     s: &mut State,
     out: &mut O,
     inside: &W,
@@ -69,7 +69,7 @@ fn arguments_of<O: Out, W: Within<O>>(
     arguments: &[Typed],
 ) -> Result<Vec<Value>, Stop>
     requires ready { W.is_ready inside.now }
-    ensures did { Does (λ values. map value_seen values.items) result (state_seen s.new (O.taken out.new)) (calls.arguments_form (level (W.code inside.now) (W.depth inside.now)) parameters.now (row arguments.now) [] (state_seen s.old (O.taken out.old))) }
+    ensures did { Does (λ values. map value_seen values.items) result (state_seen s.new (O.told out.new)) (calls.arguments_form (level (W.code inside.now) (W.depth inside.now)) parameters.now (row arguments.now) [] (state_seen s.old (O.told out.old))) }
 {
     let mut values = Vec::new(s.alloc);
     for argument in arguments {
@@ -83,7 +83,7 @@ fn arguments_of<O: Out, W: Within<O>>(
 }
 
 /// An argument for a parameter of this kind: a variable itself, and else a value.
-fn argument_of<O: Out, W: Within<O>>(
+fn argument_of<O: Outside, W: Within<O>>(
     s: &mut State,
     out: &mut O,
     inside: &W,
@@ -91,7 +91,7 @@ fn argument_of<O: Out, W: Within<O>>(
     e: &Typed,
 ) -> Result<Value, Stop>
     requires ready { W.is_ready inside.now }
-    ensures did { Does value_seen result (state_seen s.new (O.taken out.new)) (calls.argument_form (level (W.code inside.now) (W.depth inside.now)) kind (part e.now) (state_seen s.old (O.taken out.old))) }
+    ensures did { Does value_seen result (state_seen s.new (O.told out.new)) (calls.argument_form (level (W.code inside.now) (W.depth inside.now)) kind (part e.now) (state_seen s.old (O.told out.old))) }
 {
     if is_handed_itself(kind) {
         inside.evaluate(s, out, e)
@@ -102,7 +102,7 @@ fn argument_of<O: Out, W: Within<O>>(
 
 /// The body of a function, in a frame of its own, whose first cells are the arguments.
 #[tactic(auto, unfolding(comet_meaning::specs::Calls::body_form, comet_meaning::specs::Cells::in_scope, comet_meaning::specs::Cells::in_frame))]
-fn execute_body<O: Out, W: Within<O>>(
+fn execute_body<O: Outside, W: Within<O>>(
     s: &mut State,
     out: &mut O,
     inside: &W,
@@ -110,7 +110,7 @@ fn execute_body<O: Out, W: Within<O>>(
     arguments: Vec<Value>,
 ) -> Result<Value, Stop>
     requires ready { W.is_ready inside.now }
-    ensures did { Does value_seen result (state_seen s.new (O.taken out.new)) (calls.body_form (level (W.code inside.now) (W.depth inside.now)) (function_of callee.now) (map value_seen arguments.items) (state_seen s.old (O.taken out.old))) }
+    ensures did { Does value_seen result (state_seen s.new (O.told out.new)) (calls.body_form (level (W.code inside.now) (W.depth inside.now)) (function_of callee.now) (map value_seen arguments.items) (state_seen s.old (O.told out.old))) }
 {
     let frame = mem::replace(&mut s.frame, arguments);
     let flow = inside.execute(s, out, &callee.body)?;

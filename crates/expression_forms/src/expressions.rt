@@ -19,7 +19,7 @@ use crate::operators::{
 };
 use cbl_base::Place;
 use checked_tree::{Form, Kind, Typed};
-use run_state::{Out, State};
+use run_state::{Outside, State};
 use run_steps::code::Code;
 use run_steps::inside::{Defining, Within};
 use run_steps::operands::{as_bounds, as_held, as_number, as_truth, read_part};
@@ -28,7 +28,7 @@ use run_values::{Bounds, Stop, Value};
 
 /// The value of a form of an expression of this kind at this place.
 #[tactic(auto, unfolding(checked_tree::specs::Shape::shape_of, comet_meaning::specs::Expressions::value_of_form))]
-pub fn evaluate_form<O: Out, W: Defining<O>>(
+pub fn evaluate_form<O: Outside, W: Defining<O>>(
     s: &mut State,
     out: &mut O,
     inside: &W,
@@ -40,7 +40,7 @@ pub fn evaluate_form<O: Out, W: Defining<O>>(
     requires ready { W.is_ready inside.now }
     requires defines { W.can_define inside.now }
     requires same_code { W.code inside.now ≡ code_seen code.now }
-    ensures did { Does value_seen result (state_seen s.new (O.taken out.new)) (value_of_form (W.code inside.now) (level (W.code inside.now) (W.depth inside.now)) at kind (shape_of form.now) (state_seen s.old (O.taken out.old))) }
+    ensures did { Does value_seen result (state_seen s.new (O.told out.new)) (value_of_form (W.code inside.now) (level (W.code inside.now) (W.depth inside.now)) at kind (shape_of form.now) (state_seen s.old (O.told out.old))) }
 {
     match form {
         Form::Number(number) => Ok(Value::Number(*number)),
@@ -90,14 +90,14 @@ pub fn evaluate_form<O: Out, W: Defining<O>>(
 
 /// The value of a part, where a variable is read.
 #[tactic(auto, unfolding(comet_meaning::specs::Parts::value))]
-pub fn value_of<O: Out, W: Within<O>>(
+pub fn value_of<O: Outside, W: Within<O>>(
     s: &mut State,
     out: &mut O,
     inside: &W,
     e: &Typed,
 ) -> Result<Value, Stop>
     requires ready { W.is_ready inside.now }
-    ensures did { Does value_seen result (state_seen s.new (O.taken out.new)) (parts.value (level (W.code inside.now) (W.depth inside.now)) (part e.now) (state_seen s.old (O.taken out.old))) }
+    ensures did { Does value_seen result (state_seen s.new (O.told out.new)) (parts.value (level (W.code inside.now) (W.depth inside.now)) (part e.now) (state_seen s.old (O.told out.old))) }
 {
     match plain_value(s, inside.room(), e) {
         Some(value) => Ok(value),
@@ -106,14 +106,14 @@ pub fn value_of<O: Out, W: Within<O>>(
 }
 
 /// The value of a part that isn't plain, where a variable is read.
-fn called_value_of<O: Out, W: Within<O>>(
+fn called_value_of<O: Outside, W: Within<O>>(
     s: &mut State,
     out: &mut O,
     inside: &W,
     e: &Typed,
 ) -> Result<Value, Stop>
     requires ready { W.is_ready inside.now }
-    ensures did { Does value_seen result (state_seen s.new (O.taken out.new)) (parts.value (level (W.code inside.now) (W.depth inside.now)) (part e.now) (state_seen s.old (O.taken out.old))) }
+    ensures did { Does value_seen result (state_seen s.new (O.told out.new)) (parts.value (level (W.code inside.now) (W.depth inside.now)) (part e.now) (state_seen s.old (O.told out.old))) }
 {
     match inside.called_number(s, e) {
         Some(number) => Ok(Value::Number(number)),
@@ -123,29 +123,29 @@ fn called_value_of<O: Out, W: Within<O>>(
 
 /// The same, whatever the part is.
 #[tactic(auto, unfolding(comet_meaning::specs::Parts::value))]
-fn evaluated_value_of<O: Out, W: Within<O>>(
+fn evaluated_value_of<O: Outside, W: Within<O>>(
     s: &mut State,
     out: &mut O,
     inside: &W,
     e: &Typed,
 ) -> Result<Value, Stop>
     requires ready { W.is_ready inside.now }
-    ensures did { Does value_seen result (state_seen s.new (O.taken out.new)) (parts.value (level (W.code inside.now) (W.depth inside.now)) (part e.now) (state_seen s.old (O.taken out.old))) }
+    ensures did { Does value_seen result (state_seen s.new (O.told out.new)) (parts.value (level (W.code inside.now) (W.depth inside.now)) (part e.now) (state_seen s.old (O.told out.old))) }
 {
     let value = inside.evaluate(s, out, e);
-    read_part(s, e, value)
+    read_part(s, out, e, value)
 }
 
 /// The value of a part that is no plain number, where a variable is read.
 #[tactic(auto, unfolding(comet_meaning::specs::Parts::value))]
-pub fn other_value_of<O: Out, W: Within<O>>(
+pub fn other_value_of<O: Outside, W: Within<O>>(
     s: &mut State,
     out: &mut O,
     inside: &W,
     e: &Typed,
 ) -> Result<Value, Stop>
     requires ready { W.is_ready inside.now }
-    ensures did { Does value_seen result (state_seen s.new (O.taken out.new)) (parts.value (level (W.code inside.now) (W.depth inside.now)) (part e.now) (state_seen s.old (O.taken out.old))) }
+    ensures did { Does value_seen result (state_seen s.new (O.told out.new)) (parts.value (level (W.code inside.now) (W.depth inside.now)) (part e.now) (state_seen s.old (O.told out.old))) }
 {
     match plain_name(s, inside.room(), e) {
         Some(value) => Ok(value),
@@ -155,14 +155,14 @@ pub fn other_value_of<O: Out, W: Within<O>>(
 
 /// The number that a part gives; a truth value stands as 1 or 0.
 #[tactic(auto, unfolding(comet_meaning::specs::Parts::number))]
-pub fn number_of<O: Out, W: Within<O>>(
+pub fn number_of<O: Outside, W: Within<O>>(
     s: &mut State,
     out: &mut O,
     inside: &W,
     e: &Typed,
 ) -> Result<i64, Stop>
     requires ready { W.is_ready inside.now }
-    ensures did { Does (λ z. z) result (state_seen s.new (O.taken out.new)) (parts.number (level (W.code inside.now) (W.depth inside.now)) (part e.now) (state_seen s.old (O.taken out.old))) }
+    ensures did { Does (λ z. z) result (state_seen s.new (O.told out.new)) (parts.number (level (W.code inside.now) (W.depth inside.now)) (part e.now) (state_seen s.old (O.told out.old))) }
 {
     match plain_number(s, inside.room(), e) {
         Some(number) => Ok(number),
@@ -172,14 +172,14 @@ pub fn number_of<O: Out, W: Within<O>>(
 
 /// The truth value that a part gives.
 #[tactic(auto, unfolding(comet_meaning::specs::Parts::truth))]
-pub fn truth_of<O: Out, W: Within<O>>(
+pub fn truth_of<O: Outside, W: Within<O>>(
     s: &mut State,
     out: &mut O,
     inside: &W,
     e: &Typed,
 ) -> Result<bool, Stop>
     requires ready { W.is_ready inside.now }
-    ensures did { Does (λ b. b) result (state_seen s.new (O.taken out.new)) (parts.truth (level (W.code inside.now) (W.depth inside.now)) (part e.now) (state_seen s.old (O.taken out.old))) }
+    ensures did { Does (λ b. b) result (state_seen s.new (O.told out.new)) (parts.truth (level (W.code inside.now) (W.depth inside.now)) (part e.now) (state_seen s.old (O.told out.old))) }
 {
     match plain_truth(s, inside.room(), e) {
         Some(truth) => Ok(truth),
@@ -189,28 +189,28 @@ pub fn truth_of<O: Out, W: Within<O>>(
 
 /// The bounds of the range that a part gives.
 #[tactic(auto, unfolding(comet_meaning::specs::Parts::bounds))]
-pub fn bounds_of<O: Out, W: Within<O>>(
+pub fn bounds_of<O: Outside, W: Within<O>>(
     s: &mut State,
     out: &mut O,
     inside: &W,
     e: &Typed,
 ) -> Result<Bounds, Stop>
     requires ready { W.is_ready inside.now }
-    ensures did { Does bounds_seen result (state_seen s.new (O.taken out.new)) (parts.bounds (level (W.code inside.now) (W.depth inside.now)) (part e.now) (state_seen s.old (O.taken out.old))) }
+    ensures did { Does bounds_seen result (state_seen s.new (O.told out.new)) (parts.bounds (level (W.code inside.now) (W.depth inside.now)) (part e.now) (state_seen s.old (O.told out.old))) }
 {
     as_bounds(value_of(s, out, inside, e))
 }
 
 /// Whether a condition holds, as it does where it is left out.
 #[tactic(auto, unfolding(comet_meaning::specs::Parts::condition))]
-pub fn condition<O: Out, W: Within<O>>(
+pub fn condition<O: Outside, W: Within<O>>(
     s: &mut State,
     out: &mut O,
     inside: &W,
     test: Option<&Typed>,
 ) -> Result<bool, Stop>
     requires ready { W.is_ready inside.now }
-    ensures did { Does (λ b. b) result (state_seen s.new (O.taken out.new)) (parts.condition (level (W.code inside.now) (W.depth inside.now)) (optional (λ e. part e.now) test.entry) (state_seen s.old (O.taken out.old))) }
+    ensures did { Does (λ b. b) result (state_seen s.new (O.told out.new)) (parts.condition (level (W.code inside.now) (W.depth inside.now)) (optional (λ e. part e.now) test.entry) (state_seen s.old (O.told out.old))) }
 {
     match test {
         None => Ok(true),
@@ -219,7 +219,7 @@ pub fn condition<O: Out, W: Within<O>>(
 }
 
 /// The value of a part, as a name of this kind holds it.
-pub fn value_as<O: Out, W: Within<O>>(
+pub fn value_as<O: Outside, W: Within<O>>(
     s: &mut State,
     out: &mut O,
     inside: &W,
@@ -227,20 +227,20 @@ pub fn value_as<O: Out, W: Within<O>>(
     e: &Typed,
 ) -> Result<Value, Stop>
     requires ready { W.is_ready inside.now }
-    ensures did { Does value_seen result (state_seen s.new (O.taken out.new)) (value_as (level (W.code inside.now) (W.depth inside.now)) kind (part e.now) (state_seen s.old (O.taken out.old))) }
+    ensures did { Does value_seen result (state_seen s.new (O.told out.new)) (value_as (level (W.code inside.now) (W.depth inside.now)) kind (part e.now) (state_seen s.old (O.told out.old))) }
 {
     as_held(kind, value_of(s, out, inside, e))
 }
 
 /// The values of parts, from the left.
-pub fn values_of<O: Out, W: Within<O>>(
+pub fn values_of<O: Outside, W: Within<O>>(
     s: &mut State,
     out: &mut O,
     inside: &W,
     es: &[Typed],
 ) -> Result<Vec<Value>, Stop>
     requires ready { W.is_ready inside.now }
-    ensures did { Does (λ values. map value_seen values.items) result (state_seen s.new (O.taken out.new)) (parts.values (level (W.code inside.now) (W.depth inside.now)) (row es.now) [] (state_seen s.old (O.taken out.old))) }
+    ensures did { Does (λ values. map value_seen values.items) result (state_seen s.new (O.told out.new)) (parts.values (level (W.code inside.now) (W.depth inside.now)) (row es.now) [] (state_seen s.old (O.told out.old))) }
 {
     let mut values = Vec::new(s.alloc);
     for e in es {

@@ -14,3 +14,4 @@ pub mod operators;
 pub mod parts;
 mod posting;
 pub mod tuples;
+mod user_posting;

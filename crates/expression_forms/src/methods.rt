@@ -13,14 +13,14 @@ use crate::posting::{post_constraint, post_part};
 use cbl_base::Place;
 use checked_tree::{Method, Typed};
 use event_forms::behind_restore;
-use run_state::{Out, State};
+use run_state::{Outside, State};
 use run_steps::inside::{Defining, Within};
 use run_steps::operands::call_on;
 use run_values::{Stop, Value};
 
 /// A call of a method. A constraint or a term is posted as it is, handlers run behind a `restore`, and of the arguments of
 /// any other method the values are asked.
-pub fn evaluate_method<O: Out, W: Defining<O>>(
+pub fn evaluate_method<O: Outside, W: Defining<O>>(
     s: &mut State,
     out: &mut O,
     inside: &W,
@@ -31,7 +31,7 @@ pub fn evaluate_method<O: Out, W: Defining<O>>(
 ) -> Result<Value, Stop>
     requires ready { W.is_ready inside.now }
     requires defines { W.can_define inside.now }
-    ensures did { Does value_seen result (state_seen s.new (O.taken out.new)) (method_form (level (W.code inside.now) (W.depth inside.now)) at method (part object.now) (row arguments.now) (state_seen s.old (O.taken out.old))) }
+    ensures did { Does value_seen result (state_seen s.new (O.told out.new)) (method_form (level (W.code inside.now) (W.depth inside.now)) at method (part object.now) (row arguments.now) (state_seen s.old (O.told out.old))) }
 {
     match method {
         Method::Post => post_constraint(s, out, inside, at, object, arguments),
@@ -43,7 +43,7 @@ pub fn evaluate_method<O: Out, W: Defining<O>>(
 
 /// A `restore`, and then the handlers of what it changed.
 #[tactic(auto, unfolding(comet_meaning::specs::Methods::restore_form))]
-fn restore<O: Out, W: Within<O>>(
+fn restore<O: Outside, W: Within<O>>(
     s: &mut State,
     out: &mut O,
     inside: &W,
@@ -52,7 +52,7 @@ fn restore<O: Out, W: Within<O>>(
     arguments: &[Typed],
 ) -> Result<Value, Stop>
     requires ready { W.is_ready inside.now }
-    ensures did { Does value_seen result (state_seen s.new (O.taken out.new)) (restore_form (level (W.code inside.now) (W.depth inside.now)) at (part object.now) (row arguments.now) (state_seen s.old (O.taken out.old))) }
+    ensures did { Does value_seen result (state_seen s.new (O.told out.new)) (restore_form (level (W.code inside.now) (W.depth inside.now)) at (part object.now) (row arguments.now) (state_seen s.old (O.told out.old))) }
 {
     let restored = call_method(s, out, inside, at, Method::Restore, object, arguments);
     behind_restore(s, out, inside, at, restored)
@@ -60,7 +60,7 @@ fn restore<O: Out, W: Within<O>>(
 
 /// The object, the arguments, a unit for the call, and then what the method does.
 #[tactic(auto, unfolding(comet_meaning::specs::Methods::called_form))]
-fn call_method<O: Out, W: Within<O>>(
+fn call_method<O: Outside, W: Within<O>>(
     s: &mut State,
     out: &mut O,
     inside: &W,
@@ -70,16 +70,16 @@ fn call_method<O: Out, W: Within<O>>(
     arguments: &[Typed],
 ) -> Result<Value, Stop>
     requires ready { W.is_ready inside.now }
-    ensures did { Does value_seen result (state_seen s.new (O.taken out.new)) (called_form (level (W.code inside.now) (W.depth inside.now)) at method (part object.now) (row arguments.now) (state_seen s.old (O.taken out.old))) }
+    ensures did { Does value_seen result (state_seen s.new (O.told out.new)) (called_form (level (W.code inside.now) (W.depth inside.now)) at method (part object.now) (row arguments.now) (state_seen s.old (O.told out.old))) }
 {
     let value = object_value(s, out, inside, method, object)?;
     let values = asked_values(s, out, inside, variables_asked(method), arguments);
-    call_on(s, at, method, object, &value, values)
+    call_on(s, out, at, method, object, &value, values)
 }
 
 /// The object of a method: a variable whose domain is asked itself, and else a value.
 #[tactic(auto, unfolding(comet_meaning::specs::Methods::object_value))]
-fn object_value<O: Out, W: Within<O>>(
+fn object_value<O: Outside, W: Within<O>>(
     s: &mut State,
     out: &mut O,
     inside: &W,
@@ -87,7 +87,7 @@ fn object_value<O: Out, W: Within<O>>(
     object: &Typed,
 ) -> Result<Value, Stop>
     requires ready { W.is_ready inside.now }
-    ensures did { Does value_seen result (state_seen s.new (O.taken out.new)) (object_value (level (W.code inside.now) (W.depth inside.now)) method (part object.now) (state_seen s.old (O.taken out.old))) }
+    ensures did { Does value_seen result (state_seen s.new (O.told out.new)) (object_value (level (W.code inside.now) (W.depth inside.now)) method (part object.now) (state_seen s.old (O.told out.old))) }
 {
     match method {
         Method::Domain => inside.evaluate(s, out, object),
@@ -110,7 +110,7 @@ fn variables_asked(method: Method) -> usize
 }
 
 /// The arguments from the left, so many of them variables themselves.
-fn asked_values<O: Out, W: Within<O>>(
+fn asked_values<O: Outside, W: Within<O>>(
     s: &mut State,
     out: &mut O,
     inside: &W,
@@ -118,7 +118,7 @@ fn asked_values<O: Out, W: Within<O>>(
     es: &[Typed],
 ) -> Result<Vec<Value>, Stop>
     requires ready { W.is_ready inside.now }
-    ensures did { Does (λ values. map value_seen values.items) result (state_seen s.new (O.taken out.new)) (methods.asked_values (level (W.code inside.now) (W.depth inside.now)) count (row es.now) [] (state_seen s.old (O.taken out.old))) }
+    ensures did { Does (λ values. map value_seen values.items) result (state_seen s.new (O.told out.new)) (methods.asked_values (level (W.code inside.now) (W.depth inside.now)) count (row es.now) [] (state_seen s.old (O.told out.old))) }
 {
     let mut values = Vec::new(s.alloc);
     let mut left = count;
@@ -131,7 +131,7 @@ fn asked_values<O: Out, W: Within<O>>(
 }
 
 /// An argument, where so many from it on are variables themselves: else a value.
-fn asked_value<O: Out, W: Within<O>>(
+fn asked_value<O: Outside, W: Within<O>>(
     s: &mut State,
     out: &mut O,
     inside: &W,
@@ -139,7 +139,7 @@ fn asked_value<O: Out, W: Within<O>>(
     e: &Typed,
 ) -> Result<Value, Stop>
     requires ready { W.is_ready inside.now }
-    ensures did { Does value_seen result (state_seen s.new (O.taken out.new)) (methods.asked_value (level (W.code inside.now) (W.depth inside.now)) (nat_lt 0 left) (part e.now) (state_seen s.old (O.taken out.old))) }
+    ensures did { Does value_seen result (state_seen s.new (O.told out.new)) (methods.asked_value (level (W.code inside.now) (W.depth inside.now)) (nat_lt 0 left) (part e.now) (state_seen s.old (O.told out.old))) }
 {
     if left == 0 {
         value_of(s, out, inside, e)

@@ -12,7 +12,7 @@ use crate::expressions::{number_of, truth_of, value_as, value_of};
 use cbl_base::Place;
 use checked_tree::{Kind, Link, Typed};
 use comet_syntax::tree::{Comparison, UnaryOperator};
-use run_state::{Out, State};
+use run_state::{Outside, State};
 use run_steps::inside::Within;
 use run_steps::operands::{apply_unary, join_operand};
 use run_values::operators::{compare, decides};
@@ -20,7 +20,7 @@ use run_values::{Bounds, Stop, Value};
 
 /// `-e` and `!e`.
 #[tactic(auto, unfolding(comet_meaning::specs::Operators::unary_form))]
-pub fn evaluate_unary<O: Out, W: Within<O>>(
+pub fn evaluate_unary<O: Outside, W: Within<O>>(
     s: &mut State,
     out: &mut O,
     inside: &W,
@@ -29,14 +29,14 @@ pub fn evaluate_unary<O: Out, W: Within<O>>(
     operand: &Typed,
 ) -> Result<Value, Stop>
     requires ready { W.is_ready inside.now }
-    ensures did { Does value_seen result (state_seen s.new (O.taken out.new)) (operators.unary_form (level (W.code inside.now) (W.depth inside.now)) at operator (part operand.now) (state_seen s.old (O.taken out.old))) }
+    ensures did { Does value_seen result (state_seen s.new (O.told out.new)) (operators.unary_form (level (W.code inside.now) (W.depth inside.now)) at operator (part operand.now) (state_seen s.old (O.told out.old))) }
 {
     apply_unary(at, operator, value_of(s, out, inside, operand))
 }
 
 /// `a == b` and its like.
 #[tactic(auto, unfolding(comet_meaning::specs::Operators::compare_form))]
-pub fn evaluate_compare<O: Out, W: Within<O>>(
+pub fn evaluate_compare<O: Outside, W: Within<O>>(
     s: &mut State,
     out: &mut O,
     inside: &W,
@@ -45,7 +45,7 @@ pub fn evaluate_compare<O: Out, W: Within<O>>(
     right: &Typed,
 ) -> Result<Value, Stop>
     requires ready { W.is_ready inside.now }
-    ensures did { Does value_seen result (state_seen s.new (O.taken out.new)) (operators.compare_form (level (W.code inside.now) (W.depth inside.now)) comparison (part left.now) (part right.now) (state_seen s.old (O.taken out.old))) }
+    ensures did { Does value_seen result (state_seen s.new (O.told out.new)) (operators.compare_form (level (W.code inside.now) (W.depth inside.now)) comparison (part left.now) (part right.now) (state_seen s.old (O.told out.old))) }
 {
     let left = number_of(s, out, inside, left)?;
     let right = number_of(s, out, inside, right)?;
@@ -54,7 +54,7 @@ pub fn evaluate_compare<O: Out, W: Within<O>>(
 
 /// `a .. b`
 #[tactic(auto, unfolding(comet_meaning::specs::Operators::range_form))]
-pub fn evaluate_range<O: Out, W: Within<O>>(
+pub fn evaluate_range<O: Outside, W: Within<O>>(
     s: &mut State,
     out: &mut O,
     inside: &W,
@@ -62,7 +62,7 @@ pub fn evaluate_range<O: Out, W: Within<O>>(
     high: &Typed,
 ) -> Result<Value, Stop>
     requires ready { W.is_ready inside.now }
-    ensures did { Does value_seen result (state_seen s.new (O.taken out.new)) (operators.range_form (level (W.code inside.now) (W.depth inside.now)) (part low.now) (part high.now) (state_seen s.old (O.taken out.old))) }
+    ensures did { Does value_seen result (state_seen s.new (O.told out.new)) (operators.range_form (level (W.code inside.now) (W.depth inside.now)) (part low.now) (part high.now) (state_seen s.old (O.told out.old))) }
 {
     let low = number_of(s, out, inside, low)?;
     let up = number_of(s, out, inside, high)?;
@@ -71,7 +71,7 @@ pub fn evaluate_range<O: Out, W: Within<O>>(
 
 /// `c ? a : b`, of which one part alone is evaluated.
 #[tactic(auto, unfolding(comet_meaning::specs::Operators::conditional_form))]
-pub fn evaluate_conditional<O: Out, W: Within<O>>(
+pub fn evaluate_conditional<O: Outside, W: Within<O>>(
     s: &mut State,
     out: &mut O,
     inside: &W,
@@ -81,7 +81,7 @@ pub fn evaluate_conditional<O: Out, W: Within<O>>(
     otherwise: &Typed,
 ) -> Result<Value, Stop>
     requires ready { W.is_ready inside.now }
-    ensures did { Does value_seen result (state_seen s.new (O.taken out.new)) (operators.conditional_form (level (W.code inside.now) (W.depth inside.now)) kind (part test.now) (part «then».now) (part otherwise.now) (state_seen s.old (O.taken out.old))) }
+    ensures did { Does value_seen result (state_seen s.new (O.told out.new)) (operators.conditional_form (level (W.code inside.now) (W.depth inside.now)) kind (part test.now) (part «then».now) (part otherwise.now) (state_seen s.old (O.told out.old))) }
 {
     if truth_of(s, out, inside, test)? {
         value_as(s, out, inside, kind, then)
@@ -92,7 +92,7 @@ pub fn evaluate_conditional<O: Out, W: Within<O>>(
 
 /// Operands joined by operators, from the left.
 #[tactic(auto, unfolding(comet_meaning::specs::Operators::chain_form))]
-pub fn evaluate_chain<O: Out, W: Within<O>>(
+pub fn evaluate_chain<O: Outside, W: Within<O>>(
     s: &mut State,
     out: &mut O,
     inside: &W,
@@ -100,14 +100,14 @@ pub fn evaluate_chain<O: Out, W: Within<O>>(
     links: &[Link],
 ) -> Result<Value, Stop>
     requires ready { W.is_ready inside.now }
-    ensures did { Does value_seen result (state_seen s.new (O.taken out.new)) (operators.chain_form (level (W.code inside.now) (W.depth inside.now)) (part first.now) (links_seen links.now) (state_seen s.old (O.taken out.old))) }
+    ensures did { Does value_seen result (state_seen s.new (O.told out.new)) (operators.chain_form (level (W.code inside.now) (W.depth inside.now)) (part first.now) (links_seen links.now) (state_seen s.old (O.told out.old))) }
 {
     let value = value_of(s, out, inside, first)?;
     evaluate_links(s, out, inside, links, value)
 }
 
 /// The value of a chain behind its first operand, which has this value.
-fn evaluate_links<O: Out, W: Within<O>>(
+fn evaluate_links<O: Outside, W: Within<O>>(
     s: &mut State,
     out: &mut O,
     inside: &W,
@@ -115,7 +115,7 @@ fn evaluate_links<O: Out, W: Within<O>>(
     first: Value,
 ) -> Result<Value, Stop>
     requires ready { W.is_ready inside.now }
-    ensures did { Does value_seen result (state_seen s.new (O.taken out.new)) (operators.links_form (level (W.code inside.now) (W.depth inside.now)) (links_seen links.now) (value_seen first) (state_seen s.old (O.taken out.old))) }
+    ensures did { Does value_seen result (state_seen s.new (O.told out.new)) (operators.links_form (level (W.code inside.now) (W.depth inside.now)) (links_seen links.now) (value_seen first) (state_seen s.old (O.told out.old))) }
 {
     let mut value = first;
     for link in links {
@@ -126,7 +126,7 @@ fn evaluate_links<O: Out, W: Within<O>>(
 
 /// The value of a chain so far with one more operand, which is evaluated only where it may decide.
 #[tactic(auto, unfolding(comet_meaning::specs::Operators::link_form))]
-fn evaluate_link<O: Out, W: Within<O>>(
+fn evaluate_link<O: Outside, W: Within<O>>(
     s: &mut State,
     out: &mut O,
     inside: &W,
@@ -134,7 +134,7 @@ fn evaluate_link<O: Out, W: Within<O>>(
     value: Value,
 ) -> Result<Value, Stop>
     requires ready { W.is_ready inside.now }
-    ensures did { Does value_seen result (state_seen s.new (O.taken out.new)) (operators.link_form (level (W.code inside.now) (W.depth inside.now)) link.now.place link.now.operator (part link.now.operand) (value_seen value) (state_seen s.old (O.taken out.old))) }
+    ensures did { Does value_seen result (state_seen s.new (O.told out.new)) (operators.link_form (level (W.code inside.now) (W.depth inside.now)) link.now.place link.now.operator (part link.now.operand) (value_seen value) (state_seen s.old (O.told out.old))) }
 {
     if decides(link.operator, &value) {
         return Ok(value);

@@ -2,6 +2,7 @@
 ghost use Rattle.std.specs.Prelude.{◌≡◌, ℕ, List};
 ghost use Rattle.comet_meaning.specs.Parts as parts;
 ghost use Rattle.comet_meaning.specs.Program.{level};
+ghost use Rattle.run_state.specs.InTerms.{term_cells_seen};
 ghost use Rattle.run_state.specs.Views.{state_seen};
 ghost use Rattle.run_steps.specs.Does.{Does};
 ghost use Rattle.run_steps.specs.Views.{part};
@@ -9,28 +10,43 @@ ghost use Rattle.run_steps.specs.Views.{part};
 use crate::expressions::truth_of;
 use checked_tree::Typed;
 use run_solvers::Built;
-use run_state::{Out, State};
+use run_state::{Outside, State, TermCells};
 use run_steps::inside::Defining;
-use run_steps::operands::{as_broken, as_single};
+use run_steps::operands::{as_broken, as_several, as_single};
 use run_values::Stop;
 
 /// What a part stands for, as one term.
 #[tactic(auto, unfolding(comet_meaning::specs::Parts::term))]
-pub fn single_term<O: Out, W: Defining<O>>(
+pub fn single_term<O: Outside, W: Defining<O>>(
     s: &mut State,
     out: &mut O,
     inside: &W,
     e: &Typed,
 ) -> Result<Built, Stop>
     requires defines { W.can_define inside.now }
-    ensures did { Does (λ t. t) result (state_seen s.new (O.taken out.new)) (parts.term (level (W.code inside.now) (W.depth inside.now)) (part e.now) (state_seen s.old (O.taken out.old))) }
+    ensures did { Does (λ t. t) result (state_seen s.new (O.told out.new)) (parts.term (level (W.code inside.now) (W.depth inside.now)) (part e.now) (state_seen s.old (O.told out.old))) }
 {
     as_single(inside.define(s, out, e))
 }
 
+/// What a part stands for, as an array of terms.
+#[tactic(auto, unfolding(comet_meaning::specs::Parts::terms))]
+pub fn term_cells<O: Outside, W: Defining<O>>(
+    s: &mut State,
+    out: &mut O,
+    inside: &W,
+    e: &Typed,
+) -> Result<TermCells, Stop>
+    requires defines { W.can_define inside.now }
+    ensures did { Does term_cells_seen result (state_seen s.new (O.told out.new)) (parts.terms (level (W.code inside.now) (W.depth inside.now)) (part e.now) (state_seen s.old (O.told out.old))) }
+{
+    let term = inside.define(s, out, e);
+    as_several(s.alloc, term)
+}
+
 /// What a part of a constraint stands for: its term where it holds incremental variables, and else a number that says
 /// whether it is violated.
-pub fn constraint_part<O: Out, W: Defining<O>>(
+pub fn constraint_part<O: Outside, W: Defining<O>>(
     s: &mut State,
     out: &mut O,
     inside: &W,
@@ -38,7 +54,7 @@ pub fn constraint_part<O: Out, W: Defining<O>>(
 ) -> Result<Built, Stop>
     requires ready { W.is_ready inside.now }
     requires defines { W.can_define inside.now }
-    ensures did { Does (λ t. t) result (state_seen s.new (O.taken out.new)) (parts.constraint (level (W.code inside.now) (W.depth inside.now)) (part e.now) (state_seen s.old (O.taken out.old))) }
+    ensures did { Does (λ t. t) result (state_seen s.new (O.told out.new)) (parts.constraint (level (W.code inside.now) (W.depth inside.now)) (part e.now) (state_seen s.old (O.told out.old))) }
 {
     if e.moving {
         single_term(s, out, inside, e)

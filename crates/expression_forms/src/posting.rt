@@ -9,15 +9,16 @@ ghost use Rattle.run_values.specs.Views.{value_seen};
 
 use crate::expressions::{number_of, value_of};
 use crate::parts::{constraint_part, single_term};
+use crate::user_posting::{add_named, user_name};
 use cbl_base::Place;
 use checked_tree::Typed;
-use run_state::{Out, State};
+use run_state::{Outside, State};
 use run_steps::inside::{Defining, Within};
 use run_steps::operands::post_with;
 use run_values::{Stop, Value};
 
 /// `post` of a system: the constraint, and its weight where it has one.
-pub fn post_constraint<O: Out, W: Defining<O>>(
+pub fn post_constraint<O: Outside, W: Defining<O>>(
     s: &mut State,
     out: &mut O,
     inside: &W,
@@ -27,7 +28,7 @@ pub fn post_constraint<O: Out, W: Defining<O>>(
 ) -> Result<Value, Stop>
     requires ready { W.is_ready inside.now }
     requires defines { W.can_define inside.now }
-    ensures did { Does value_seen result (state_seen s.new (O.taken out.new)) (posting.post_constraint (level (W.code inside.now) (W.depth inside.now)) at (part object.now) (row arguments.now) (state_seen s.old (O.taken out.old))) }
+    ensures did { Does value_seen result (state_seen s.new (O.told out.new)) (posting.post_constraint (level (W.code inside.now) (W.depth inside.now)) at (part object.now) (row arguments.now) (state_seen s.old (O.told out.old))) }
 {
     if arguments.len() == 0 {
         return Ok(Value::Nothing);
@@ -35,9 +36,8 @@ pub fn post_constraint<O: Out, W: Defining<O>>(
     add_constraint(s, out, inside, at, object, &arguments[0], &arguments[1..])
 }
 
-/// The object, the constraint, its weight, a unit for the call, and then it is posted.
-#[tactic(auto, unfolding(comet_meaning::specs::Posting::post_constraint))]
-fn add_constraint<O: Out, W: Defining<O>>(
+/// The same by what is posted: a constraint of the language, or a user's constraint, which has a name.
+fn add_constraint<O: Outside, W: Defining<O>>(
     s: &mut State,
     out: &mut O,
     inside: &W,
@@ -48,16 +48,37 @@ fn add_constraint<O: Out, W: Defining<O>>(
 ) -> Result<Value, Stop>
     requires ready { W.is_ready inside.now }
     requires defines { W.can_define inside.now }
-    ensures did { Does value_seen result (state_seen s.new (O.taken out.new)) (posting.post_constraint (level (W.code inside.now) (W.depth inside.now)) at (part object.now) (part constraint.now ∷ row weights.now) (state_seen s.old (O.taken out.old))) }
+    ensures did { Does value_seen result (state_seen s.new (O.told out.new)) (posting.post_constraint (level (W.code inside.now) (W.depth inside.now)) at (part object.now) (part constraint.now ∷ row weights.now) (state_seen s.old (O.told out.old))) }
+{
+    match user_name(constraint) {
+        None => add_one(s, out, inside, at, object, constraint, weights),
+        Some(name) => add_named(s, out, inside, at, object, constraint, weights, name),
+    }
+}
+
+/// The object, the constraint, its weight, a unit for the call, and then it is posted.
+#[tactic(auto, unfolding(comet_meaning::specs::Posting::post_one))]
+fn add_one<O: Outside, W: Defining<O>>(
+    s: &mut State,
+    out: &mut O,
+    inside: &W,
+    at: Place,
+    object: &Typed,
+    constraint: &Typed,
+    weights: &[Typed],
+) -> Result<Value, Stop>
+    requires ready { W.is_ready inside.now }
+    requires defines { W.can_define inside.now }
+    ensures did { Does value_seen result (state_seen s.new (O.told out.new)) (posting.post_one (level (W.code inside.now) (W.depth inside.now)) at (part object.now) (part constraint.now) (row weights.now) (state_seen s.old (O.told out.old))) }
 {
     let value = value_of(s, out, inside, object)?;
     let term = constraint_part(s, out, inside, constraint)?;
     let weight = weight_of(s, out, inside, weights);
-    post_with(s, at, &value, term, weight)
+    post_with(s, out, at, &value, term, weight)
 }
 
 /// `post` of a sum: the term, and its weight where it has one.
-pub fn post_part<O: Out, W: Defining<O>>(
+pub fn post_part<O: Outside, W: Defining<O>>(
     s: &mut State,
     out: &mut O,
     inside: &W,
@@ -67,7 +88,7 @@ pub fn post_part<O: Out, W: Defining<O>>(
 ) -> Result<Value, Stop>
     requires ready { W.is_ready inside.now }
     requires defines { W.can_define inside.now }
-    ensures did { Does value_seen result (state_seen s.new (O.taken out.new)) (posting.post_part (level (W.code inside.now) (W.depth inside.now)) at (part object.now) (row arguments.now) (state_seen s.old (O.taken out.old))) }
+    ensures did { Does value_seen result (state_seen s.new (O.told out.new)) (posting.post_part (level (W.code inside.now) (W.depth inside.now)) at (part object.now) (row arguments.now) (state_seen s.old (O.told out.old))) }
 {
     if arguments.len() == 0 {
         return Ok(Value::Nothing);
@@ -77,7 +98,7 @@ pub fn post_part<O: Out, W: Defining<O>>(
 
 /// The object, the term, its weight, a unit for the call, and then it is posted.
 #[tactic(auto, unfolding(comet_meaning::specs::Posting::post_part))]
-fn add_part<O: Out, W: Defining<O>>(
+fn add_part<O: Outside, W: Defining<O>>(
     s: &mut State,
     out: &mut O,
     inside: &W,
@@ -88,24 +109,24 @@ fn add_part<O: Out, W: Defining<O>>(
 ) -> Result<Value, Stop>
     requires ready { W.is_ready inside.now }
     requires defines { W.can_define inside.now }
-    ensures did { Does value_seen result (state_seen s.new (O.taken out.new)) (posting.post_part (level (W.code inside.now) (W.depth inside.now)) at (part object.now) (part term.now ∷ row weights.now) (state_seen s.old (O.taken out.old))) }
+    ensures did { Does value_seen result (state_seen s.new (O.told out.new)) (posting.post_part (level (W.code inside.now) (W.depth inside.now)) at (part object.now) (part term.now ∷ row weights.now) (state_seen s.old (O.told out.old))) }
 {
     let value = value_of(s, out, inside, object)?;
     let term = single_term(s, out, inside, term)?;
     let weight = weight_of(s, out, inside, weights);
-    post_with(s, at, &value, term, weight)
+    post_with(s, out, at, &value, term, weight)
 }
 
 /// The weight, which is 1 where it is left out.
 #[tactic(auto, unfolding(comet_meaning::specs::Posting::weight_form))]
-fn weight_of<O: Out, W: Within<O>>(
+pub(crate) fn weight_of<O: Outside, W: Within<O>>(
     s: &mut State,
     out: &mut O,
     inside: &W,
     weights: &[Typed],
 ) -> Result<i64, Stop>
     requires ready { W.is_ready inside.now }
-    ensures did { Does (λ z. z) result (state_seen s.new (O.taken out.new)) (posting.weight_form (level (W.code inside.now) (W.depth inside.now)) (row weights.now) (state_seen s.old (O.taken out.old))) }
+    ensures did { Does (λ z. z) result (state_seen s.new (O.told out.new)) (posting.weight_form (level (W.code inside.now) (W.depth inside.now)) (row weights.now) (state_seen s.old (O.told out.old))) }
 {
     if weights.len() == 0 {
         return Ok(1);

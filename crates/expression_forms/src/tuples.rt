@@ -17,14 +17,14 @@ ghost use Rattle.run_values.specs.Views.{bounds_seen, value_seen};
 use crate::expressions::value_of;
 use cbl_base::Place;
 use checked_tree::Generator;
-use run_state::{Out, State};
+use run_state::{Outside, State};
 use run_steps::inside::Within;
 use run_steps::tuples::{Entered, Tuples, begin, pending_of, take_value};
 use run_values::Stop;
 use std::mem;
 
 /// Begins a value of the last open generator: whether that makes a tuple; else the next generator opens.
-fn enter<O: Out, W: Within<O>>(
+fn enter<O: Outside, W: Within<O>>(
     s: &mut State,
     out: &mut O,
     inside: &W,
@@ -35,7 +35,7 @@ fn enter<O: Out, W: Within<O>>(
 ) -> Result<bool, Stop>
     requires ready { W.is_ready inside.now }
     requires known { length tuples.old.below.items < length generators.now }
-    ensures did { (V : Visits) (p : odometer.Pending) → next_of p ≡ Some value → SameLeft (behind_next p) (pending_seen tuples.old.top) → Remains (level (W.code inside.now) (W.depth inside.now)) at V generators.now (bounds_of tuples.old) (p ∷ rests_seen tuples.old.below.items) (state_seen s.old (O.taken out.old)) → Entering (level (W.code inside.now) (W.depth inside.now)) at V generators.now result tuples.new value (state_seen s.new (O.taken out.new)) }
+    ensures did { (V : Visits) (p : odometer.Pending) → next_of p ≡ Some value → SameLeft (behind_next p) (pending_seen tuples.old.top) → Remains (level (W.code inside.now) (W.depth inside.now)) at V generators.now (bounds_of tuples.old) (p ∷ rests_seen tuples.old.below.items) (state_seen s.old (O.told out.old)) → Entering (level (W.code inside.now) (W.depth inside.now)) at V generators.now result tuples.new value (state_seen s.new (O.told out.new)) }
     ensures inside { OnOk result (length tuples.new.below.items < length generators.now) }
     ensures grows { OnOk result (length tuples.new.below.items ≤ length tuples.old.below.items + 1) }
     ensures falls { OnOk result (s.new.fuel < s.old.fuel) }
@@ -60,7 +60,7 @@ fn enter<O: Out, W: Within<O>>(
 
 /// The value of the last generator in the next tuple, whose names have their values then; `None` exactly where there is
 /// no more tuple.
-pub fn next_tuple<O: Out, W: Within<O>>(
+pub fn next_tuple<O: Outside, W: Within<O>>(
     s: &mut State,
     out: &mut O,
     inside: &W,
@@ -70,7 +70,7 @@ pub fn next_tuple<O: Out, W: Within<O>>(
 ) -> Result<Option<i64>, Stop>
     requires ready { W.is_ready inside.now }
     requires known { length tuples.old.below.items < length generators.now }
-    ensures did { (V : Visits) → Remains (level (W.code inside.now) (W.depth inside.now)) at V generators.now (bounds_of tuples.old) (stack_seen tuples.old) (state_seen s.old (O.taken out.old)) → Advances (level (W.code inside.now) (W.depth inside.now)) at V generators.now result tuples.new (state_seen s.new (O.taken out.new)) }
+    ensures did { (V : Visits) → Remains (level (W.code inside.now) (W.depth inside.now)) at V generators.now (bounds_of tuples.old) (stack_seen tuples.old) (state_seen s.old (O.told out.old)) → Advances (level (W.code inside.now) (W.depth inside.now)) at V generators.now result tuples.new (state_seen s.new (O.told out.new)) }
     ensures inside { OnOk result (length tuples.new.below.items < length generators.now) }
     ensures falls { IfOk result (λ r. IfSome r (λ _. s.new.fuel < s.old.fuel)) }
 {

@@ -16,7 +16,7 @@ use cbl_base::RunFault;
 use checked_tree::{Kind, Task, Typed};
 use constraint_forms::constraints::constraint_form;
 use constraint_forms::defining::terms::{constant_term, moving_term};
-use run_state::{InTerm, Out, State, Target};
+use run_state::{InTerm, Outside, State, Target};
 use run_steps::code::{Code, Flow};
 use run_steps::inside::Inside;
 use run_values::{Stop, Value};
@@ -30,27 +30,27 @@ const MOST_DEPTH: u32 = 1000;
 /// The value of an expression; of a variable the variable itself. `room` tells how many parts may still be executed
 /// inside each other: the fault `Depth` comes at the place of an expression for which there is none.
 #[cycle(run)]
-pub fn evaluate<O: Out>(
+pub fn evaluate<O: Outside>(
     s: &mut State,
     out: &mut O,
     code: &Code<'_>,
     room: u32,
     e: &Typed,
 ) -> Result<Value, Stop>
-    ensures did { Does value_seen result (state_seen s.new (O.taken out.new)) ((level (code_seen code.now) room).expr (part e.now) (state_seen s.old (O.taken out.old))) }
+    ensures did { Does value_seen result (state_seen s.new (O.told out.new)) ((level (code_seen code.now) room).expr (part e.now) (state_seen s.old (O.told out.old))) }
 {
     if room == 0 {
         return Err(Stop::Fault(e.place, RunFault::Depth));
     }
     let room = room - 1;
     let value = |s: &mut State, out: &mut O, e: &Typed| -> Result<Value, Stop>
-        ensures did { Does value_seen result (state_seen s.new (O.taken out.new)) ((level (code_seen code.entry.now) room).expr (part e.now) (state_seen s.old (O.taken out.old))) }
+        ensures did { Does value_seen result (state_seen s.new (O.told out.new)) ((level (code_seen code.entry.now) room).expr (part e.now) (state_seen s.old (O.told out.old))) }
     { evaluate(s, out, code, room, e) };
     let statement = |s: &mut State, out: &mut O, t: &Task| -> Result<Flow, Stop>
-        ensures did { Does flow_seen result (state_seen s.new (O.taken out.new)) ((level (code_seen code.entry.now) room).stmt (work_of t.now) (state_seen s.old (O.taken out.old))) }
+        ensures did { Does flow_seen result (state_seen s.new (O.told out.new)) ((level (code_seen code.entry.now) room).stmt (work_of t.now) (state_seen s.old (O.told out.old))) }
     { execute(s, out, code, room, t) };
     let term = |s: &mut State, out: &mut O, e: &Typed| -> Result<InTerm, Stop>
-        ensures did { Does in_term_seen result (state_seen s.new (O.taken out.new)) ((level (code_seen code.entry.now) room).term (part e.now) (state_seen s.old (O.taken out.old))) }
+        ensures did { Does in_term_seen result (state_seen s.new (O.told out.new)) ((level (code_seen code.entry.now) room).term (part e.now) (state_seen s.old (O.told out.old))) }
     { define(s, out, code, room, e) };
     let inside = Inside {
         code,
@@ -65,24 +65,24 @@ pub fn evaluate<O: Out>(
 
 /// What an expression stands for where it is written, with the same room and fault.
 #[cycle(run)]
-fn locate<O: Out>(
+fn locate<O: Outside>(
     s: &mut State,
     out: &mut O,
     code: &Code<'_>,
     room: u32,
     e: &Typed,
 ) -> Result<Target, Stop>
-    ensures did { Does target_seen result (state_seen s.new (O.taken out.new)) ((level (code_seen code.now) room).target (part e.now) (state_seen s.old (O.taken out.old))) }
+    ensures did { Does target_seen result (state_seen s.new (O.told out.new)) ((level (code_seen code.now) room).target (part e.now) (state_seen s.old (O.told out.old))) }
 {
     if room == 0 {
         return Err(Stop::Fault(e.place, RunFault::Depth));
     }
     let room = room - 1;
     let value = |s: &mut State, out: &mut O, e: &Typed| -> Result<Value, Stop>
-        ensures did { Does value_seen result (state_seen s.new (O.taken out.new)) ((level (code_seen code.entry.now) room).expr (part e.now) (state_seen s.old (O.taken out.old))) }
+        ensures did { Does value_seen result (state_seen s.new (O.told out.new)) ((level (code_seen code.entry.now) room).expr (part e.now) (state_seen s.old (O.told out.old))) }
     { evaluate(s, out, code, room, e) };
     let statement = |s: &mut State, out: &mut O, t: &Task| -> Result<Flow, Stop>
-        ensures did { Does flow_seen result (state_seen s.new (O.taken out.new)) ((level (code_seen code.entry.now) room).stmt (work_of t.now) (state_seen s.old (O.taken out.old))) }
+        ensures did { Does flow_seen result (state_seen s.new (O.told out.new)) ((level (code_seen code.entry.now) room).stmt (work_of t.now) (state_seen s.old (O.told out.old))) }
     { execute(s, out, code, room, t) };
     let inside = Inside {
         code,
@@ -93,7 +93,7 @@ fn locate<O: Out>(
         locate: (),
     };
     let target = |s: &mut State, out: &mut O, e: &Typed| -> Result<Target, Stop>
-        ensures did { Does target_seen result (state_seen s.new (O.taken out.new)) ((level (code_seen code.entry.now) room).target (part e.now) (state_seen s.old (O.taken out.old))) }
+        ensures did { Does target_seen result (state_seen s.new (O.told out.new)) ((level (code_seen code.entry.now) room).target (part e.now) (state_seen s.old (O.told out.old))) }
     { locate(s, out, code, room, e) };
     target_of_form(s, out, &inside, &target, e.place, e.kind, &e.form)
 }
@@ -101,27 +101,27 @@ fn locate<O: Out>(
 /// What an expression stands for in a term, with the same room and fault: a part without incremental variables for its
 /// value now.
 #[cycle(run)]
-fn define<O: Out>(
+fn define<O: Outside>(
     s: &mut State,
     out: &mut O,
     code: &Code<'_>,
     room: u32,
     e: &Typed,
 ) -> Result<InTerm, Stop>
-    ensures did { Does in_term_seen result (state_seen s.new (O.taken out.new)) ((level (code_seen code.now) room).term (part e.now) (state_seen s.old (O.taken out.old))) }
+    ensures did { Does in_term_seen result (state_seen s.new (O.told out.new)) ((level (code_seen code.now) room).term (part e.now) (state_seen s.old (O.told out.old))) }
 {
     if room == 0 {
         return Err(Stop::Fault(e.place, RunFault::Depth));
     }
     let room = room - 1;
     let value = |s: &mut State, out: &mut O, e: &Typed| -> Result<Value, Stop>
-        ensures did { Does value_seen result (state_seen s.new (O.taken out.new)) ((level (code_seen code.entry.now) room).expr (part e.now) (state_seen s.old (O.taken out.old))) }
+        ensures did { Does value_seen result (state_seen s.new (O.told out.new)) ((level (code_seen code.entry.now) room).expr (part e.now) (state_seen s.old (O.told out.old))) }
     { evaluate(s, out, code, room, e) };
     let statement = |s: &mut State, out: &mut O, t: &Task| -> Result<Flow, Stop>
-        ensures did { Does flow_seen result (state_seen s.new (O.taken out.new)) ((level (code_seen code.entry.now) room).stmt (work_of t.now) (state_seen s.old (O.taken out.old))) }
+        ensures did { Does flow_seen result (state_seen s.new (O.told out.new)) ((level (code_seen code.entry.now) room).stmt (work_of t.now) (state_seen s.old (O.told out.old))) }
     { execute(s, out, code, room, t) };
     let term = |s: &mut State, out: &mut O, e: &Typed| -> Result<InTerm, Stop>
-        ensures did { Does in_term_seen result (state_seen s.new (O.taken out.new)) ((level (code_seen code.entry.now) room).term (part e.now) (state_seen s.old (O.taken out.old))) }
+        ensures did { Does in_term_seen result (state_seen s.new (O.told out.new)) ((level (code_seen code.entry.now) room).term (part e.now) (state_seen s.old (O.told out.old))) }
     { define(s, out, code, room, e) };
     let inside = Inside {
         code,
@@ -144,14 +144,14 @@ fn define<O: Out>(
 
 /// What a statement does, and how it ends, with the same room and fault. It costs a unit of fuel.
 #[cycle(run)]
-fn execute<O: Out>(
+fn execute<O: Outside>(
     s: &mut State,
     out: &mut O,
     code: &Code<'_>,
     room: u32,
     t: &Task,
 ) -> Result<Flow, Stop>
-    ensures did { Does flow_seen result (state_seen s.new (O.taken out.new)) ((level (code_seen code.now) room).stmt (work_of t.now) (state_seen s.old (O.taken out.old))) }
+    ensures did { Does flow_seen result (state_seen s.new (O.told out.new)) ((level (code_seen code.now) room).stmt (work_of t.now) (state_seen s.old (O.told out.old))) }
 {
     if room == 0 {
         return Err(Stop::Fault(t.place, RunFault::Depth));
@@ -159,16 +159,16 @@ fn execute<O: Out>(
     s.charge(1, t.place)?;
     let room = room - 1;
     let value = |s: &mut State, out: &mut O, e: &Typed| -> Result<Value, Stop>
-        ensures did { Does value_seen result (state_seen s.new (O.taken out.new)) ((level (code_seen code.entry.now) room).expr (part e.now) (state_seen s.old (O.taken out.old))) }
+        ensures did { Does value_seen result (state_seen s.new (O.told out.new)) ((level (code_seen code.entry.now) room).expr (part e.now) (state_seen s.old (O.told out.old))) }
     { evaluate(s, out, code, room, e) };
     let statement = |s: &mut State, out: &mut O, t: &Task| -> Result<Flow, Stop>
-        ensures did { Does flow_seen result (state_seen s.new (O.taken out.new)) ((level (code_seen code.entry.now) room).stmt (work_of t.now) (state_seen s.old (O.taken out.old))) }
+        ensures did { Does flow_seen result (state_seen s.new (O.told out.new)) ((level (code_seen code.entry.now) room).stmt (work_of t.now) (state_seen s.old (O.told out.old))) }
     { execute(s, out, code, room, t) };
     let term = |s: &mut State, out: &mut O, e: &Typed| -> Result<InTerm, Stop>
-        ensures did { Does in_term_seen result (state_seen s.new (O.taken out.new)) ((level (code_seen code.entry.now) room).term (part e.now) (state_seen s.old (O.taken out.old))) }
+        ensures did { Does in_term_seen result (state_seen s.new (O.told out.new)) ((level (code_seen code.entry.now) room).term (part e.now) (state_seen s.old (O.told out.old))) }
     { define(s, out, code, room, e) };
     let target = |s: &mut State, out: &mut O, e: &Typed| -> Result<Target, Stop>
-        ensures did { Does target_seen result (state_seen s.new (O.taken out.new)) ((level (code_seen code.entry.now) room).target (part e.now) (state_seen s.old (O.taken out.old))) }
+        ensures did { Does target_seen result (state_seen s.new (O.told out.new)) ((level (code_seen code.entry.now) room).target (part e.now) (state_seen s.old (O.told out.old))) }
     { locate(s, out, code, room, e) };
     let inside = Inside {
         code,
@@ -192,20 +192,20 @@ fn is_constraint(kind: Kind) -> bool
 /// printed are then those of their meaning, and so is the flow, or the fault and its place, or the place where the fuel
 /// is spent. `NoMemory` where there is none, and `Output` where the output stops: then a front of what they print was
 /// printed.
-pub fn run<O: Out>(
+pub fn run<O: Outside>(
     s: &mut State,
     out: &mut O,
     code: &Code<'_>,
     tasks: &[Task],
 ) -> Result<Flow, Stop>
-    ensures did { Does flow_seen result (state_seen s.new (O.taken out.new)) (tasks_form (level (code_seen code.now) most_depth) (map work_of tasks.now) (state_seen s.old (O.taken out.old))) }
+    ensures did { Does flow_seen result (state_seen s.new (O.told out.new)) (tasks_form (level (code_seen code.now) most_depth) (map work_of tasks.now) (state_seen s.old (O.told out.old))) }
 {
     let room = MOST_DEPTH;
     let value = |s: &mut State, out: &mut O, e: &Typed| -> Result<Value, Stop>
-        ensures did { Does value_seen result (state_seen s.new (O.taken out.new)) ((level (code_seen code.entry.now) room).expr (part e.now) (state_seen s.old (O.taken out.old))) }
+        ensures did { Does value_seen result (state_seen s.new (O.told out.new)) ((level (code_seen code.entry.now) room).expr (part e.now) (state_seen s.old (O.told out.old))) }
     { evaluate(s, out, code, room, e) };
     let statement = |s: &mut State, out: &mut O, t: &Task| -> Result<Flow, Stop>
-        ensures did { Does flow_seen result (state_seen s.new (O.taken out.new)) ((level (code_seen code.entry.now) room).stmt (work_of t.now) (state_seen s.old (O.taken out.old))) }
+        ensures did { Does flow_seen result (state_seen s.new (O.told out.new)) ((level (code_seen code.entry.now) room).stmt (work_of t.now) (state_seen s.old (O.told out.old))) }
     { execute(s, out, code, room, t) };
     let inside = Inside {
         code,

@@ -5,3 +5,4 @@ pub use Rattle.solver_models.proofs.DefinitionLaws
 pub use Rattle.solver_models.proofs.ListLaws
 pub use Rattle.solver_models.proofs.ModelLaws
 pub use Rattle.solver_models.proofs.ReadLaws
+pub mod UserLaws

@@ -17,6 +17,11 @@ abbrev pub Answers : {A : Type 0} → Option RunFault → Result A SolverFault �
 Answers refusal (Ok answer) = refusal ≡ None
 Answers refusal (Err fault) = IsRefusal refusal fault
 
+-- the same of a call that hands back what it was given
+abbrev pub AnswersBack : {A B : Type 0} → Option RunFault → Result A (SolverFault × B) → Type 0
+AnswersBack refusal (Ok answer) = refusal ≡ None
+AnswersBack refusal (Err back) = IsRefusal refusal back.0
+
 -- the same of a call that wants no memory
 abbrev pub IsOnlyRefusal : Option RunFault → SolverFault → Type 0
 IsOnlyRefusal refusal (Run fault) = refusal ≡ Some fault

@@ -11,8 +11,8 @@ use Rattle.ls_solver.specs.declared.fault.SolverFault.{SolverFault}
 use Rattle.ls_solver.specs.declared.fault.SolverFault.TheVariants.{Run, At, Cyclic, NoMemory}
 use Rattle.model_values.specs.Fresh.{fresh_of}
 use Rattle.term_model.specs.Definitions.{IsAcyclic}
-use Rattle.term_model.specs.Users.{no_users}
 use Rattle.std.specs.Prelude.{ℕ}
+use Rattle.posted_users.specs.KeptRule.{users_of}
 
 -- these ids are the variables at these places
 abbrev pub AreAt : SolverState → List VarId → List ℕ → Type 0
@@ -23,11 +23,11 @@ Stops old new (Run fault) = (old.closed ≡ true) × (fault ≡ AlreadyClosed) �
 Stops old new (Cyclic cycle) = (old.closed ≡ false) × (new ≡ old) × ((list : List ℕ) × AreAt old cycle.items list × IsNamedCycle old.model list)
 Stops old new (At place fault) =
     (old.closed ≡ false) × IsAcyclic old.model × (new.usable ≡ false)
-    × (fresh_of no_users old.model old.assignment ≡ Err (record { place = place; fault = fault }))
+    × (fresh_of (users_of old.rules) old.model old.assignment ≡ Err (record { place = place; fault = fault }))
 Stops old new NoMemory = (old.closed ≡ false) × (new.usable ≡ false)
 
 abbrev pub Closes : SolverState → SolverState → Result (Unit {0}) SolverFault → Type 0
 Closes old new (Ok done) =
-    (old.closed ≡ false) × IsAcyclic old.model × (is_ok (fresh_of no_users old.model old.assignment) ≡ true)
+    (old.closed ≡ false) × IsAcyclic old.model × (is_ok (fresh_of (users_of old.rules) old.model old.assignment) ≡ true)
     × (new ≡ record old { closed = true })
 Closes old new (Err fault) = Stops old new fault

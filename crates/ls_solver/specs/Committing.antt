@@ -12,12 +12,12 @@ use Rattle.solver_models.specs.State.{SolverState}
 use Rattle.ls_solver.specs.declared.fault.SolverFault.{SolverFault}
 use Rattle.ls_solver.specs.declared.fault.SolverFault.TheVariants.{Run, At, Cyclic, NoMemory}
 use Rattle.model_values.specs.Fresh.{fresh_of}
-use Rattle.term_model.specs.Users.{no_users}
+use Rattle.posted_users.specs.KeptRule.{users_of}
 
 -- the changes are told of a closed solver that has values
 pub record IsTold (old new : SolverState) (changes : List VarChange) : Type 0 where
   pub open_ : old.closed ≡ false → changes ≡ []
-  pub valued : old.closed ≡ true → is_ok (fresh_of no_users new.model new.assignment) ≡ true
+  pub valued : old.closed ≡ true → is_ok (fresh_of (users_of new.rules) new.model new.assignment) ≡ true
   pub changes_ : old.closed ≡ true → changes ≡ changes_of old new
 
 abbrev pub Fails : SolverState → List (VarId × ℤ) → SolverState → SolverFault → Type 0
@@ -25,7 +25,7 @@ Fails old moves new (Run fault) = (commit_refusal old moves ≡ Some fault) × (
 Fails old moves new (Cyclic cycle) = ⊥
 Fails old moves new (At place fault) =
     (commit_refusal old moves ≡ None) × (old.closed ≡ true) × (new.usable ≡ false)
-    × (fresh_of no_users old.model (after_moves old.assignment moves) ≡ Err (record { place = place; fault = fault }))
+    × (fresh_of (users_of old.rules) old.model (after_moves old.assignment moves) ≡ Err (record { place = place; fault = fault }))
 Fails old moves new NoMemory = (commit_refusal old moves ≡ None) × (old.closed ≡ true) × (new.usable ≡ false)
 
 abbrev pub Commits : SolverState → List (VarId × ℤ) → SolverState → Result (Vec VarChange Global) SolverFault → Type 0

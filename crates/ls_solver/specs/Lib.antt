@@ -14,3 +14,4 @@ pub use Rattle.solver_models.specs.Reading
 pub use Rattle.solver_models.specs.Replying
 pub use Rattle.solver_models.specs.State
 pub use Rattle.solver_models.specs.Totals
+pub use Rattle.solver_models.specs.UserPosting

@@ -21,8 +21,9 @@ use solver_models::{
 use std::mem;
 use term_count::Subterms;
 use term_model::{Member, Term};
+use user_constraint::LocalConstraint;
 
-impl Solver {
+impl<U: LocalConstraint> Solver<U> {
     /// Whether a system or an objective, and all variables in a term, are this solver's.
     fn owns_member(&self, k: TotalId, term: &Term) -> bool
         ensures { result ≡ is_own_member self.now k term.now }

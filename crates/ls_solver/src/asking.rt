@@ -14,8 +14,9 @@ use crate::solver::Solver;
 use cbl_base::{NoMemory, VarId};
 use solver_models::{are_marked_or_numbers, holds_user, is_number, is_of_kind};
 use term_model::{Term, VarKind, kind_at, term_kind};
+use user_constraint::LocalConstraint;
 
-impl Solver {
+impl<U: LocalConstraint> Solver<U> {
     /// The kind of a variable. `None` exactly where it isn't this solver's.
     pub fn kind(&self, x: VarId) -> Option<VarKind>
         ensures { option_map kind_of_var result ≡ own_kind self.now x }

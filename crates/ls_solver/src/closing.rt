@@ -7,10 +7,11 @@ ghost use Rattle.term_model.specs.Wellformed.{HasDefinedSets};
 use crate::fault::SolverFault;
 use crate::solver::Solver;
 use cbl_base::{NoMemory, RunFault};
-use model_values::{ModelStop, fresh};
-use solver_models::cycle_of;
+use model_values::ModelStop;
+use solver_models::{cycle_of, settled};
+use user_constraint::LocalConstraint;
 
-impl Solver {
+impl<U: LocalConstraint> Solver<U> {
     /// Closes the solver, and evaluates all. Refused with `AlreadyClosed`. `Cyclic` comes exactly where variables depend
     /// on one another in a circle, and names the cycle that begins at the least variable on one, is shortest, and is
     /// first in the order of lists; with both the solver is as before. `At` is exactly the fault of the whole model,
@@ -43,7 +44,7 @@ impl Solver {
         requires acyclic { IsAcyclic self.old.model }
         ensures { Closes self.old self.new result }
     {
-        match fresh(self.alloc, &self.model, &self.assignment) {
+        match settled(self.alloc, &mut self.users, &self.model, &self.assignment) {
             Ok(values) => {
                 self.values = values;
                 self.closed = true;

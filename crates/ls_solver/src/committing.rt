@@ -13,8 +13,9 @@ use ls_events::VarChange;
 use model_values::ModelStop;
 use solver_models::{Told, any_marked, are_moves_given, tell, write_moves};
 use std::sync::ledger::Ledger;
+use user_constraint::LocalConstraint;
 
-impl Solver {
+impl<U: LocalConstraint> Solver<U> {
     /// Why these moves can't be committed.
     fn commit_refusal(&self, moves: &[(VarId, i64)]) -> Option<RunFault>
         ensures { result ≡ commit_refusal self.now moves.now }
@@ -101,6 +102,7 @@ impl Solver {
         write_moves(&mut self.assignment, moves);
         match tell(
             self.alloc,
+            &mut self.users,
             self.number,
             &self.model,
             &self.assignment,

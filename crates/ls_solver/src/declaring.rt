@@ -12,8 +12,9 @@ use cbl_base::limits::MAX_VARIABLES;
 use cbl_base::{Limit, NoMemory, RunFault, VarId};
 use solver_models::push_variable;
 use term_model::{VarDecl, VarKind};
+use user_constraint::LocalConstraint;
 
-impl Solver {
+impl<U: LocalConstraint> Solver<U> {
     /// Why there can't be one more variable.
     fn variable_refusal(&self) -> Option<RunFault>
         ensures { result ≡ variable_refusal self.now }

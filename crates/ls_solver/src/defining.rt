@@ -16,8 +16,9 @@ use solver_models::{counted_with, defines_given, is_within, mark, mark_at, push_
 use std::mem;
 use term_count::Subterms;
 use term_model::{Definition, Term};
+use user_constraint::LocalConstraint;
 
-impl Solver {
+impl<U: LocalConstraint> Solver<U> {
     /// Why a variable can't have a definition, whatever the size of its term.
     pub fn early_refusal(&self, x: VarId, term: &Term) -> Option<RunFault>
         ensures { result ≡ early_refusal self.now x term.now }

@@ -18,6 +18,7 @@ mod committing;
 mod declaring;
 mod defining;
 mod fault;
+mod posting;
 mod reading;
 mod replying;
 mod restoring;
@@ -26,6 +27,6 @@ mod totals;
 mod trial;
 
 pub use fault::SolverFault;
-pub use solver::Solver;
+pub use solver::{BoxSolver, Solver};
 pub use solver_models::{ObjectiveId, SystemId, TotalId};
 pub use trial::Trial;

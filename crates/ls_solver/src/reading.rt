@@ -12,8 +12,9 @@ use crate::fault::SolverFault;
 use crate::solver::Solver;
 use cbl_base::{IntSet, RunFault, VarId};
 use solver_models::{is_given, mark_at, number_at, number_in, set_in};
+use user_constraint::LocalConstraint;
 
-impl Solver {
+impl<U: LocalConstraint> Solver<U> {
     /// Whether a variable is this solver's.
     pub fn owns(&self, x: VarId) -> bool
         ensures { result ≡ is_own self.now x }

@@ -14,6 +14,7 @@ use cbl_base::{RunFault, Steps, VarId};
 use model_values::{AskStop, Move};
 use solver_models::{ObjectiveId, SystemId, TotalId, are_given, total_delta, violations_in};
 use std::sync::ledger::Ledger;
+use user_constraint::LocalConstraint;
 
 /// The same answer as a solver gives it.
 fn reply_of(answer: Result<i64, AskStop>) -> Result<i64, SolverFault>
@@ -27,7 +28,7 @@ fn reply_of(answer: Result<i64, AskStop>) -> Result<i64, SolverFault>
     }
 }
 
-impl Solver {
+impl<U: LocalConstraint> Solver<U> {
     /// Where deltas are tried out.
     pub fn trial(&self) -> Trial
         requires { self.now.usable ≡ true }
@@ -67,7 +68,14 @@ impl Solver {
         requires moved { AreOwn self.now.model change }
         ensures { IsReply (delta_reply self.now k vars.now change) result }
     {
-        reply_of(total_delta(self.alloc, &self.model, &self.assignment, k, change))
+        reply_of(total_delta(
+            self.alloc,
+            &self.model,
+            &self.assignment,
+            &self.users,
+            k,
+            change,
+        ))
     }
 
     /// How the value would change if one variable got another number, without a count of steps.
@@ -179,6 +187,13 @@ impl Solver {
         requires own { reply_refusal self.now (of_system s) (x ∷ []) ≡ None }
         ensures { IsReply (variable_reply self.now s x) result }
     {
-        reply_of(violations_in(self.alloc, &self.model, &self.assignment, s.index, x.index))
+        reply_of(violations_in(
+            self.alloc,
+            &self.model,
+            &self.assignment,
+            &self.users,
+            s.index,
+            x.index,
+        ))
     }
 }

@@ -10,8 +10,9 @@ use cbl_base::{NoMemory, Numbers, RunFault, Steps};
 use ls_events::{Solution, VarChange};
 use solver_models::{free_count, free_moves, free_numbers};
 use std::sync::ledger::Ledger;
+use user_constraint::LocalConstraint;
 
-impl Solver {
+impl<U: LocalConstraint> Solver<U> {
     /// The values of all free variables, in order of declaration. Refused with `NotClosed` where the solver is open.
     pub fn snapshot(&self) -> Result<Solution, SolverFault>
         requires { self.now.usable ≡ true }

@@ -4,18 +4,22 @@ ghost use Rattle.solver_models.specs.State.{IsNew};
 ghost use Rattle.term_model.specs.Wellformed.{IsWellFormed};
 
 use model_values::Values;
+use posted_users::PostedUsers;
 use std::alloc::Global;
 use std::marker::Model;
 use term_count::Subterms;
+use user_constraint::{LocalConstraint, UserConstraint};
 
-/// A solver: its number, a model, an assignment with a number for each variable, whether it is closed, and whether it
-/// may still be used. It is seen as these. Every call but `usable` needs that it may.
+/// A solver: its number, a model, an assignment with a number for each variable, the rules of its users' constraints,
+/// whether it is closed, and whether it may still be used. It is seen as these. Every call but `usable` needs that it may.
 #[derive(Drop)]
-pub struct Solver {
+pub struct Solver<U: LocalConstraint> {
     pub(crate) alloc: Global,
     pub(crate) number: u32,
     pub(crate) model: term_model::Model,
     pub(crate) assignment: Vec<i64>,
+    /// The users' constraints that were posted.
+    pub(crate) users: PostedUsers<U>,
     /// Whether each variable has a definition.
     pub(crate) marks: Vec<bool>,
     /// The distinct subterms of the model; none where a count was broken off.
@@ -26,23 +30,28 @@ pub struct Solver {
     pub(crate) usable: bool,
 }
 
-impl Model for Solver {
+impl<U: LocalConstraint> Model for Solver<U> {
     ghost use Rattle.solver_models.specs.State.{SolverState};
 
     ghost Value = { SolverState };
 
+    ghost use Rattle.posted_users.specs.KeptCode.{rule_code};
     ghost use Rattle.std.specs.Coded.{codes};
     ghost use Rattle.term_model.specs.contracts.term.Term as terms_seen;
 
-    ghost coded = { Prim.hlevel (codes, terms_seen.the_row.coded) };
+    ghost coded = { Prim.hlevel (rule_code, codes, terms_seen.the_row.coded) };
 
     ghost use Rattle.model_values.specs.Fresh.{seen_values};
+    ghost use Rattle.posted_users.specs.PostedState.{rules_of};
     ghost use Rattle.solver_models.specs.Kept.{IsKept};
 
-    ghost view = { λ a. record { number = a.number; model = a.model; assignment = a.assignment.items; closed = a.closed; usable = a.usable } };
+    ghost view = { λ a. record { number = a.number; model = a.model; assignment = a.assignment.items; rules = rules_of a.users.posted.items; closed = a.closed; usable = a.usable } };
 
-    ghost invariant = { λ a. IsKept a.model a.assignment.items a.marks.items a.terms (seen_values a.values) a.closed a.usable };
+    ghost invariant = { λ a. IsKept a.model a.assignment.items a.marks.items (rules_of a.users.posted.items) a.terms (seen_values a.values) a.closed a.usable };
 }
+
+/// The solver whose users' constraints come in boxes.
+pub type BoxSolver = Solver<Box<dyn UserConstraint>>;
 
 /// A model of nothing.
 fn empty_model(alloc: Global) -> term_model::Model
@@ -70,10 +79,10 @@ fn no_values(alloc: Global) -> Values {
     }
 }
 
-impl Solver {
+impl<U: LocalConstraint> Solver<U> {
     /// A solver without variables, which is open. Its ids carry its number.
-    #[tactic(auto, using(solver_models::proofs::KeptLaws::empty_kept))]
-    pub fn new(alloc: Global, number: u32) -> Solver
+    #[tactic(auto, using(crate::proofs::UserLaws::no_rules, crate::proofs::UserLaws::empty_with))]
+    pub fn new(alloc: Global, number: u32) -> Solver<U>
         ensures { IsNew number result }
     {
         Solver {
@@ -81,6 +90,7 @@ impl Solver {
             number,
             model: empty_model(alloc),
             assignment: Vec::new(alloc),
+            users: PostedUsers::new(alloc),
             marks: Vec::new(alloc),
             terms: None,
             values: no_values(alloc),

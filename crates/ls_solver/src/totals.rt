@@ -12,8 +12,9 @@ use crate::solver::Solver;
 use cbl_base::{NoMemory, Place, RunFault};
 use solver_models::{ObjectiveId, SystemId, TotalId, number_at, push_total, totals_in};
 use term_model::{Side, totals_by};
+use user_constraint::LocalConstraint;
 
-impl Solver {
+impl<U: LocalConstraint> Solver<U> {
     /// Whether a system or an objective is this solver's.
     pub fn owns_total(&self, k: TotalId) -> bool
         ensures { result ≡ is_own_total self.now k }

@@ -3,7 +3,7 @@ ghost use Rattle.std.specs.Prelude.{◌≡◌, map, option_map};
 ghost use Rattle.checked_tree.specs.Shape.{shape_of, shape_of_link, shape_of_generator, optional, seen, whole, wholes, rows};
 ghost use Rattle.comet_meaning.specs.Built as built;
 
-use checked_tree::{Builtin, Form, Generator, Link, Method, Typed};
+use checked_tree::{Form, Generator, Link, Method, Typed};
 
 fn is_built_method(method: Method) -> bool
     ensures { result ≡ built.is_built_method method }
@@ -35,12 +35,6 @@ fn is_built_method(method: Method) -> bool
             | Method::GetMove
             | Method::Restore
     )
-}
-
-fn is_built_builtin(builtin: Builtin) -> bool
-    ensures { result ≡ built.is_built_builtin builtin }
-{
-    !matches!(builtin, Builtin::User)
 }
 
 /// Whether it holds only forms that run by now.
@@ -82,9 +76,7 @@ fn is_built_expression(form: &Form) -> bool
         } => are_built_generators(generators)
             && is_built_condition(condition)
             && is_built_part(body),
-        Form::Builtin { builtin, arguments } => {
-            is_built_builtin(*builtin) && are_built_parts(arguments)
-        }
+        Form::Builtin { arguments, .. } => are_built_parts(arguments),
         Form::Call { arguments, .. } => are_built_parts(arguments),
         Form::Method {
             method,

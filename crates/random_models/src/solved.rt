@@ -8,6 +8,7 @@ use ls_events::VarChange;
 use ls_solver::{Solver, SolverFault};
 use std::alloc::Global;
 use term_model::{Term, VarKind};
+use user_constraint::LocalConstraint;
 
 /// The number of the solver that all variables are of.
 const SOLVER: u32 = 7;
@@ -93,9 +94,9 @@ fn term_at(
 }
 
 /// Whether a variable got its term; one without a term needs none.
-fn define(
+fn define<U: LocalConstraint>(
     alloc: Global,
-    solver: &mut Solver,
+    solver: &mut Solver<U>,
     model: &[Drawn],
     index: u32,
 ) -> Result<bool, NoMemory> {
@@ -114,7 +115,11 @@ fn define(
 }
 
 /// Whether a variable got this term.
-fn define_by(solver: &mut Solver, x: VarId, term: Term) -> Result<bool, NoMemory> {
+fn define_by<U: LocalConstraint>(
+    solver: &mut Solver<U>,
+    x: VarId,
+    term: Term,
+) -> Result<bool, NoMemory> {
     if !solver.usable() {
         return Ok(false);
     }
@@ -126,9 +131,9 @@ fn define_by(solver: &mut Solver, x: VarId, term: Term) -> Result<bool, NoMemory
 }
 
 /// Whether all variables are made, and defined in this order.
-fn build(
+fn build<U: LocalConstraint>(
     alloc: Global,
-    solver: &mut Solver,
+    solver: &mut Solver<U>,
     model: &[Drawn],
     order: &[u32],
 ) -> Result<bool, NoMemory> {
@@ -155,7 +160,7 @@ fn are_named(found: &[VarId], wanted: &[u32]) -> bool {
 }
 
 /// The value of a variable, where it has one.
-fn value_of(solver: &Solver, x: VarId) -> Option<i64> {
+fn value_of<U: LocalConstraint>(solver: &Solver<U>, x: VarId) -> Option<i64> {
     if !solver.usable() {
         return None;
     }
@@ -166,7 +171,7 @@ fn value_of(solver: &Solver, x: VarId) -> Option<i64> {
 }
 
 /// Whether each variable has this value.
-fn has_values(solver: &Solver, wanted: &[i64]) -> bool {
+fn has_values<U: LocalConstraint>(solver: &Solver<U>, wanted: &[i64]) -> bool {
     for index in 0..index_of(wanted.len()) {
         if value_of(solver, id(index)) != wanted.get(index as usize).copied() {
             return false;
@@ -176,7 +181,7 @@ fn has_values(solver: &Solver, wanted: &[i64]) -> bool {
 }
 
 /// What a stop of a solver is, where plain recursion gives this answer.
-fn stopped(solver: &Solver, stop: &SolverFault, wanted: &Answer) -> Seen {
+fn stopped<U: LocalConstraint>(solver: &Solver<U>, stop: &SolverFault, wanted: &Answer) -> Seen {
     match stop {
         SolverFault::Cyclic(found) => match wanted {
             Answer::Cycle(path) if are_named(found, path) => Seen::Cycle,
@@ -193,7 +198,7 @@ fn stopped(solver: &Solver, stop: &SolverFault, wanted: &Answer) -> Seen {
 }
 
 /// What a solver's values are, where plain recursion gives this answer.
-fn valued(solver: &Solver, wanted: &Answer) -> Seen {
+fn valued<U: LocalConstraint>(solver: &Solver<U>, wanted: &Answer) -> Seen {
     match wanted {
         Answer::Values(values) if has_values(solver, values) => Seen::Values,
         _ => Seen::Other,
@@ -201,7 +206,7 @@ fn valued(solver: &Solver, wanted: &Answer) -> Seen {
 }
 
 /// How the solver closes, where plain recursion gives this answer.
-fn closes(solver: &mut Solver, wanted: &Answer) -> Seen {
+fn closes<U: LocalConstraint>(solver: &mut Solver<U>, wanted: &Answer) -> Seen {
     if !solver.usable() || !solver.has_defined_sets() {
         return Seen::Other;
     }
@@ -229,7 +234,12 @@ fn are_changes(changes: &[VarChange], old: &[i64], new: &[i64]) -> bool {
 }
 
 /// What a commit is that told these changes, where plain recursion gives this answer.
-fn told(solver: &Solver, changes: &[VarChange], old: &[i64], wanted: &Answer) -> Seen {
+fn told<U: LocalConstraint>(
+    solver: &Solver<U>,
+    changes: &[VarChange],
+    old: &[i64],
+    wanted: &Answer,
+) -> Seen {
     match wanted {
         Answer::Values(new) if are_changes(changes, old, new) => valued(solver, wanted),
         _ => Seen::Other,
@@ -237,7 +247,13 @@ fn told(solver: &Solver, changes: &[VarChange], old: &[i64], wanted: &Answer) ->
 }
 
 /// How a free variable gets a number, where this is what the values were and what they come to.
-fn commits(solver: &mut Solver, x: VarId, number: i64, old: &[i64], wanted: &Answer) -> Seen {
+fn commits<U: LocalConstraint>(
+    solver: &mut Solver<U>,
+    x: VarId,
+    number: i64,
+    old: &[i64],
+    wanted: &Answer,
+) -> Seen {
     if !solver.usable() {
         return Seen::Other;
     }
@@ -283,9 +299,9 @@ fn drawn_free(draws: &mut Draws, model: &[Drawn]) -> Option<u32> {
 }
 
 /// Gives free variables numbers, to the first fault or difference, and tells how the last one went.
-fn follow(
+fn follow<U: LocalConstraint>(
     alloc: Global,
-    solver: &mut Solver,
+    solver: &mut Solver<U>,
     draws: &mut Draws,
     model: &[Drawn],
     order: &[u32],
@@ -311,11 +327,15 @@ fn follow(
 }
 
 /// Draws a model, and tells how a solver went on with it.
-pub fn compare(alloc: Global, draws: &mut Draws, model: &[Drawn]) -> Result<Seen, NoMemory> {
+pub fn compare<U: LocalConstraint>(
+    alloc: Global,
+    draws: &mut Draws,
+    model: &[Drawn],
+) -> Result<Seen, NoMemory> {
     let order = drawn_order(alloc, draws, index_of(model.len()))?;
     let free = starts(alloc, model)?;
     let wanted = comes_to(alloc, model, &free, &order)?;
-    let mut solver = Solver::new(alloc, SOLVER);
+    let mut solver = Solver::<U>::new(alloc, SOLVER);
     if !build(alloc, &mut solver, model, &order)? {
         return Ok(Seen::Other);
     }

@@ -1,5 +1,5 @@
 //! Methods of ranges, sets, arrays, inputs, solvers, constraint systems, objectives, distributions, selectors and solutions.
-ghost use Rattle.std.specs.Prelude.{◌≡◌, ℕ, List, map, pos, IfOk, IfErr};
+ghost use Rattle.std.specs.Prelude.{◌≡◌, map, pos, IfOk, IfErr};
 ghost use Rattle.cbl_base.specs.Arithmetic.{exact};
 ghost use Rattle.cbl_base.specs.Sets.{is_member, with_member, without_member};
 ghost use Rattle.checked_tree.specs.Shape.{seen, whole};
@@ -7,6 +7,7 @@ ghost use Rattle.comet_meaning.specs.Methods.{fitting_number, method_value, put_
 ghost use Rattle.comet_meaning.specs.State as states;
 ghost use Rattle.comet_meaning.specs.Values.{bounds_of, members_of, number_of, size_of};
 ghost use Rattle.run_solvers.specs.Stopping.{IsEndOrMemory};
+ghost use Rattle.run_outside.specs.Told.{Told};
 ghost use Rattle.run_values.specs.Did.{Did, IsFaultOrMemory};
 ghost use Rattle.run_values.specs.Views.{value_seen};
 ghost use Rattle.run_values.specs.declared.stop.Stop.TheVariants.{NoMemory};
@@ -18,7 +19,7 @@ use crate::systems::{assign_delta, swap_delta, violations, whole_value};
 use crate::variables::{close, domain_of};
 use cbl_base::{IntSet, Place, RunFault};
 use checked_tree::{Form, Method, Slot, Typed};
-use run_state::State;
+use run_state::{Outside, State};
 use run_values::{Stop, Value};
 use std::alloc::Global;
 
@@ -27,15 +28,17 @@ use std::alloc::Global;
 /// of `close`, `getDomain` those of `domain_of`, questions about systems and objectives those of `systems`, `get` and `getMove`
 /// those of a state's `draw` and `get_move`, and `restore` those of `restore`. A method of what isn't run yet gives nothing, and so do `post` and a method with another number of arguments.
 #[tactic(auto, using(crate::proofs::MethodStops::stops_so), unfolding(comet_meaning::specs::Methods::method_value))]
-pub fn method(
+pub fn method<O: Outside>(
     s: &mut State,
+    out: &mut O,
     at: Place,
     method: Method,
     object: &Typed,
     value: &Value,
     arguments: &[Value],
 ) -> Result<Value, Stop>
-    ensures did { (printed : List ℕ) → Did value_seen result (state_seen s.new printed) (method_value at method (whole (seen object.now)) (value_seen value.now) (map value_seen arguments.now) (state_seen s.old printed)) }
+    ensures did { Did value_seen result (state_seen s.new (O.told out.new)) (method_value at method (whole (seen object.now)) (value_seen value.now) (map value_seen arguments.now) (state_seen s.old (O.told out.old))) }
+    ensures printed { (O.told out.new).printed ≡ (O.told out.old).printed }
     ensures stop { IfErr result IsEndOrMemory }
     ensures fuel { s.new.fuel ≡ s.old.fuel }
 {
@@ -58,19 +61,19 @@ pub fn method(
         },
         Method::ArraySize => Ok(s.array_size(value)),
         Method::ReadInt => s.next_number(at, value),
-        Method::Close => close(s, at, value),
-        Method::Domain => domain_of(s, at, value),
-        Method::Violations => violations(s, at, value, arguments),
-        Method::SystemAssignDelta => assign_delta(s, at, value, arguments),
-        Method::SystemSwapDelta => swap_delta(s, at, value, arguments),
-        Method::ObjectiveValue => whole_value(s, at, value),
-        Method::ObjectiveEvaluation => whole_value(s, at, value),
-        Method::ObjectiveAssignDelta => assign_delta(s, at, value, arguments),
-        Method::ObjectiveSwapDelta => swap_delta(s, at, value, arguments),
+        Method::Close => close(out, at, value),
+        Method::Domain => domain_of(out, at, value),
+        Method::Violations => violations(out, at, value, arguments),
+        Method::SystemAssignDelta => assign_delta(out, at, value, arguments),
+        Method::SystemSwapDelta => swap_delta(out, at, value, arguments),
+        Method::ObjectiveValue => whole_value(out, at, value),
+        Method::ObjectiveEvaluation => whole_value(out, at, value),
+        Method::ObjectiveAssignDelta => assign_delta(out, at, value, arguments),
+        Method::ObjectiveSwapDelta => swap_delta(out, at, value, arguments),
         Method::Draw => s.draw(at, value),
         Method::HasMove => Ok(s.has_move(value)),
         Method::GetMove => s.get_move(at, value),
-        Method::Restore => restore(s, at, value),
+        Method::Restore => restore(s, out, at, value),
         Method::Post
         | Method::PostPart
         | Method::Report
@@ -117,7 +120,7 @@ fn has_member(set: &Value, member: &Value) -> bool
 /// Makes the number a member of the set in a name's cell. Of an object that is no name nothing is changed.
 #[tactic(auto, unfolding(checked_tree::specs::Shape::shape_of))]
 fn insert(s: &mut State, object: &Typed, member: &Value) -> Result<Value, Stop>
-    ensures did { (printed : List ℕ) → Did value_seen result (state_seen s.new printed) (put_set (whole (seen object.now)) (with_member (number_of (value_seen member.now))) (state_seen s.old printed)) }
+    ensures did { (told : Told) → Did value_seen result (state_seen s.new told) (put_set (whole (seen object.now)) (with_member (number_of (value_seen member.now))) (state_seen s.old told)) }
     ensures memory { IfErr result (λ stop. stop ≡ NoMemory) }
     ensures fuel { s.new.fuel ≡ s.old.fuel }
 {
@@ -130,7 +133,7 @@ fn insert(s: &mut State, object: &Typed, member: &Value) -> Result<Value, Stop>
 /// Makes the number no member of the set in a name's cell. Of an object that is no name nothing is changed.
 #[tactic(auto, unfolding(checked_tree::specs::Shape::shape_of))]
 fn delete(s: &mut State, object: &Typed, member: &Value) -> Result<Value, Stop>
-    ensures did { (printed : List ℕ) → Did value_seen result (state_seen s.new printed) (put_set (whole (seen object.now)) (without_member (number_of (value_seen member.now))) (state_seen s.old printed)) }
+    ensures did { (told : Told) → Did value_seen result (state_seen s.new told) (put_set (whole (seen object.now)) (without_member (number_of (value_seen member.now))) (state_seen s.old told)) }
     ensures memory { IfErr result (λ stop. stop ≡ NoMemory) }
     ensures fuel { s.new.fuel ≡ s.old.fuel }
 {
@@ -142,7 +145,7 @@ fn delete(s: &mut State, object: &Typed, member: &Value) -> Result<Value, Stop>
 
 /// Makes the number a member of the set in this cell.
 fn insert_at(s: &mut State, slot: Slot, member: &Value) -> Result<Value, Stop>
-    ensures did { (printed : List ℕ) → Did value_seen result (state_seen s.new printed) (set_changed slot (with_member (number_of (value_seen member.now))) (state_seen s.old printed)) }
+    ensures did { (told : Told) → Did value_seen result (state_seen s.new told) (set_changed slot (with_member (number_of (value_seen member.now))) (state_seen s.old told)) }
     ensures memory { IfErr result (λ stop. stop ≡ NoMemory) }
     ensures fuel { s.new.fuel ≡ s.old.fuel }
 {
@@ -154,7 +157,7 @@ fn insert_at(s: &mut State, slot: Slot, member: &Value) -> Result<Value, Stop>
 
 /// Makes the number no member of the set in this cell.
 fn delete_at(s: &mut State, slot: Slot, member: &Value) -> Result<Value, Stop>
-    ensures did { (printed : List ℕ) → Did value_seen result (state_seen s.new printed) (set_changed slot (without_member (number_of (value_seen member.now))) (state_seen s.old printed)) }
+    ensures did { (told : Told) → Did value_seen result (state_seen s.new told) (set_changed slot (without_member (number_of (value_seen member.now))) (state_seen s.old told)) }
     ensures memory { IfErr result (λ stop. stop ≡ NoMemory) }
     ensures fuel { s.new.fuel ≡ s.old.fuel }
 {

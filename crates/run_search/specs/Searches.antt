@@ -1,5 +1,5 @@
 -- What the code keeps of a search, as the meaning of programs has it. A rule of this project.
-use Rattle.std.specs.Prelude.{map}
+use Rattle.std.specs.Prelude.{List, Option, map, option_map}
 use Rattle.checked_tree.specs.Tasks.{work_of_act}
 use Rattle.comet_meaning.specs.Search as meant
 use Rattle.ls_events.specs.declared.handlers.Handler.{Handler}
@@ -19,6 +19,9 @@ closure_seen c = record { place = c.body.value.value.place; work = work_of_act c
 abbrev pub move_seen : KeptMove → meant.KeptMove
 move_seen m = record { delta = m.delta; closure = closure_seen m.closure }
 
+unfoldable pub moves_seen : List (Option KeptMove) → List (Option meant.KeptMove)
+moves_seen ms = map (option_map move_seen) ms
+
 abbrev pub solution_seen : Solution → meant.Snapshot
 solution_seen x = record { solver = x.solver; values = x.values }
 
@@ -31,7 +34,7 @@ handler_seen h = record { variable = h.var; reaction = h.closure }
 abbrev pub event_seen : Event → meant.Event
 event_seen e = record { reaction = e.closure; old = e.old; new = e.new }
 
-abbrev pub search_seen : Search → meant.Search
+unfoldable pub search_seen : Search → meant.Search
 search_seen x = record {
   seed = x.seed;
   words = x.draws;

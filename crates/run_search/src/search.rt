@@ -1,5 +1,7 @@
 //! What a search keeps beside names, arrays and solvers: statements that run later, words, solutions, handlers, and the
 //! events that wait for them.
+#![tactic(auto, unfolding(crate::specs::Searches::search_seen))]
+
 ghost use Rattle.std.specs.Prelude.{◌≡◌, ◌<◌, ◌≤◌, ◌^◌, ℕ, List, IfErr, IfOk, OnOk, drop, length, map, option_map, slice_get, slice_index_or};
 ghost use Rattle.comet_meaning.specs.Changes.{Change, queued_events, with_events};
 ghost use Rattle.comet_meaning.specs.Draws.{without_word};
@@ -111,7 +113,7 @@ impl Search {
     }
 
     /// A number below `n`, of the next word. There must be a number below `n`, and `n` at most 2^64.
-    #[tactic(auto, unfolding(comet_meaning::specs::Words::share))]
+    #[tactic(auto, unfolding(comet_meaning::specs::Words::share, crate::specs::Searches::search_seen))]
     pub fn below(&mut self, n: u128) -> u64
         requires some { 1 ≤ n }
         requires most { n ≤ 2 ^ 64 }

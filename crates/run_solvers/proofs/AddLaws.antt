@@ -70,7 +70,7 @@ module _ (S T : solvers.SolverState) (names : List (List ℕ)) (waiting : Option
 
   after_seen : waiting ≡ None → Declares S T d z → solver_seen T (names ++ name ∷ []) waiting ≡ with_variable m d name z
   after_seen none h =
-      rw (none, h.assignment, h.closed, gets_variable S.model T.model d h.model.vars h.model.defs h.model.systems h.model.objectives h.model.posted) refl
+      rw (none, h.assignment, h.rules, h.closed, gets_variable S.model T.model d h.model.vars h.model.defs h.model.systems h.model.objectives h.model.posted) refl
 
   pub declares_ok : (number : ℕ) → variable_refusal S ≡ None → IsWhole number S names waiting → Declares S T d z → declared_one at d name z m ≡ Ok (solver_seen T (names ++ name ∷ []) waiting)
   declares_ok number none whole h =

@@ -16,7 +16,7 @@ use Rattle.ls_solver.specs.declared.fault.SolverFault.{SolverFault}
 use Rattle.ls_solver.specs.declared.fault.SolverFault.TheVariants as faults
 use Rattle.solver_models.specs.declared.totals.SystemId.{SystemId}
 use Rattle.solver_models.specs.declared.totals.TotalId.{TotalId}
-use Rattle.term_model.specs.Users.{no_users}
+use Rattle.posted_users.specs.KeptRule.{users_of}
 use Rattle.term_model.specs.declared.posting.Side.TheVariants.{Systems, Objectives}
 use Rattle.model_values.specs.Delta.{value_of}
 use Rattle.model_values.specs.Fresh.{whole_by}
@@ -100,7 +100,7 @@ module _ (S : solvers.SolverState) (names : List (List ℕ)) (waiting : Option (
 
   pub asks_delta : (xs : List VarId) (move : Move) → asking at k.solver (whole_of k) xs (delta_answer m (whole_of k) move) m s ≡ give_asked at (delta_reply S k xs move) s
   asks_delta xs move =
-      asked_seen xs (delta_answer m (whole_of k) move) ∙ ap (λ answer. give_asked at (replied (reply_refusal S k xs) answer) s) (same_delta no_users S.model S.assignment (whole_of k) move)
+      asked_seen xs (delta_answer m (whole_of k) move) ∙ ap (λ answer. give_asked at (replied (reply_refusal S k xs) answer) s) (same_delta (users_of S.rules) S.model S.assignment (whole_of k) move)
 
   -- of a system
 
@@ -116,11 +116,11 @@ module _ (S : solvers.SolverState) (names : List (List ℕ)) (waiting : Option (
   pub asks_violations : (x : VarId) → k.side ≡ Systems → asking at k.solver (whole_of k) (x ∷ []) (violations_answer m (whole_of k) x) m s ≡ give_asked at (variable_reply S system x) s
   asks_violations x e =
       asked_seen (x ∷ []) (violations_answer m (whole_of k) x)
-      ∙ ap (λ answer. give_asked at (replied (reply_refusal S k (x ∷ [])) answer) s) (system_answer x e ∙ same_variable_violations no_users S.model S.assignment k.index x.index)
+      ∙ ap (λ answer. give_asked at (replied (reply_refusal S k (x ∷ [])) answer) s) (system_answer x e ∙ same_variable_violations (users_of S.rules) S.model S.assignment k.index x.index)
       ∙ ap (λ refusal. give_asked at (replied refusal (variable_violations)) s) (system_refusal (x ∷ []) e)
     where
       variable_violations : Result ℤ AskStop
-      variable_violations = shares.variable_violations_of no_users S.model S.assignment k.index x.index
+      variable_violations = shares.variable_violations_of (users_of S.rules) S.model S.assignment k.index x.index
 
   -- of an objective
 
@@ -149,9 +149,9 @@ module _ (S : solvers.SolverState) (names : List (List ℕ)) (waiting : Option (
       valuing at (whole_of k) m s ≡ (unless b at NotClosed >>= λ _. unless c at WrongSolver >>= λ _. give_or_met value >>= λ z. give (values.Number z)) s
   unfolding valuing
   valued_by b c value shut owned is =
-      ap (λ d. (unless d at NotClosed >>= λ _. unless (has_whole m (whole_of k)) at WrongSolver >>= λ _. give_or_met (value_of no_users m.model m.assignment (whole_of k)) >>= λ z. give (values.Number z)) s) shut
-      ∙ ap (λ d. (unless b at NotClosed >>= λ _. unless d at WrongSolver >>= λ _. give_or_met (value_of no_users m.model m.assignment (whole_of k)) >>= λ z. give (values.Number z)) s) (has_seen S names waiting k own ∙ owned)
-      ∙ ap (λ v. (unless b at NotClosed >>= λ _. unless c at WrongSolver >>= λ _. give_or_met v >>= λ z. give (values.Number z)) s) (same_value_of no_users S.model S.assignment (whole_of k) ∙ is)
+      ap (λ d. (unless d at NotClosed >>= λ _. unless (has_whole m (whole_of k)) at WrongSolver >>= λ _. give_or_met (value_of (users_of m.rules) m.model m.assignment (whole_of k)) >>= λ z. give (values.Number z)) s) shut
+      ∙ ap (λ d. (unless b at NotClosed >>= λ _. unless d at WrongSolver >>= λ _. give_or_met (value_of (users_of m.rules) m.model m.assignment (whole_of k)) >>= λ z. give (values.Number z)) s) (has_seen S names waiting k own ∙ owned)
+      ∙ ap (λ v. (unless b at NotClosed >>= λ _. unless c at WrongSolver >>= λ _. give_or_met v >>= λ z. give (values.Number z)) s) (same_value_of (users_of S.rules) S.model S.assignment (whole_of k) ∙ is)
 
   read_by : (b c : Bool) (f : RunFault) → refusal_by b (c && true) ≡ Some f → (unless b at NotClosed >>= λ _. unless c at WrongSolver >>= λ _. give_or_met (fresh_total S k) >>= λ z. give (values.Number z)) s ≡ Halted (Faulted at f) (left s)
   read_by true true f e = let no_ : None ≡ Some f = e in cc

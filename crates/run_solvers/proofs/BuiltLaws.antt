@@ -43,7 +43,7 @@ not_user (User n) h = absurd (h n refl)
 not_user op h = refl
 
 -- ---- terms in a row
-greatest_more : (ns : List ℕ) (n : ℕ) → greatest (ns ++ n ∷ []) ≡ max (greatest ns) n
+pub greatest_more : (ns : List ℕ) (n : ℕ) → greatest (ns ++ n ∷ []) ≡ max (greatest ns) n
 greatest_more [] n = grind arith
 greatest_more (m ∷ ns) n = let more = greatest_more ns n in grind (arith, more)
 

@@ -13,7 +13,7 @@ use Rattle.ls_solver.specs.State as solvers
 use Rattle.ls_solver.specs.declared.fault.SolverFault.TheVariants as faults
 use Rattle.model_values.specs.Fresh.{fresh_of}
 use Rattle.term_model.specs.Definitions.{definition_of}
-use Rattle.term_model.specs.Users.{no_users}
+use Rattle.posted_users.specs.KeptRule.{users_of}
 use Rattle.term_model.specs.Wellformed.{HasDefinedSets}
 use Rattle.comet_meaning.specs.Models as meant
 use Rattle.comet_meaning.specs.Models.{owns, exchanged}
@@ -51,7 +51,7 @@ module _ (S T : solvers.SolverState) (names : List (List ℕ)) (moves : List (Va
   committed_ok changes c = ap evaluated same_next ∙ by S.closed refl ∙ ap (λ (U : solvers.SolverState). Ok (solver_seen U names None)) (sym c.1)
     where
       by : (b : Bool) → S.closed ≡ b → evaluated next ≡ Ok next
-      by true e = by_closed true e ∙ valued next (fresh_values next) (ap is_ok (fresh_seen after names None) ∙ subst (λ (U : solvers.SolverState). is_ok (fresh_of no_users U.model U.assignment) ≡ true) c.1 (c.2.valued e))
+      by true e = by_closed true e ∙ valued next (fresh_values next) (ap is_ok (fresh_seen after names None) ∙ subst (λ (U : solvers.SolverState). is_ok (fresh_of (users_of U.rules) U.model U.assignment) ≡ true) c.1 (c.2.valued e))
       by false e = by_closed false e
 
   committed_fault : (place : Place) (fault : RunFault) → Fails S moves T (faults.At place fault) → evaluated asked ≡ Err (Faulted place fault)

@@ -39,13 +39,14 @@ use Rattle.run_solvers.specs.Kept.{AreWaiting, HasDefinedOthers, IsWhole}
 use Rattle.run_solvers.specs.Makes.{Ends}
 use Rattle.run_solvers.specs.Refused.{sized_one}
 use Rattle.run_solvers.specs.Refusals.{StopsAs}
+use Rattle.posted_users.specs.KeptRule.{KeptRule}
 use Rattle.run_solvers.specs.Views.{solver_seen}
 use Rattle.run_solvers.proofs.SeenLaws.{owns_seen, names_seen, defined_seen}
 
 -- a solver is seen by its parts
-pub seen_by : (T : solvers.SolverState) (names : List (List ℕ)) (waiting : Option (List (Option ℤ))) (M : Model) (a : List ℤ) (closed : Bool) → plain_model T.model ≡ M → T.assignment ≡ a → T.closed ≡ closed →
-    solver_seen T names waiting ≡ record (solver_seen (record T { assignment = a; closed = closed }) names waiting) { model = M }
-seen_by T names waiting M a closed e f g = rw (e, f, g) refl
+pub seen_by : (T : solvers.SolverState) (names : List (List ℕ)) (waiting : Option (List (Option ℤ))) (M : Model) (a : List ℤ) (rules : List KeptRule) (closed : Bool) → plain_model T.model ≡ M → T.assignment ≡ a → T.rules ≡ rules → T.closed ≡ closed →
+    solver_seen T names waiting ≡ record (solver_seen (record T { assignment = a; rules = rules; closed = closed }) names waiting) { model = M }
+seen_by T names waiting M a rules closed e f r g = rw (e, f, r, g) refl
 
 -- ---- before the size
 abbrev early : Bool → Bool → Bool → Option RunFault
@@ -131,8 +132,8 @@ module _ (S T : solvers.SolverState) (names : List (List ℕ)) (waiting : Option
 
   after_seen : Defines S T (record { var = x; term = u }) → solver_seen T names waiting ≡ record held { model = with_definition held.model x (plain_term u) }
   after_seen d =
-      seen_by T names waiting (with_definition (plain_model S.model) x (plain_term u)) S.assignment S.closed
-      (gets_definition S.model T.model (record { var = x; term = u }) d.model.vars d.model.defs d.model.systems d.model.objectives d.model.posted) d.assignment d.closed
+      seen_by T names waiting (with_definition (plain_model S.model) x (plain_term u)) S.assignment S.rules S.closed
+      (gets_definition S.model T.model (record { var = x; term = u }) d.model.vars d.model.defs d.model.systems d.model.objectives d.model.posted) d.assignment d.rules d.closed
 
   pub defines_ok : define_refusal S x u ≡ None → Defines S T (record { var = x; term = u }) → sized_one at x (plain_term u) held ≡ Ok (solver_seen T names waiting)
   defines_ok none d = by (nat_le (length (distinct_with (distinct_subterms S.model) u)) MAX_TERM_NODES) refl

@@ -8,7 +8,7 @@ use Rattle.ls_solver.specs.Ids.{has_definition, is_own}
 use Rattle.ls_solver.specs.Reading.{fresh_value}
 use Rattle.ls_solver.specs.State as solvers
 use Rattle.ls_solver.proofs.ReadLaws.{free_value, given_within}
-use Rattle.term_model.specs.Users.{no_users}
+use Rattle.posted_users.specs.KeptRule.{users_of}
 use Rattle.run_solvers.proofs.CommitLaws.{free_defined}
 
 number_at : (a : List ℤ) (i : ℕ) (z : ℤ) → option_map (λ y. Int y) (slice_get a i) ≡ Some (Int z) → z ≡ slice_index_or a i (pos 0)
@@ -18,4 +18,4 @@ number_at (y ∷ a) (suc i) z e = number_at a i z e
 
 pub free_now : (S : solvers.SolverState) (x : VarId) (z : ℤ) → is_own S x ≡ true → has_definition S.model x.index ≡ false → fresh_value S x.index ≡ Some (Int z) → z ≡ slice_index_or S.assignment x.index (pos 0)
 free_now S x z own free fresh =
-    number_at S.assignment x.index z (sym (free_value no_users S.model S.assignment x.index (given_within S.number (length S.model.vars.items) x own) (free_defined S x.index free)) ∙ fresh)
+    number_at S.assignment x.index z (sym (free_value (users_of S.rules) S.model S.assignment x.index (given_within S.number (length S.model.vars.items) x own) (free_defined S x.index free)) ∙ fresh)

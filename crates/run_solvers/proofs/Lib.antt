@@ -10,6 +10,7 @@ pub mod CycleLaws
 pub mod DefineLaws
 pub mod FirstLaws
 pub mod FitLaws
+pub mod FittingLaws
 pub mod FoundSolvers
 pub mod FreeLaws
 pub mod NewLaws
@@ -23,5 +24,6 @@ pub mod TotalActs
 pub mod TotalLaws
 pub mod TotalStops
 pub mod TriedLaws
+pub mod UserLaws
 pub mod ValueLaws
 pub mod WaitingLaws

@@ -1,5 +1,6 @@
 -- A new solver is the one that the meaning of programs begins with.
 use Rattle.std.proofs.Common.{◌≡◌, ℕ, ℤ, Bool, List, [], None, length, sym, ap, ◌∙◌, map, arith}
+use Rattle.posted_users.specs.KeptRule.{KeptRule}
 use Rattle.ls_solver.specs.State as solvers
 use Rattle.ls_solver.specs.State.{IsNew}
 use Rattle.model_view.specs.Building.{empty_model}
@@ -33,14 +34,15 @@ empty_plain M a b c d e =
     ∙ ap (λ (objectives : List Total). plain_of [] [] [] objectives M.posted.items) d
     ∙ ap (λ (posted : List Posted). plain_of [] [] [] [] posted) e
 
-abbrev seen_of : Model → List ℤ → Bool → SolverState
-seen_of M assignment closed = record { model = M; assignment = assignment; closed = closed; names = []; waiting = None }
+abbrev seen_of : Model → List ℤ → List KeptRule → Bool → SolverState
+seen_of M assignment rules closed = record { model = M; assignment = assignment; closed = closed; rules = rules; names = []; waiting = None }
 
 pub new_seen : (number : ℕ) (S : solvers.SolverState) → IsNew number S → solver_seen S [] None ≡ new_solver
 new_seen number S new =
-    ap (λ (M : Model). seen_of M S.assignment S.closed) (empty_plain S.model new.vars new.defs new.systems new.objectives new.posted)
-    ∙ ap (λ (a : List ℤ). seen_of empty_model a S.closed) new.assignment
-    ∙ ap (λ (b : Bool). seen_of empty_model [] b) new.closed
+    ap (λ (M : Model). seen_of M S.assignment S.rules S.closed) (empty_plain S.model new.vars new.defs new.systems new.objectives new.posted)
+    ∙ ap (λ (a : List ℤ). seen_of empty_model a S.rules S.closed) new.assignment
+    ∙ ap (λ (rules : List KeptRule). seen_of empty_model [] rules S.closed) new.rules
+    ∙ ap (λ (b : Bool). seen_of empty_model [] [] b) new.closed
 
 pub new_kept : (number : ℕ) (S : solvers.SolverState) → IsNew number S → IsWhole number S [] None × HasDefinedSets S.model
 new_kept number S new = (

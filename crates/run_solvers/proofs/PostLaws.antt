@@ -64,7 +64,7 @@ late_made at false false d made e = let no_ : Some WrongSolver ≡ None = e in c
 late_made at false true false made e = let no_ : Some OutOfRange ≡ None = e in cc
 late_made at false true true made e = refl
 
-early_open : (b c d : Bool) → early b c d ≡ None → (b ≡ false) × (c ≡ true) × (d ≡ false)
+pub early_open : (b c d : Bool) → early b c d ≡ None → (b ≡ false) × (c ≡ true) × (d ≡ false)
 early_open true c d e = let no_ : Some AlreadyClosed ≡ None = e in cc
 early_open false false d e = let no_ : Some WrongSolver ≡ None = e in cc
 early_open false true true e = let no_ : Some OutOfRange ≡ None = e in cc
@@ -161,7 +161,7 @@ module _ (S T : solvers.SolverState) (names : List (List ℕ)) (waiting : Option
 
   after_seen : Adds S T k x → solver_seen T names waiting ≡ record held { model = with_member held.model (whole_of k) (plain_member x) }
   after_seen d =
-      seen_by T names waiting (with_member (plain_model S.model) (whole_of k) (plain_member x)) S.assignment S.closed (got_member S.model T.model k.side k.index x d.model) d.assignment d.closed
+      seen_by T names waiting (with_member (plain_model S.model) (whole_of k) (plain_member x)) S.assignment S.rules S.closed (got_member S.model T.model k.side k.index x d.model) d.assignment d.rules d.closed
 
   pub adds_ok : member_refusal S k x.term x.weight ≡ None → Adds S T k x → sized_member at (whole_of k) (plain_member x) held ≡ Ok (solver_seen T names waiting)
   adds_ok none d = by fits refl

@@ -16,7 +16,7 @@ use Rattle.model_view.proofs.Dependencies.{same_dependencies}
 use Rattle.model_view.proofs.PlainModels.{plain_vars, same_definition, same_outcomes, same_values}
 use Rattle.model_view.proofs.PlainParts.{same_passing}
 use Rattle.term_model.specs.Kinds.{kinds_in}
-use Rattle.term_model.specs.Users.{no_users}
+use Rattle.posted_users.specs.KeptRule.{users_of}
 use Rattle.term_model.specs.declared.term.Term.{Term}
 use Rattle.term_model.specs.declared.term.Term.TheOpen.{Term-F}
 use Rattle.term_model.specs.declared.term.Term.TheFolds.{fold-Term, fold-roll-Term}
@@ -60,12 +60,12 @@ module _ (S : solvers.SolverState) (names : List (List ℕ)) (waiting : Option (
   pub names_seen : (k : ℕ) (t : Term) → k ≡ S.number → all_variables (owns k seen) (plain_term t) ≡ names_only (is_own S) t
   names_seen k t e = same_passing (owns k seen) t ∙ same_tests (owns k seen) t ∙ ap (λ (p : VarId → Bool). names_only p t) (fun_ext (λ x. owns_seen k x e))
 
-  pub fresh_seen : fresh_values seen ≡ fresh_of no_users S.model S.assignment
+  pub fresh_seen : fresh_values seen ≡ fresh_of (users_of S.rules) S.model S.assignment
   unfolding fresh_values
-  fresh_seen = same_values no_users S.model S.assignment
+  fresh_seen = same_values (users_of S.rules) S.model S.assignment
 
   pub now_seen : (i : ℕ) → value_now seen i ≡ value_of (fresh_value S i)
-  now_seen i = ap (λ (f : ℕ → Outcome). value_of (f i)) (same_outcomes no_users S.model S.assignment)
+  now_seen i = ap (λ (f : ℕ → Outcome). value_of (f i)) (same_outcomes (users_of S.rules) S.model S.assignment)
 
   pub cycle_seen : cycle_in seen ≡ named_cycle (dependencies S.model)
   cycle_seen = ap named_cycle (same_dependencies S.model)

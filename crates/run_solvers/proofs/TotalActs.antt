@@ -6,7 +6,7 @@ use Rattle.cbl_base.specs.declared.ids.VarId.{VarId}
 use Rattle.cbl_base.specs.declared.place.Place.{Place}
 use Rattle.cbl_base.specs.declared.faults.Limit.TheVariants.{TermNodes}
 use Rattle.cbl_base.specs.declared.faults.RunFault.TheVariants.{AlreadyClosed, NotClosed, OutOfRange, TooMany, WrongSolver}
-use Rattle.term_model.specs.Users.{no_users}
+use Rattle.posted_users.specs.KeptRule.{KeptRule, users_of}
 use Rattle.term_model.specs.declared.posting.Side.TheVariants.{Systems, Objectives}
 use Rattle.term_model.specs.declared.term.Term.{Term}
 use Rattle.model_values.specs.Delta.{value_of}
@@ -23,8 +23,8 @@ use Rattle.comet_meaning.specs.Outcome.{Faulted, Halted, ◌>>=◌, give, give_o
 use Rattle.comet_meaning.specs.Solvers.{SolverState, new_solver}
 use Rattle.comet_meaning.specs.Parts.{solver_at}
 use Rattle.comet_meaning.specs.Models.{owns, has_room}
-use Rattle.comet_meaning.specs.Systems.{adding_objective, adding_sum, adding_system, asking, delta, delta_answer, first_variable, give_asked, has_whole, make_objective, make_sum, make_system, number_for, objective_by, post_to, posted_in, posting, valuing, variable_violations, violations_answer, whole_value}
-use Rattle.run_solvers.specs.Changing.{changed, objective_one, posted_one, refused, total_one}
+use Rattle.comet_meaning.specs.Systems.{adding_objective, adding_sum, adding_system, asking, delta, delta_answer, first_variable, give_asked, has_whole, make_objective, make_sum, make_system, number_for, objective_by, post_to, posted_in, posting, posting_user, post_user_to, user_node, valuing, variable_violations, violations_answer, whole_value, with_rule}
+use Rattle.run_solvers.specs.Changing.{changed, objective_one, posted_one, posted_user_one, refused, total_one}
 use Rattle.run_solvers.proofs.Acts.{tested, tested_not, then_given}
 use Rattle.run_solvers.proofs.FoundSolvers.{IsNoCycle, either}
 
@@ -50,6 +50,13 @@ pub posts : (at : Place) (t : Term) (weight : ℤ) (k : ℕ) (w : Whole) (s : St
 unfolding post_to
 posts at t weight k w s = let m = solver_at s k in then_given (posting at k w t weight m) Nothing k (posted_one at k w t weight m) s (posts_one at k w t weight m s)
 
+pub posts_user : (at : Place) (rule : KeptRule) (ts : List Term) (weight : ℤ) (k : ℕ) (w : Whole) (s : State) → post_user_to at rule ts weight k w s ≡ changed Nothing k (posted_user_one at k w rule ts weight (solver_at s k)) s
+unfolding post_user_to posting_user
+posts_user at rule ts weight k w s =
+    let m = solver_at s k in
+    let t = user_node ts m in
+    let more = with_rule rule m in then_given (posting at k w t weight more) Nothing k (posted_one at k w t weight more) s (posts_one at k w t weight more s)
+
 pub makes_objective : (at : Place) (k : ℕ) (t : Term) (m : SolverState) (s : State) → adding_objective at k t m s ≡ changed (Objective k (length m.model.objectives.items)) k (objective_one at k t m) s
 unfolding adding_objective
 makes_objective at k t m s =
@@ -70,6 +77,9 @@ pub posted_none : (at : Place) (k : ℕ) (w : Whole) (t : Term) (weight : ℤ) (
 posted_none at k w t weight m =
     either m.closed _ _ tt (either (has_whole m w && all_variables (owns k m) t) _ _ (either (int_le (pos 0) weight) _ _ (either (has_room m (number_for m t)) _ _ tt tt) tt) tt)
 
+pub posted_user_none : (at : Place) (k : ℕ) (w : Whole) (rule : KeptRule) (ts : List Term) (weight : ℤ) (m : SolverState) → IsNoCycle (posted_user_one at k w rule ts weight m)
+posted_user_none at k w rule ts weight m = posted_none at k w (user_node ts m) weight (with_rule rule m)
+
 pub objective_none : (at : Place) (k : ℕ) (t : Term) (m : SolverState) → IsNoCycle (objective_one at k t m)
 objective_none at k t m =
     either m.closed _ _ tt (posted_none at k (wholes.Objective (length m.model.objectives.items)) t (pos 1) (record m { model = with_objective m.model at }))
@@ -84,6 +94,17 @@ has_nothing (wholes.Objective i) = search (rules, arith)
 pub posted_nowhere : (at : Place) (k : ℕ) (w : Whole) (t : Term) (weight : ℤ) (m : SolverState) → m ≡ new_solver → posted_one at k w t weight m ≡ refused at WrongSolver
 posted_nowhere at k w t weight m e = rw (e, has_nothing w) refl
 
+posted_away : (at : Place) (k : ℕ) (w : Whole) (t : Term) (weight : ℤ) (m : SolverState) → m.closed ≡ false → has_whole m w ≡ false → posted_one at k w t weight m ≡ refused at WrongSolver
+posted_away at k w t weight m open_ away = rw (open_, away) refl
+
+nothing_with : (rule : KeptRule) (w : Whole) → has_whole (with_rule rule new_solver) w ≡ false
+nothing_with rule (wholes.System i) = has_nothing (wholes.System i)
+nothing_with rule (wholes.Objective i) = has_nothing (wholes.Objective i)
+
+pub posted_user_nowhere : (at : Place) (k : ℕ) (w : Whole) (rule : KeptRule) (ts : List Term) (weight : ℤ) (m : SolverState) → m ≡ new_solver → posted_user_one at k w rule ts weight m ≡ refused at WrongSolver
+posted_user_nowhere at k w rule ts weight m e =
+    ap (λ (n : SolverState). posted_user_one at k w rule ts weight n) e ∙ posted_away at k w (user_node ts new_solver) weight (with_rule rule new_solver) refl (nothing_with rule w)
+
 asked_nowhere : (at : Place) (k : ℕ) (w : Whole) (xs : List VarId) (answer : Result ℤ AskStop) (m : SolverState) (s : State) → m ≡ new_solver → asking at k w xs answer m s ≡ Halted (Faulted at NotClosed) (left s)
 unfolding asking
 asked_nowhere at k w xs answer m s e =
@@ -92,7 +113,7 @@ asked_nowhere at k w xs answer m s e =
 valued_nowhere : (at : Place) (w : Whole) (m : SolverState) (s : State) → m ≡ new_solver → valuing at w m s ≡ Halted (Faulted at NotClosed) (left s)
 unfolding valuing
 valued_nowhere at w m s e =
-    ap (λ b. (unless b at NotClosed >>= λ _. unless (has_whole m w) at WrongSolver >>= λ _. give_or_met (value_of no_users m.model m.assignment w) >>= λ z. give (Number z)) s) (ap (λ (n : SolverState). n.closed) e)
+    ap (λ b. (unless b at NotClosed >>= λ _. unless (has_whole m w) at WrongSolver >>= λ _. give_or_met (value_of (users_of m.rules) m.model m.assignment w) >>= λ z. give (Number z)) s) (ap (λ (n : SolverState). n.closed) e)
 
 -- ---- questions are asked of one solver
 

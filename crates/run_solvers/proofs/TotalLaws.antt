@@ -92,7 +92,7 @@ module _ (S T : solvers.SolverState) (names : List (List ℕ)) (waiting : Option
   pub total_made : total_refusal S ≡ None → MakesTotal S T side at → total_one at side m ≡ Ok (solver_seen T names waiting)
   total_made none d =
       total_by false (open_by S.closed none)
-      ∙ ap (λ (n : SolverState). Ok n) (sym (seen_by T names waiting (with_total (plain_model S.model) side at) S.assignment S.closed (got_total S.model T.model side at d.model) d.assignment d.closed))
+      ∙ ap (λ (n : SolverState). Ok n) (sym (seen_by T names waiting (with_total (plain_model S.model) side at) S.assignment S.rules S.closed (got_total S.model T.model side at d.model) d.assignment d.rules d.closed))
 
   pub total_stops : (fault : SolverFault) (stop : Stop) → IsRefusal (total_refusal S) fault → StopsAs at names fault stop → Ends stop (total_one at side m)
   total_stops (faults.Run f) stop is told =

@@ -12,6 +12,7 @@ use Rattle.term_model.specs.declared.model.Model.{Model}
 use Rattle.term_model.specs.declared.posting.Side.{Side}
 use Rattle.term_model.specs.declared.posting.Side.TheVariants.{Systems, Objectives}
 use Rattle.term_model.specs.declared.term.Term.{Term}
+use Rattle.posted_users.specs.KeptRule.{KeptRule}
 use Rattle.model_values.specs.Fresh.{Fresh}
 use Rattle.model_values.specs.declared.failure.Failure.{Failure}
 use Rattle.model_values.specs.declared.wholes.Whole.{Whole}
@@ -22,7 +23,7 @@ use Rattle.comet_meaning.specs.Solvers.{SolverState, variable_count, is_defined,
 use Rattle.comet_meaning.specs.Limits.{most_variables}
 use Rattle.comet_meaning.specs.Outcome.{Halt, Faulted, Cyclic, Went, Act, halt}
 use Rattle.comet_meaning.specs.Models.{closed_now, after_moves, owns, exchanged, term_for, has_room, defined_by}
-use Rattle.comet_meaning.specs.Systems.{has_whole, number_for, posted_in}
+use Rattle.comet_meaning.specs.Systems.{has_whole, number_for, posted_in, user_node, with_rule}
 use Rattle.comet_meaning.specs.Variables.{Beginning, free, defined, first_number, with_variable, next_variable}
 
 abbrev pub Made : Type 0
@@ -113,6 +114,10 @@ posted_one at k w t weight m =
     then (if has_room m (number_for m t) then Ok (posted_in m w t weight) else refused at (TooMany TermNodes))
     else refused at OutOfRange)
     else refused at WrongSolver)
+
+-- the same of a user's constraint over places
+abbrev pub posted_user_one : Place → ℕ → Whole → KeptRule → List Term → ℤ → SolverState → Made
+posted_user_one at k w rule ts weight m = posted_one at k w (user_node ts m) weight (with_rule rule m)
 
 -- a new objective of one term
 abbrev pub objective_one : Place → ℕ → Term → SolverState → Made

@@ -15,14 +15,15 @@ solver_seen S names waiting = record {
   model = plain_model S.model;
   assignment = S.assignment;
   closed = S.closed;
+  rules = S.rules;
   names = names;
   waiting = option_map (overlaid S.assignment) waiting;
 }
 
-abbrev pub waits : Held → Option (List (Option ℤ))
+abbrev pub waits : {U : Type 0} → Held U → Option (List (Option ℤ))
 waits h = option_map (λ w. w.items) h.waiting
 
-abbrev pub held_seen : Held → SolverState
+abbrev pub held_seen : {U : Type 0} → Held U → SolverState
 held_seen h = solver_seen h.solver h.names (waits h)
 
 abbrev pub beginning_seen : Beginning → meaning.Beginning

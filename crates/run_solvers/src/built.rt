@@ -1,6 +1,7 @@
 //! Terms that statements build.
-ghost use Rattle.std.specs.Prelude.{◌≡◌, ◌++◌, ◌∷◌, List, [], max, IfErr, IfOk, OnOk};
+ghost use Rattle.std.specs.Prelude.{◌≡◌, ◌++◌, ◌∷◌, ℕ, List, [], map, max, IfErr, IfOk, OnOk};
 ghost use Rattle.std.specs.Bool.{OnFalse};
+ghost use Rattle.cbl_operations.specs.declared.op.Op.TheVariants.{User};
 ghost use Rattle.comet_meaning.specs.State.{State};
 ghost use Rattle.comet_meaning.specs.Systems.{first_variable};
 ghost use Rattle.comet_meaning.specs.TermForms.{node_form};
@@ -8,6 +9,7 @@ ghost use Rattle.model_view.specs.Building as building;
 ghost use Rattle.model_view.specs.Plain.{plain_term};
 ghost use Rattle.run_solvers.specs.Building.{AreBuilt, IsBuilt, IsShallow};
 ghost use Rattle.run_values.specs.Did.{Did, IsFaultOrMemory};
+ghost use Rattle.term_model.specs.Depth.{depth_of, greatest};
 ghost use Rattle.term_model.specs.Naming.{user_number};
 ghost use Rattle.term_model.specs.declared.term.Term.{Term as Tree};
 
@@ -46,9 +48,9 @@ impl Model for Built {
 
 /// Terms in a row, and the depth of the deepest.
 #[derive(Drop)]
-struct Row {
-    terms: Vec<Term>,
-    deepest: u32,
+pub(crate) struct Row {
+    pub(crate) terms: Vec<Term>,
+    pub(crate) deepest: u32,
 }
 
 impl Built {
@@ -89,6 +91,13 @@ impl Built {
         }
     }
 
+    /// Its depth.
+    fn depth(&self) -> u32
+        ensures { result ≡ depth_of self.now }
+    {
+        self.depth
+    }
+
     /// The first variable in it, in the order of the operations' arguments.
     pub(crate) fn first_variable(&self) -> Option<VarId>
         ensures { result ≡ first_variable self.now }
@@ -103,6 +112,30 @@ impl Built {
     {
         self.term
     }
+}
+
+/// The depth of the deepest of terms, and 0 where there is none.
+fn deepest_of(terms: &[Built]) -> u32
+    ensures { result ≡ greatest (map depth_of terms.now) }
+{
+    let mut deepest = 0;
+    for term in terms {
+        deepest = deeper(deepest, term.depth());
+    }
+    deepest
+}
+
+/// Whether a user's constraint over places is no deeper than a term may be. `TooMany` term nodes at its place exactly where it
+/// is; there is no other stop.
+#[tactic(auto, unfolding(comet_meaning::specs::TermForms::node_form))]
+pub fn user_fits(at: Place, places: &[Built]) -> Result<(), Stop>
+    ensures did { (number : ℕ) (s : State) → Did (λ _. building.node (User number) places.now at) result s (node_form at (User number) places.now s) }
+    ensures stop { IfErr result IsFaultOrMemory }
+{
+    if deepest_of(places) >= MAX_TERM_DEPTH {
+        return Err(Stop::Fault(at, RunFault::TooMany(Limit::TermNodes)));
+    }
+    Ok(())
 }
 
 /// A term without arguments.
@@ -124,7 +157,7 @@ fn is_user(op: &Op) -> bool
 }
 
 /// The terms in a row.
-fn row_of(args: Vec<Built>) -> Result<Row, NoMemory>
+pub(crate) fn row_of(args: Vec<Built>) -> Result<Row, NoMemory>
     ensures { IfOk result (λ row. AreBuilt row.terms.items row.deepest args.items) }
 {
     let mut row = Row {

@@ -18,8 +18,9 @@ use ls_events::VarChange;
 use ls_solver::SolverFault;
 use run_values::Stop;
 use std::mem;
+use user_constraint::LocalConstraint;
 
-impl Held {
+impl<U: LocalConstraint> Held<U> {
     /// Gives a variable a number, which waits while a `with` is open. At this place `WrongSolver` where the solver has no
     /// such variable, and then `DefinedVariable` where it has a definition; and else the fault of a closed solver's
     /// variables where it was met.

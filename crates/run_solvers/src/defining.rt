@@ -26,8 +26,9 @@ use cbl_base::{IntSet, NoMemory, Place, Text, VarId};
 use run_values::Stop;
 use std::alloc::Global;
 use term_model::{Term, VarDecl, VarKind};
+use user_constraint::LocalConstraint;
 
-impl Held {
+impl<U: LocalConstraint> Held<U> {
     /// Defines a variable by a term. At this place `AlreadyClosed` where the solver is closed; then `WrongSolver` where the
     /// variable, or one in the term, isn't the solver's; then `DefinedVariable` where it has a definition; and then
     /// `TooMany` term nodes where all terms have more distinct subterms than they may.

@@ -9,21 +9,22 @@ use cbl_base::{Names, VarId};
 use ls_solver::Solver;
 use run_values::Stop;
 use std::alloc::Global;
+use user_constraint::LocalConstraint;
 
 /// A solver of a run: its number, the solver, the names of its variables, and while a `with` is open for each variable
 /// the number that it was assigned in it.
 #[derive(Drop)]
-pub(crate) struct Held {
+pub(crate) struct Held<U: LocalConstraint> {
     pub(crate) alloc: Global,
     pub(crate) number: u32,
-    pub(crate) solver: Solver,
+    pub(crate) solver: Solver<U>,
     pub(crate) names: Names,
     pub(crate) waiting: Option<Vec<Option<i64>>>,
 }
 
-impl Held {
+impl<U: LocalConstraint> Held<U> {
     /// A solver without variables, which is open.
-    pub(crate) fn new(alloc: Global, number: u32) -> Held
+    pub(crate) fn new(alloc: Global, number: u32) -> Held<U>
         ensures seen { held_seen result ≡ new_solver }
         ensures kept { IsKept result }
         ensures number { result.number ≡ number }

@@ -6,7 +6,8 @@ ghost use Rattle.term_model.specs.declared.model.VarDecl.{VarDecl};
 ghost use Rattle.term_model.specs.declared.term.Term.{Term};
 ghost use Rattle.term_model.specs.declared.posting.Side.TheVariants.{Objectives, Systems};
 ghost use Rattle.model_values.specs.declared.wholes.Whole.{Whole};
-ghost use Rattle.comet_meaning.specs.Systems.{adding_objective, make_sum, make_system, post_to};
+ghost use Rattle.posted_users.specs.KeptRule.{KeptRule};
+ghost use Rattle.comet_meaning.specs.Systems.{adding_objective, make_sum, make_system, post_to, post_user_to};
 ghost use Rattle.comet_meaning.specs.Values.{Nothing, Objective, System};
 ghost use Rattle.comet_meaning.specs.Solvers.{SolverState};
 ghost use Rattle.comet_meaning.specs.State.{State};
@@ -14,7 +15,7 @@ ghost use Rattle.comet_meaning.specs.Parts.{solver_at};
 ghost use Rattle.comet_meaning.specs.Blocks.{commit_waiting};
 ghost use Rattle.comet_meaning.specs.Models.{close, assign, swap, define};
 ghost use Rattle.comet_meaning.specs.Variables.{Beginning, next_variable, new_variable};
-ghost use Rattle.run_solvers.specs.Changing.{changed, changed_where, closed_one, assigned_one, swapped_one, defined_one, added_one, committed_one, objective_one, posted_one, total_one};
+ghost use Rattle.run_solvers.specs.Changing.{changed, changed_where, closed_one, assigned_one, swapped_one, defined_one, added_one, committed_one, objective_one, posted_one, posted_user_one, total_one};
 
 /// Each act in a state makes of the solver with its number what it makes of one solver, or halts the run in the same way.
 pub fn acts_on_one_solver()
@@ -31,5 +32,6 @@ pub fn totals_of_one_solver()
     ensures systems { (at : Place) (k : ℕ) (s : State) → make_system at k s ≡ changed (System k (length (solver_at s k).model.systems.items)) k (total_one at Systems (solver_at s k)) s }
     ensures sums { (at : Place) (k : ℕ) (s : State) → make_sum at k s ≡ changed (Objective k (length (solver_at s k).model.objectives.items)) k (total_one at Objectives (solver_at s k)) s }
     ensures posts { (at : Place) (t : Term) (weight : ℤ) (k : ℕ) (w : Whole) (s : State) → post_to at t weight k w s ≡ changed Nothing k (posted_one at k w t weight (solver_at s k)) s }
+    ensures users { (at : Place) (rule : KeptRule) (ts : List Term) (weight : ℤ) (k : ℕ) (w : Whole) (s : State) → post_user_to at rule ts weight k w s ≡ changed Nothing k (posted_user_one at k w rule ts weight (solver_at s k)) s }
     ensures objectives { (at : Place) (k : ℕ) (t : Term) (m : SolverState) (s : State) → adding_objective at k t m s ≡ changed (Objective k (length m.model.objectives.items)) k (objective_one at k t m) s }
 {}

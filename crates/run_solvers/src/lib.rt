@@ -19,8 +19,9 @@ mod refusals;
 mod solutions;
 mod solvers;
 mod totals;
+mod users;
 mod waiting;
 
 pub use beginning::Beginning;
-pub use built::Built;
+pub use built::{Built, user_fits};
 pub use solvers::Solvers;

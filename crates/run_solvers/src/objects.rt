@@ -15,8 +15,9 @@ use crate::solvers::Solvers;
 use cbl_base::{Place, RunFault, VarId};
 use ls_solver::TotalId;
 use run_values::{Stop, Value};
+use user_constraint::LocalConstraint;
 
-impl Solvers {
+impl<U: LocalConstraint> Solvers<U> {
     /// A new system of the solver with a number, which is declared at a place. `AlreadyClosed` there exactly where the
     /// solver is closed. `NoMemory` also where there is no such solver, which no run asks.
     pub fn new_system(&mut self, at: Place, number: usize) -> Result<Value, Stop>

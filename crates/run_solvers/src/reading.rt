@@ -16,8 +16,9 @@ use crate::refusals::stop_of;
 use cbl_base::{IntSet, Place, RunFault, VarId};
 use run_values::{Bounds, Stop, Value};
 use term_model::VarKind;
+use user_constraint::LocalConstraint;
 
-impl Held {
+impl<U: LocalConstraint> Held<U> {
     /// The value of the variable at an index, which is read at a place. `WrongSolver` there exactly where there is no such
     /// variable, and `NotClosed` exactly where only a closed solver has its value.
     pub(crate) fn read(&self, at: Place, index: u32) -> Result<Value, Stop>

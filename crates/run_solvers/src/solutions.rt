@@ -19,8 +19,9 @@ use cbl_base::{NoMemory, Place, RunFault};
 use ls_events::{Solution, VarChange};
 use ls_solver::SolverFault;
 use run_values::Stop;
+use user_constraint::LocalConstraint;
 
-impl Held {
+impl<U: LocalConstraint> Held<U> {
     /// The numbers of the free variables. `NotClosed` at this place exactly where the solver is open.
     fn snapshot(&self, at: Place) -> Result<Solution, Stop>
         requires { IsKept self.now }
@@ -109,7 +110,7 @@ impl Held {
     }
 }
 
-impl Solvers {
+impl<U: LocalConstraint> Solvers<U> {
     /// The numbers of the free variables of the solver with a number. `NotClosed` at this place exactly where it is open.
     pub fn snapshot(&self, at: Place, number: usize) -> Result<Solution, Stop>
         ensures did { (s : State) → s.solvers ≡ self.now → Did (λ x. x.values) result s (kept_numbers at (solver_at s number) s) }

@@ -23,15 +23,16 @@ use run_values::{Bounds, Stop, Value};
 use std::alloc::Global;
 use std::marker::Model;
 use term_model::VarDecl;
+use user_constraint::LocalConstraint;
 
 /// The solvers of a run. Each is known by its place from 0, which its variables carry; they are seen as the meaning of
 /// programs has them. After a stop the run is over, and the solver that stopped is emptied.
 #[derive(Drop)]
-pub struct Solvers {
-    pub(crate) held: Vec<Held>,
+pub struct Solvers<U: LocalConstraint> {
+    pub(crate) held: Vec<Held<U>>,
 }
 
-impl Model for Solvers {
+impl<U: LocalConstraint> Model for Solvers<U> {
     ghost use Rattle.std.specs.Prelude.{List, map};
     ghost use Rattle.comet_meaning.specs.Solvers.{SolverState};
 
@@ -39,8 +40,9 @@ impl Model for Solvers {
 
     ghost use Rattle.std.specs.Coded.{codes};
     ghost use Rattle.term_model.specs.contracts.term.Term as terms_seen;
+    ghost use Rattle.posted_users.specs.KeptCode.{rule_code};
 
-    ghost coded = { Prim.hlevel (codes, terms_seen.the_row.coded) };
+    ghost coded = { Prim.hlevel (codes, terms_seen.the_row.coded, rule_code) };
 
     ghost use Rattle.run_solvers.specs.Kept.{AreKept};
     ghost use Rattle.run_solvers.specs.Views.{held_seen};
@@ -50,10 +52,10 @@ impl Model for Solvers {
     ghost invariant = { λ a. AreKept a.held.items };
 }
 
-impl Solvers {
+impl<U: LocalConstraint> Solvers<U> {
     /// No solvers.
     #[tactic(auto, using(crate::proofs::FoundSolvers::none_kept))]
-    pub fn new(alloc: Global) -> Solvers
+    pub fn new(alloc: Global) -> Solvers<U>
         ensures { result ≡ [] }
     {
         Solvers {
@@ -62,7 +64,7 @@ impl Solvers {
     }
 
     /// A copy of each; where a solver is held it answers want of memory so far.
-    pub fn copied(&self, alloc: Global) -> Result<Solvers, Stop>
+    pub fn copied(&self, alloc: Global) -> Result<Solvers<U>, Stop>
         ensures same { IfOk result (λ copies. copies ≡ self.now) }
         ensures memory { IfErr result (λ stop. stop ≡ NoMemory) }
     {

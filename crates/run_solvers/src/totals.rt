@@ -29,8 +29,9 @@ use cbl_base::{NoMemory, Place};
 use ls_solver::TotalId;
 use run_values::{Stop, Value};
 use term_model::{Member, Side, Term, VarKind};
+use user_constraint::LocalConstraint;
 
-impl Held {
+impl<U: LocalConstraint> Held<U> {
     /// A new system. `AlreadyClosed` at this place exactly where the solver is closed.
     pub(crate) fn new_system(&mut self, at: Place) -> Result<Value, Stop>
         requires { IsKept self.old }
@@ -126,7 +127,7 @@ impl Held {
     }
 
     /// Whether a term is a number.
-    fn is_number(&self, term: &Term) -> Result<bool, NoMemory>
+    pub(crate) fn is_number(&self, term: &Term) -> Result<bool, NoMemory>
         requires { depth_of term.now ≤ MAX_TERM_DEPTH }
         ensures { IfOk result (λ is. is ≡ same_kind number_kind (kind_of_term (kinds_in (held_seen self.now).model.vars.items) term.now)) }
     {

@@ -147,11 +147,11 @@ module _ (at : Place) (n : ℕ) (s : State) (x : Snapshot) (there : slice_get s.
   unfolding restore noticed restore_in
   restore_is = ap (λ o. restored at o s) there
 
-  pub restored_went : (ms : List SolverState) (y : Search) → restoring_here ≡ Went tt (record s { solvers = ms }) →
-      y ≡ with_events (queued_events x.solver s.search.handlers (changes_of (solver_at s x.solver) (solver_at (record s { solvers = ms }) x.solver))) s.search →
-      restore at (values.Solution n) s ≡ Went values.Nothing (record s { solvers = ms; search = y })
+  pub restored_went : (u : State) (y : Search) → restoring_here ≡ Went tt u →
+      y ≡ with_events (queued_events x.solver u.search.handlers (changes_of (solver_at s x.solver) (solver_at u x.solver))) u.search →
+      restore at (values.Solution n) s ≡ Went values.Nothing (record u { search = y })
   unfolding notice
-  restored_went ms y e is = restore_is ∙ ap behind e ∙ ap (λ (z : Search). Went values.Nothing (record s { solvers = ms; search = z })) (sym is)
+  restored_went u y e is = restore_is ∙ ap behind e ∙ ap (λ (z : Search). Went values.Nothing (record u { search = z })) (sym is)
 
   pub restored_stops : (stop : Stop) (t : State) → Stopped stop t restoring_here → Stopped stop t (restore at (values.Solution n) s)
   restored_stops stop t e =

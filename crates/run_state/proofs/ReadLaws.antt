@@ -15,6 +15,8 @@ use Rattle.comet_meaning.specs.Printing.{grid_text, plain_text}
 use Rattle.comet_meaning.proofs.Endings.{halted_then}
 use Rattle.comet_meaning.proofs.RowsOfTerms.{ReadLeft, read_at, read_step}
 use Rattle.run_values.specs.Did.{Did, Stopped, IsFaultOrMemory}
+use Rattle.run_values.specs.Views.{value_seen}
+use Rattle.run_values.specs.declared.values.Value as code
 use Rattle.run_values.specs.declared.stop.Stop.{Stop}
 use Rattle.run_values.specs.declared.stop.Stop.TheVariants as stops
 use Rattle.run_values.specs.declared.stop.Stop.TheVariants.{Fault, Spent, NoMemory, Output}
@@ -34,6 +36,11 @@ stopped_to stop s o f w e h = subst (Stopped stop s) e (stopped_behind stop s o 
 pub read_is : (at : Place) (x : VarId) (s : State) → read at (Variable x) s ≡ variable_value at x.index (solver_at s x.solver) s
 unfolding read
 read_is at x s = refl
+
+-- what the solvers give of a variable is what is read of it
+pub read_so : (at : Place) (x : VarId) (s : State) (r : Result code.Value Stop) → Did value_seen r s (variable_value at x.index (solver_at s x.solver) s) → Did value_seen r s (read at (Variable x) s)
+unfolding read
+read_so at x s r h = h
 
 -- a variable that is read is what it comes to, and changes nothing
 read_value : (b c : Bool) (at : Place) (v : Value) (s : State) (w : Value) (t : State) → (if b then (if c then fault at NotClosed else give v) else fault at WrongSolver) s ≡ Went w t → (w ≡ v) × (t ≡ s)

@@ -4,7 +4,6 @@ pub mod InTerms
 pub mod Numbers
 pub mod Plain
 pub mod SearchActs
-pub mod Shares
 pub mod Stops
 pub mod Targets
 pub mod Views

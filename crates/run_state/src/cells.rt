@@ -9,6 +9,7 @@ ghost use Rattle.run_values.specs.Did.{Did, IsFault};
 ghost use Rattle.run_values.specs.Views.{value_seen, cells_seen, extent_seen, variable_cells_seen};
 ghost use Rattle.run_values.specs.declared.stop.Stop.TheVariants.{NoMemory};
 ghost use Rattle.run_state.specs.Acts.{indexed, indexed_twice, array_size};
+ghost use Rattle.run_outside.specs.Told.{Told};
 ghost use Rattle.run_state.specs.Views.{state_seen};
 
 use crate::state::State;
@@ -20,7 +21,7 @@ impl State {
     /// there is no other stop.
     #[tactic(auto, unfolding(comet_meaning::specs::Cells::extent, comet_meaning::specs::Cells::cell))]
     pub fn index(&self, at: Place, array: &Value, index: i64) -> Result<Value, Stop>
-        ensures did { (printed : List ℕ) → Did value_seen result (state_seen self.now printed) (indexed at (value_seen array.now) index (state_seen self.now printed)) }
+        ensures did { (told : Told) → Did value_seen result (state_seen self.now told) (indexed at (value_seen array.now) index (state_seen self.now told)) }
         ensures stop { IfErr result IsFault }
     {
         match self.extent(array).at_index(index) {
@@ -33,7 +34,7 @@ impl State {
     /// there is no such cell; there is no other stop.
     #[tactic(auto, unfolding(comet_meaning::specs::Cells::extent, comet_meaning::specs::Cells::cell))]
     pub fn cell(&self, at: Place, array: &Value, row: i64, column: i64) -> Result<Value, Stop>
-        ensures did { (printed : List ℕ) → Did value_seen result (state_seen self.now printed) (indexed_twice at (value_seen array.now) row column (state_seen self.now printed)) }
+        ensures did { (told : Told) → Did value_seen result (state_seen self.now told) (indexed_twice at (value_seen array.now) row column (state_seen self.now told)) }
         ensures stop { IfErr result IsFault }
     {
         match self.extent(array).at_indices(row, column) {
@@ -45,7 +46,7 @@ impl State {
     /// How many cells an array has.
     #[tactic(auto, unfolding(comet_meaning::specs::Cells::count_cells))]
     pub fn array_size(&self, array: &Value) -> Value
-        ensures { (printed : List ℕ) → array_size (value_seen array.now) (state_seen self.now printed) ≡ Went (value_seen result) (state_seen self.now printed) }
+        ensures { (told : Told) → array_size (value_seen array.now) (state_seen self.now told) ≡ Went (value_seen result) (state_seen self.now told) }
     {
         Value::Number(self.size(array) as i64)
     }
@@ -53,7 +54,7 @@ impl State {
     /// Writes a number into a cell. Where there is none, nothing is written.
     #[tactic(auto, using(crate::proofs::ArrayLaws::written_there), unfolding(comet_meaning::specs::Cells::put_number))]
     pub fn put_number(&mut self, array: usize, cell: u128, number: i64)
-        ensures did { (printed : List ℕ) → put_number array cell number (state_seen self.old printed) ≡ Went tt (state_seen self.new printed) }
+        ensures did { (told : Told) → put_number array cell number (state_seen self.old told) ≡ Went tt (state_seen self.new told) }
         ensures fuel { self.new.fuel ≡ self.old.fuel }
     {
         if array < self.arrays.len() {
@@ -64,7 +65,7 @@ impl State {
     /// A new array with these cells. `NoMemory` where there is none for it; there is no other stop.
     #[tactic(auto, unfolding(comet_meaning::specs::Cells::new_array))]
     pub fn new_array(&mut self, cells: Cells) -> Result<Value, Stop>
-        ensures did { (printed : List ℕ) → Did value_seen result (state_seen self.new printed) (meaning.new_array (cells_seen cells) (state_seen self.old printed)) }
+        ensures did { (told : Told) → Did value_seen result (state_seen self.new told) (meaning.new_array (cells_seen cells) (state_seen self.old told)) }
         ensures memory { IfErr result (λ stop. stop ≡ NoMemory) }
         ensures fuel { self.new.fuel ≡ self.old.fuel }
     {
@@ -76,7 +77,7 @@ impl State {
     /// A new array with these variables. `NoMemory` where there is none for it; there is no other stop.
     #[tactic(auto, unfolding(comet_meaning::specs::Cells::new_variables))]
     pub fn new_variables(&mut self, cells: VariableCells) -> Result<Value, Stop>
-        ensures did { (printed : List ℕ) → Did value_seen result (state_seen self.new printed) (meaning.new_variables (variable_cells_seen cells) (state_seen self.old printed)) }
+        ensures did { (told : Told) → Did value_seen result (state_seen self.new told) (meaning.new_variables (variable_cells_seen cells) (state_seen self.old told)) }
         ensures memory { IfErr result (λ stop. stop ≡ NoMemory) }
         ensures fuel { self.new.fuel ≡ self.old.fuel }
     {
@@ -89,7 +90,7 @@ impl State {
     /// it; there is no other stop.
     #[tactic(auto, unfolding(comet_meaning::specs::Cells::cells))]
     pub fn copied_cells(&self, array: &Value) -> Result<Cells, Stop>
-        ensures did { (printed : List ℕ) → Did cells_seen result (state_seen self.now printed) (meaning.cells (value_seen array.now) (state_seen self.now printed)) }
+        ensures did { (told : Told) → Did cells_seen result (state_seen self.now told) (meaning.cells (value_seen array.now) (state_seen self.now told)) }
         ensures memory { IfErr result (λ stop. stop ≡ NoMemory) }
     {
         let extent = self.numbers_extent(array);
@@ -103,7 +104,7 @@ impl State {
 
     /// The bounds of an array's indices; what is no array has no cell.
     pub(crate) fn extent(&self, array: &Value) -> Extent
-        ensures { (printed : List ℕ) → extent_seen result ≡ extent_of (state_seen self.now printed) (value_seen array.now) }
+        ensures { (told : Told) → extent_seen result ≡ extent_of (state_seen self.now told) (value_seen array.now) }
     {
         match array {
             Value::Variables(number) => self.variables_extent(*number),
@@ -113,7 +114,7 @@ impl State {
 
     /// The bounds of the indices of an array of numbers; what is none has no cell.
     pub(crate) fn numbers_extent(&self, array: &Value) -> Extent
-        ensures { (printed : List ℕ) → extent_seen result ≡ cells_extent (cells_of (state_seen self.now printed) (value_seen array.now)) }
+        ensures { (told : Told) → extent_seen result ≡ cells_extent (cells_of (state_seen self.now told) (value_seen array.now)) }
     {
         match array {
             Value::Array(number) => match self.arrays.get(*number) {
@@ -127,7 +128,7 @@ impl State {
 
     /// The bounds of the indices of the array of variables with this number; where there is none it has no cell.
     pub(crate) fn variables_extent(&self, array: usize) -> Extent
-        ensures { (printed : List ℕ) → extent_seen result ≡ variables_extent (variables_of (state_seen self.now printed) (values.Variables array)) }
+        ensures { (told : Told) → extent_seen result ≡ variables_extent (variables_of (state_seen self.now told) (values.Variables array)) }
     {
         match self.variable_arrays.get(array) {
             Some(cells) => cells.extent(),
@@ -137,7 +138,7 @@ impl State {
 
     /// How many cells an array has.
     pub(crate) fn size(&self, array: &Value) -> usize
-        ensures size { (printed : List ℕ) → result ≡ size_in (state_seen self.now printed) (value_seen array.now) }
+        ensures size { (told : Told) → result ≡ size_in (state_seen self.now told) (value_seen array.now) }
         ensures small { result < 2 ^ 63 }
     {
         match array {
@@ -148,7 +149,7 @@ impl State {
 
     /// What a cell holds, a variable unread.
     fn held_in(&self, array: &Value, cell: u128) -> Value
-        ensures { (printed : List ℕ) → value_seen result ≡ cell_in (state_seen self.now printed) (value_seen array.now) cell }
+        ensures { (told : Told) → value_seen result ≡ cell_in (state_seen self.now told) (value_seen array.now) cell }
     {
         match array {
             Value::Variables(number) => self.variable_in(*number, cell),
@@ -158,7 +159,7 @@ impl State {
 
     /// The variable in a cell of the array of variables with this number, and nothing where there is none.
     pub(crate) fn variable_in(&self, array: usize, cell: u128) -> Value
-        ensures { (printed : List ℕ) → value_seen result ≡ cell_in (state_seen self.now printed) (values.Variables array) cell }
+        ensures { (told : Told) → value_seen result ≡ cell_in (state_seen self.now told) (values.Variables array) cell }
     {
         match variable_at(self.variables(array), cell) {
             Some(variable) => Value::Variable(variable),
@@ -168,7 +169,7 @@ impl State {
 
     /// The variables of the array of variables with this number, row by row, and none where there is no such array.
     pub(crate) fn variables(&self, array: usize) -> &[VarId]
-        ensures { (printed : List ℕ) → result.now ≡ (variables_of (state_seen self.now printed) (values.Variables array)).variables }
+        ensures { (told : Told) → result.now ≡ (variables_of (state_seen self.now told) (values.Variables array)).variables }
     {
         match self.variable_arrays.get(array) {
             Some(cells) => &cells.variables,
@@ -178,14 +179,14 @@ impl State {
 
     /// The number in a cell, and 0 where there is none.
     pub(crate) fn number_at(&self, array: &Value, cell: u128) -> i64
-        ensures { (printed : List ℕ) → Number result ≡ number_at (cells_of (state_seen self.now printed) (value_seen array.now)) cell }
+        ensures { (told : Told) → Number result ≡ number_at (cells_of (state_seen self.now told) (value_seen array.now)) cell }
     {
         number_in(self.numbers(array), cell)
     }
 
     /// The number in a cell of the array with this number, and 0 where there is none.
     pub(crate) fn element(&self, array: usize, cell: u128) -> Value
-        ensures { (printed : List ℕ) → value_seen result ≡ number_at (cells_of (state_seen self.now printed) (values.Array array)) cell }
+        ensures { (told : Told) → value_seen result ≡ number_at (cells_of (state_seen self.now told) (values.Array array)) cell }
     {
         match self.arrays.get(array) {
             Some(cells) => Value::Number(cells.number_at(cell)),
@@ -195,7 +196,7 @@ impl State {
 
     /// The numbers of an array, row by row, and none of what is no array.
     pub(crate) fn numbers<'a>(&'a self, array: &'a Value) -> &'a [i64]
-        ensures { (printed : List ℕ) → result.now ≡ (cells_of (state_seen self.now printed) (value_seen array.now)).numbers }
+        ensures { (told : Told) → result.now ≡ (cells_of (state_seen self.now told) (value_seen array.now)).numbers }
     {
         match array {
             Value::Array(number) => match self.arrays.get(*number) {

@@ -1,6 +1,7 @@
 //! Copies of a state.
 ghost use Rattle.std.specs.Prelude.{◌≡◌, ℕ, List, IfErr, IfOk};
 ghost use Rattle.run_state.specs.Copies.{without_data};
+ghost use Rattle.run_outside.specs.Told.{Told};
 ghost use Rattle.run_state.specs.Views.{state_seen};
 ghost use Rattle.run_values.specs.declared.stop.Stop.TheVariants.{NoMemory};
 
@@ -14,8 +15,9 @@ use std::alloc::Global;
 impl State {
     /// A copy with this fuel, and without the data, its inputs, and what no pure expression sees of a search. `NoMemory` where
     /// there is none for it; there is no other stop.
+    #[tactic(auto, unfolding(run_search::specs::Searches::moves_seen))]
     pub fn without_data(&self, fuel: u64) -> Result<State, Stop>
-        ensures same { (printed : List ℕ) → IfOk result (λ copy. state_seen copy printed ≡ without_data fuel (state_seen self.now printed)) }
+        ensures same { (told : Told) → IfOk result (λ copy. state_seen copy told ≡ without_data fuel (state_seen self.now told)) }
         ensures memory { IfErr result (λ stop. stop ≡ NoMemory) }
     {
         let alloc = self.alloc;
@@ -23,14 +25,12 @@ impl State {
         let frame = copied_values(alloc, &self.frame)?;
         let arrays = copied_arrays(alloc, &self.arrays)?;
         let variable_arrays = copied_variables(alloc, &self.variable_arrays)?;
-        let solvers = self.solvers.copied(alloc)?;
         let moves = copied_moves(alloc, &self.moves)?;
         Ok(State {
             globals,
             frame,
             arrays,
             variable_arrays,
-            solvers,
             inputs: Vec::new(alloc),
             data: Vec::new(alloc),
             moves,

@@ -6,6 +6,7 @@ ghost use Rattle.comet_meaning.specs.Values as values;
 ghost use Rattle.run_values.specs.Did.{Did, IsFault};
 ghost use Rattle.run_values.specs.Views.{value_seen};
 ghost use Rattle.run_values.specs.declared.stop.Stop.TheVariants.{NoMemory};
+ghost use Rattle.run_outside.specs.Told.{Told};
 ghost use Rattle.run_state.specs.Views.{state_seen};
 
 use crate::state::State;
@@ -20,7 +21,7 @@ impl State {
     /// A new input, which begins with all data. `NoMemory` where there is none for it; there is no other stop.
     #[tactic(auto, unfolding(comet_meaning::specs::Declarations::make_input))]
     pub fn make_input(&mut self) -> Result<Value, Stop>
-        ensures did { (printed : List ℕ) → Did value_seen result (state_seen self.new printed) (declarations.make_input (state_seen self.old printed)) }
+        ensures did { (told : Told) → Did value_seen result (state_seen self.new told) (declarations.make_input (state_seen self.old told)) }
         ensures memory { IfErr result (λ stop. stop ≡ NoMemory) }
         ensures fuel { self.new.fuel ≡ self.old.fuel }
     {
@@ -34,7 +35,7 @@ impl State {
     /// is no other stop.
     #[tactic(auto, unfolding(comet_meaning::specs::Data::next_number))]
     pub fn next_number(&mut self, at: Place, input: &Value) -> Result<Value, Stop>
-        ensures did { (printed : List ℕ) → Did value_seen result (state_seen self.new printed) (meaning.next_number at (value_seen input.now) (state_seen self.old printed)) }
+        ensures did { (told : Told) → Did value_seen result (state_seen self.new told) (meaning.next_number at (value_seen input.now) (state_seen self.old told)) }
         ensures stop { IfErr result IsFault }
         ensures fuel { self.new.fuel ≡ self.old.fuel }
     {
@@ -49,7 +50,7 @@ impl State {
 
     /// The number of the first word that an input hasn't read yet.
     fn first_word(&mut self, at: Place, input: usize) -> Result<Value, Stop>
-        ensures did { (printed : List ℕ) → Did value_seen result (state_seen self.new printed) (meaning.first_word at (values.Input input) (meaning.behind_blanks (meaning.unread (state_seen self.old printed) (values.Input input))) (state_seen self.old printed)) }
+        ensures did { (told : Told) → Did value_seen result (state_seen self.new told) (meaning.first_word at (values.Input input) (meaning.behind_blanks (meaning.unread (state_seen self.old told) (values.Input input))) (state_seen self.old told)) }
         ensures stop { IfErr result IsFault }
         ensures fuel { self.new.fuel ≡ self.old.fuel }
     {

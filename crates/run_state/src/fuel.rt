@@ -4,6 +4,7 @@ ghost use Rattle.comet_meaning.specs.Outcome.{charge};
 ghost use Rattle.comet_meaning.specs.State as states;
 ghost use Rattle.run_values.specs.Did.{Did};
 ghost use Rattle.run_values.specs.declared.stop.Stop.TheVariants.{Spent};
+ghost use Rattle.run_outside.specs.Told.{Told};
 ghost use Rattle.run_state.specs.Views.{state_seen};
 
 use crate::state::State;
@@ -15,7 +16,7 @@ impl State {
     /// other stop.
     #[inline]
     pub fn charge(&mut self, units: u64, at: Place) -> Result<(), Stop>
-        ensures did { (printed : List ℕ) → Did (λ _. tt) result (state_seen self.new printed) (charge units at (state_seen self.old printed)) }
+        ensures did { (told : Told) → Did (λ _. tt) result (state_seen self.new told) (charge units at (state_seen self.old told)) }
         ensures stop { IfErr result (λ stop. stop ≡ Spent at) }
         ensures spent { OnOk result (self.new.fuel + units ≡ self.old.fuel) }
         ensures never_rises { self.new.fuel ≤ self.old.fuel }

@@ -20,7 +20,8 @@ pub mod state;
 pub mod targets;
 mod words;
 
-pub use out::{Bytes, Out, print};
+pub use out::print;
+pub use run_outside::{Bytes, Out, Outside, Stage};
 pub use run_search::{Closure, Event, Reaction};
 pub use standing::{InTerm, TermCells};
 pub use state::State;

@@ -6,6 +6,7 @@ ghost use Rattle.run_values.specs.Did.{Did};
 ghost use Rattle.run_values.specs.Views.{value_seen};
 ghost use Rattle.run_values.specs.declared.stop.Stop.TheVariants.{NoMemory};
 ghost use Rattle.run_state.specs.Plain.{IsHeld, IsHeldNumber};
+ghost use Rattle.run_outside.specs.Told.{Told};
 ghost use Rattle.run_state.specs.Views.{state_seen};
 
 use crate::state::State;
@@ -19,7 +20,7 @@ impl State {
     /// it; there is no other stop.
     #[tactic(auto, unfolding(comet_meaning::specs::Cells::look))]
     pub fn look(&self, slot: Slot) -> Result<Value, Stop>
-        ensures did { (printed : List ℕ) → Did value_seen result (state_seen self.now printed) (look slot (state_seen self.now printed)) }
+        ensures did { (told : Told) → Did value_seen result (state_seen self.now told) (look slot (state_seen self.now told)) }
         ensures memory { IfErr result (λ stop. stop ≡ NoMemory) }
     {
         match slot {
@@ -30,7 +31,7 @@ impl State {
 
     /// What a name's cell holds, where it is a number, a truth value, a range or an array.
     pub fn plain_value(&self, slot: Slot) -> Option<Value>
-        ensures { (printed : List ℕ) → IsHeld result (held (state_seen self.now printed) slot) }
+        ensures { (told : Told) → IsHeld result (held (state_seen self.now told) slot) }
     {
         match slot {
             Slot::Global(index) => plain_cell(&self.globals, index),
@@ -41,7 +42,7 @@ impl State {
     /// The number that a name's cell holds, where it holds one.
     #[inline]
     pub fn plain_number(&self, slot: Slot) -> Option<i64>
-        ensures { (printed : List ℕ) → IsHeldNumber result (held (state_seen self.now printed) slot) }
+        ensures { (told : Told) → IsHeldNumber result (held (state_seen self.now told) slot) }
     {
         match slot {
             Slot::Global(index) => number_in_cell(&self.globals, index),
@@ -54,7 +55,7 @@ impl State {
     #[tactic(auto, unfolding(comet_meaning::specs::Cells::put))]
     #[inline]
     pub fn put(&mut self, slot: Slot, value: Value) -> Result<(), Stop>
-        ensures did { (printed : List ℕ) → Did (λ _. tt) result (state_seen self.new printed) (put slot (value_seen value) (state_seen self.old printed)) }
+        ensures did { (told : Told) → Did (λ _. tt) result (state_seen self.new told) (put slot (value_seen value) (state_seen self.old told)) }
         ensures memory { IfErr result (λ stop. stop ≡ NoMemory) }
         ensures fuel { self.new.fuel ≡ self.old.fuel }
     {

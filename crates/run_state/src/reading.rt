@@ -11,6 +11,7 @@ ghost use Rattle.run_state.specs.Views.{state_seen};
 
 use crate::state::State;
 use cbl_base::{Place, VarId};
+use run_outside::Outside;
 use run_values::values::numbers_of;
 use run_values::{Stop, Value};
 
@@ -18,43 +19,45 @@ impl State {
     /// What is read at a place: of a variable its value, and anything else as it is. At this place `WrongSolver` exactly
     /// where its solver has no such variable, and `NotClosed` exactly where only a closed solver has its value.
     #[tactic(auto, unfolding(comet_meaning::specs::Parts::read))]
-    pub fn read(&self, at: Place, value: Value) -> Result<Value, Stop>
-        ensures did { (printed : List ℕ) → Did value_seen result (state_seen self.now printed) (parts.read at (value_seen value) (state_seen self.now printed)) }
+    pub fn read<O: Outside>(&self, out: &O, at: Place, value: Value) -> Result<Value, Stop>
+        ensures did { Did value_seen result (state_seen self.now (O.told out.now)) (parts.read at (value_seen value) (state_seen self.now (O.told out.now))) }
         ensures stop { IfErr result IsFaultOrMemory }
     {
         match value {
-            Value::Variable(variable) => self.read_variable(at, variable),
+            Value::Variable(variable) => out.read_variable(at, variable),
             value => Ok(value),
         }
     }
 
-    /// The value of a variable that is read at a place.
-    pub(crate) fn read_variable(&self, at: Place, variable: VarId) -> Result<Value, Stop>
-        ensures did { (printed : List ℕ) → Did value_seen result (state_seen self.now printed) (parts.read at (values.Variable variable) (state_seen self.now printed)) }
-        ensures stop { IfErr result IsFaultOrMemory }
-    {
-        self.solvers.read(at, variable)
-    }
-
     /// The values of variables that are read at a place, one after another.
-    pub(crate) fn read_each(&self, at: Place, variables: &[VarId]) -> Result<Vec<Value>, Stop>
-        ensures did { (printed : List ℕ) → Did (λ values. map value_seen values.items) result (state_seen self.now printed) (meaning.read_each at variables.now [] (state_seen self.now printed)) }
+    pub(crate) fn read_each<O: Outside>(
+        &self,
+        out: &O,
+        at: Place,
+        variables: &[VarId],
+    ) -> Result<Vec<Value>, Stop>
+        ensures did { Did (λ values. map value_seen values.items) result (state_seen self.now (O.told out.now)) (meaning.read_each at variables.now [] (state_seen self.now (O.told out.now))) }
         ensures stop { IfErr result IsFaultOrMemory }
     {
         let mut values = Vec::new(self.alloc);
         for variable in variables {
-            values.push(self.read_variable(at, *variable)?)?;
+            values.push(out.read_variable(at, *variable)?)?;
         }
         Ok(values)
     }
 
     /// The numbers of an array, of which each variable is read at this place.
-    pub fn read_numbers(&self, at: Place, array: &Value) -> Result<Vec<i64>, Stop>
-        ensures did { (printed : List ℕ) → Did (λ numbers. numbers.items) result (state_seen self.now printed) (numbers_read at (value_seen array.now) (state_seen self.now printed)) }
+    pub fn read_numbers<O: Outside>(
+        &self,
+        out: &O,
+        at: Place,
+        array: &Value,
+    ) -> Result<Vec<i64>, Stop>
+        ensures did { Did (λ numbers. numbers.items) result (state_seen self.now (O.told out.now)) (numbers_read at (value_seen array.now) (state_seen self.now (O.told out.now))) }
         ensures stop { IfErr result IsFaultOrMemory }
     {
         match array {
-            Value::Variables(number) => self.variables_read(at, *number),
+            Value::Variables(number) => self.variables_read(out, at, *number),
             _ => {
                 let numbers = Vec::from_slice(self.alloc, self.numbers(array))?;
                 Ok(numbers)
@@ -63,22 +66,28 @@ impl State {
     }
 
     /// The numbers of an array of variables, which are read at this place.
-    fn variables_read(&self, at: Place, array: usize) -> Result<Vec<i64>, Stop>
-        ensures did { (printed : List ℕ) → Did (λ numbers. numbers.items) result (state_seen self.now printed) (numbers_read at (values.Variables array) (state_seen self.now printed)) }
+    fn variables_read<O: Outside>(&self, out: &O, at: Place, array: usize) -> Result<Vec<i64>, Stop>
+        ensures did { Did (λ numbers. numbers.items) result (state_seen self.now (O.told out.now)) (numbers_read at (values.Variables array) (state_seen self.now (O.told out.now))) }
         ensures stop { IfErr result IsFaultOrMemory }
     {
-        let values = self.read_each(at, self.variables(array))?;
+        let values = self.read_each(out, at, self.variables(array))?;
         numbers_of(self.alloc, &values)
     }
 
     /// How often a number stands in an array, of which each variable is read at this place.
-    pub(crate) fn count_read(&self, at: Place, array: &Value, number: i64) -> Result<i64, Stop>
-        ensures did { (printed : List ℕ) → Did (λ count. count) result (state_seen self.now printed) (count_read at (value_seen array.now) number (state_seen self.now printed)) }
+    pub(crate) fn count_read<O: Outside>(
+        &self,
+        out: &O,
+        at: Place,
+        array: &Value,
+        number: i64,
+    ) -> Result<i64, Stop>
+        ensures did { Did (λ count. count) result (state_seen self.now (O.told out.now)) (count_read at (value_seen array.now) number (state_seen self.now (O.told out.now))) }
         ensures stop { IfErr result IsFaultOrMemory }
     {
         match array {
             Value::Variables(variables) => {
-                let numbers = self.variables_read(at, *variables)?;
+                let numbers = self.variables_read(out, at, *variables)?;
                 Ok(count_in(number, &numbers))
             }
             _ => Ok(count_in(number, self.numbers(array))),

@@ -16,11 +16,13 @@ ghost use Rattle.run_values.specs.Views.{bounds_seen, value_seen};
 ghost use Rattle.run_values.specs.declared.stop.Stop.TheVariants.{NoMemory};
 ghost use Rattle.run_state.specs.SearchActs.{queued, submitted, watched};
 ghost use Rattle.run_search.specs.Searches.{closure_seen, move_seen, solution_seen};
+ghost use Rattle.run_outside.specs.Told.{Told};
 ghost use Rattle.run_state.specs.Views.{state_seen};
 
 use crate::state::State;
 use cbl_base::{Place, RunFault};
 use checked_tree::{EventSlots, Later};
+use run_outside::Outside;
 use run_search::{Closure, KeptMove, Reaction, Solution, Ties, VarChange};
 use run_values::{Bounds, Stop, Value};
 
@@ -29,7 +31,7 @@ impl State {
     /// exactly where its range is empty, and then no word is taken.
     #[tactic(auto, unfolding(comet_meaning::specs::Draws::draw))]
     pub fn draw(&mut self, at: Place, distribution: &Value) -> Result<Value, Stop>
-        ensures did { (printed : List ℕ) → Did value_seen result (state_seen self.new printed) (draw at (value_seen distribution.now) (state_seen self.old printed)) }
+        ensures did { (told : Told) → Did value_seen result (state_seen self.new told) (draw at (value_seen distribution.now) (state_seen self.old told)) }
         ensures stop { IfErr result IsFault }
         ensures fuel { self.new.fuel ≡ self.old.fuel }
     {
@@ -42,7 +44,7 @@ impl State {
     /// A number of a range.
     #[tactic(auto, unfolding(comet_meaning::specs::Draws::below, comet_meaning::specs::Draws::next_word))]
     fn drawn_of(&mut self, at: Place, bounds: Bounds) -> Result<Value, Stop>
-        ensures did { (printed : List ℕ) → Did value_seen result (state_seen self.new printed) (drawn_of at (bounds_seen bounds) (state_seen self.old printed)) }
+        ensures did { (told : Told) → Did value_seen result (state_seen self.new told) (drawn_of at (bounds_seen bounds) (state_seen self.old told)) }
         ensures stop { IfErr result IsFault }
         ensures fuel { self.new.fuel ≡ self.old.fuel }
     {
@@ -58,7 +60,7 @@ impl State {
     /// of them, by the next word.
     #[tactic(auto, unfolding(comet_meaning::specs::Selection::chosen_of))]
     pub fn pick(&mut self, ties: &Ties) -> Option<u64>
-        ensures did { (printed : List ℕ) → chosen_of ties.now (state_seen self.old printed) ≡ Went result (state_seen self.new printed) }
+        ensures did { (told : Told) → chosen_of ties.now (state_seen self.old told) ≡ Went result (state_seen self.new told) }
         ensures fuel { self.new.fuel ≡ self.old.fuel }
     {
         self.search.pick(ties)
@@ -67,7 +69,7 @@ impl State {
     /// A statement that runs later, with the names that it sees now. `NoMemory` where there is none for it.
     #[tactic(auto, unfolding(comet_meaning::specs::Events::closed_over))]
     pub fn closed_over(&self, body: &Later) -> Result<Closure, Stop>
-        ensures did { (printed : List ℕ) → Did (λ c. Some (closure_seen c)) result (state_seen self.now printed) (closed_over (work_of body.now.value.value) (state_seen self.now printed)) }
+        ensures did { (told : Told) → Did (λ c. Some (closure_seen c)) result (state_seen self.now told) (closed_over (work_of body.now.value.value) (state_seen self.now told)) }
         ensures memory { IfErr result (λ stop. stop ≡ NoMemory) }
     {
         let frame = self.copied_frame()?;
@@ -76,9 +78,9 @@ impl State {
     }
 
     /// A new selector, which keeps nothing.
-    #[tactic(auto, unfolding(comet_meaning::specs::Moves::make_selector))]
+    #[tactic(auto, unfolding(comet_meaning::specs::Moves::make_selector, run_search::specs::Searches::moves_seen))]
     pub fn make_selector(&mut self) -> Result<Value, Stop>
-        ensures did { (printed : List ℕ) → Did value_seen result (state_seen self.new printed) (moves.make_selector (state_seen self.old printed)) }
+        ensures did { (told : Told) → Did value_seen result (state_seen self.new told) (moves.make_selector (state_seen self.old told)) }
         ensures memory { IfErr result (λ stop. stop ≡ NoMemory) }
         ensures fuel { self.new.fuel ≡ self.old.fuel }
     {
@@ -91,7 +93,7 @@ impl State {
     /// selector keeps nothing.
     #[tactic(auto, unfolding(comet_meaning::specs::Events::closed_over))]
     pub fn submit(&mut self, delta: i64, selector: &Value, body: &Later) -> Result<(), Stop>
-        ensures did { (printed : List ℕ) → Did (λ _. tt) result (state_seen self.new printed) (submitted delta (value_seen selector.now) (work_of body.now.value.value) (state_seen self.old printed)) }
+        ensures did { (told : Told) → Did (λ _. tt) result (state_seen self.new told) (submitted delta (value_seen selector.now) (work_of body.now.value.value) (state_seen self.old told)) }
         ensures memory { IfErr result (λ stop. stop ≡ NoMemory) }
         ensures fuel { self.new.fuel ≡ self.old.fuel }
     {
@@ -102,9 +104,9 @@ impl State {
     }
 
     /// The same of the selector with a number.
-    #[tactic(auto, unfolding(comet_meaning::specs::Events::closed_over))]
+    #[tactic(auto, unfolding(comet_meaning::specs::Events::closed_over, run_search::specs::Searches::moves_seen))]
     fn submit_to(&mut self, delta: i64, number: usize, body: &Later) -> Result<(), Stop>
-        ensures did { (printed : List ℕ) → Did (λ _. tt) result (state_seen self.new printed) (submitted delta (values.Selector number) (work_of body.now.value.value) (state_seen self.old printed)) }
+        ensures did { (told : Told) → Did (λ _. tt) result (state_seen self.new told) (submitted delta (values.Selector number) (work_of body.now.value.value) (state_seen self.old told)) }
         ensures memory { IfErr result (λ stop. stop ≡ NoMemory) }
         ensures fuel { self.new.fuel ≡ self.old.fuel }
     {
@@ -117,8 +119,9 @@ impl State {
     }
 
     /// Whether a delta is less than that of the move that a selector keeps, or it keeps none.
+    #[tactic(auto, unfolding(run_search::specs::Searches::moves_seen))]
     fn is_better(&self, delta: i64, number: usize) -> bool
-        ensures { (printed : List ℕ) → result ≡ moves.is_better delta (moves.kept_in (state_seen self.now printed) number) }
+        ensures { (told : Told) → result ≡ moves.is_better delta (moves.kept_in (state_seen self.now told) number) }
     {
         match self.kept(number) {
             Some(kept) => delta < kept.delta,
@@ -127,8 +130,9 @@ impl State {
     }
 
     /// The move that the selector with a number keeps.
+    #[tactic(auto, unfolding(run_search::specs::Searches::moves_seen))]
     fn kept(&self, number: usize) -> Option<&KeptMove>
-        ensures { (printed : List ℕ) → option_map (λ m. move_seen m.now) result ≡ moves.kept_in (state_seen self.now printed) number }
+        ensures { (told : Told) → option_map (λ m. move_seen m.now) result ≡ moves.kept_in (state_seen self.now told) number }
     {
         match self.moves.get(number) {
             Some(kept) => kept.as_ref(),
@@ -137,8 +141,9 @@ impl State {
     }
 
     /// The selector with a number keeps this move.
+    #[tactic(auto, unfolding(run_search::specs::Searches::moves_seen))]
     fn put_move(&mut self, number: usize, kept: KeptMove)
-        ensures did { (printed : List ℕ) → moves.put_move number (move_seen kept) (state_seen self.old printed) ≡ Went tt (state_seen self.new printed) }
+        ensures did { (told : Told) → moves.put_move number (move_seen kept) (state_seen self.old told) ≡ Went tt (state_seen self.new told) }
         ensures fuel { self.new.fuel ≡ self.old.fuel }
     {
         if number < self.moves.len() {
@@ -147,16 +152,17 @@ impl State {
     }
 
     /// Whether the selector with a number keeps a move.
+    #[tactic(auto, unfolding(run_search::specs::Searches::moves_seen))]
     fn keeps(&self, number: usize) -> bool
-        ensures { (printed : List ℕ) → result ≡ is_some (moves.kept_in (state_seen self.now printed) number) }
+        ensures { (told : Told) → result ≡ is_some (moves.kept_in (state_seen self.now told) number) }
     {
         self.kept(number).is_some()
     }
 
     /// Whether a selector keeps a move, and nothing of what is no selector.
-    #[tactic(auto, unfolding(comet_meaning::specs::Moves::has_move))]
+    #[tactic(auto, unfolding(comet_meaning::specs::Moves::has_move, run_search::specs::Searches::moves_seen))]
     pub fn has_move(&self, selector: &Value) -> Value
-        ensures { (printed : List ℕ) → moves.has_move (value_seen selector.now) (state_seen self.now printed) ≡ Went (value_seen result) (state_seen self.now printed) }
+        ensures { (told : Told) → moves.has_move (value_seen selector.now) (state_seen self.now told) ≡ Went (value_seen result) (state_seen self.now told) }
     {
         match selector {
             Value::Selector(number) => Value::Truth(self.keeps(*number)),
@@ -165,9 +171,9 @@ impl State {
     }
 
     /// The move of a selector, and nothing of what is no selector. `NoMove` at this place exactly where it keeps none.
-    #[tactic(auto, unfolding(comet_meaning::specs::Moves::get_move))]
+    #[tactic(auto, unfolding(comet_meaning::specs::Moves::get_move, run_search::specs::Searches::moves_seen))]
     pub fn get_move(&self, at: Place, selector: &Value) -> Result<Value, Stop>
-        ensures did { (printed : List ℕ) → Did value_seen result (state_seen self.now printed) (moves.get_move at (value_seen selector.now) (state_seen self.now printed)) }
+        ensures did { (told : Told) → Did value_seen result (state_seen self.now told) (moves.get_move at (value_seen selector.now) (state_seen self.now told)) }
         ensures stop { IfErr result IsFault }
     {
         match selector {
@@ -183,8 +189,9 @@ impl State {
     }
 
     /// A copy of what the move is that a selector keeps; `None` where it keeps none.
+    #[tactic(auto, unfolding(run_search::specs::Searches::moves_seen))]
     pub fn kept_closure(&self, number: usize) -> Result<Option<Closure>, Stop>
-        ensures kept { (printed : List ℕ) → IfOk result (λ c. option_map closure_seen c ≡ option_map (λ m. m.closure) (moves.kept_in (state_seen self.now printed) number)) }
+        ensures kept { (told : Told) → IfOk result (λ c. option_map closure_seen c ≡ option_map (λ m. m.closure) (moves.kept_in (state_seen self.now told) number)) }
         ensures memory { IfErr result (λ stop. stop ≡ NoMemory) }
     {
         match self.kept(number) {
@@ -205,7 +212,7 @@ impl State {
         names: Option<EventSlots>,
         body: &Later,
     ) -> Result<(), Stop>
-        ensures did { (printed : List ℕ) → Did (λ _. tt) result (state_seen self.new printed) (watched (value_seen variable.now) names (work_of body.now.value.value) (state_seen self.old printed)) }
+        ensures did { (told : Told) → Did (λ _. tt) result (state_seen self.new told) (watched (value_seen variable.now) names (work_of body.now.value.value) (state_seen self.old told)) }
         ensures memory { IfErr result (λ stop. stop ≡ NoMemory) }
         ensures fuel { self.new.fuel ≡ self.old.fuel }
     {
@@ -220,7 +227,7 @@ impl State {
 
     /// Keeps a solution; it gets the next number.
     pub fn keep_solution(&mut self, solution: Solution) -> Result<Value, Stop>
-        ensures did { (printed : List ℕ) → Did value_seen result (state_seen self.new printed) (add_solution (solution_seen solution) (state_seen self.old printed)) }
+        ensures did { (told : Told) → Did value_seen result (state_seen self.new told) (add_solution (solution_seen solution) (state_seen self.old told)) }
         ensures memory { IfErr result (λ stop. stop ≡ NoMemory) }
         ensures fuel { self.new.fuel ≡ self.old.fuel }
     {
@@ -232,7 +239,7 @@ impl State {
 
     /// Queues the events of changes.
     pub fn notice(&mut self, changes: &[VarChange]) -> Result<(), Stop>
-        ensures did { (printed : List ℕ) (k : ℕ) (cs : List Change) → changes.now ≡ map (told k) cs → Did (λ _. tt) result (state_seen self.new printed) (queued k cs (state_seen self.old printed)) }
+        ensures did { (outside : Told) (k : ℕ) (cs : List Change) → changes.now ≡ map (told k) cs → Did (λ _. tt) result (state_seen self.new outside) (queued k cs (state_seen self.old outside)) }
         ensures memory { IfErr result (λ stop. stop ≡ NoMemory) }
         ensures fuel { self.new.fuel ≡ self.old.fuel }
     {
@@ -243,28 +250,40 @@ impl State {
     /// solver is open, and then `WrongSolver` where that has other free variables by now; and else the fault of the
     /// variables where it was met.
     #[tactic(auto, unfolding(comet_meaning::specs::Solutions::restore))]
-    pub fn restore(&mut self, at: Place, solution: &Value) -> Result<Value, Stop>
-        ensures did { (printed : List ℕ) → Did value_seen result (state_seen self.new printed) (solutions.restore at (value_seen solution.now) (state_seen self.old printed)) }
+    pub fn restore<O: Outside>(
+        &mut self,
+        out: &mut O,
+        at: Place,
+        solution: &Value,
+    ) -> Result<Value, Stop>
+        ensures did { Did value_seen result (state_seen self.new (O.told out.new)) (solutions.restore at (value_seen solution.now) (state_seen self.old (O.told out.old))) }
+        ensures printed { (O.told out.new).printed ≡ (O.told out.old).printed }
         ensures stop { IfErr result IsFaultOrMemory }
         ensures fuel { self.new.fuel ≡ self.old.fuel }
     {
         match solution {
-            Value::Solution(number) => self.restore_one(at, *number),
+            Value::Solution(number) => self.restore_one(out, at, *number),
             _ => Ok(Value::Nothing),
         }
     }
 
     /// The same of the solution with a number.
     #[tactic(auto, unfolding(comet_meaning::specs::Solutions::restore))]
-    fn restore_one(&mut self, at: Place, number: usize) -> Result<Value, Stop>
-        ensures did { (printed : List ℕ) → Did value_seen result (state_seen self.new printed) (solutions.restore at (values.Solution number) (state_seen self.old printed)) }
+    fn restore_one<O: Outside>(
+        &mut self,
+        out: &mut O,
+        at: Place,
+        number: usize,
+    ) -> Result<Value, Stop>
+        ensures did { Did value_seen result (state_seen self.new (O.told out.new)) (solutions.restore at (values.Solution number) (state_seen self.old (O.told out.old))) }
+        ensures printed { (O.told out.new).printed ≡ (O.told out.old).printed }
         ensures stop { IfErr result IsFaultOrMemory }
         ensures fuel { self.new.fuel ≡ self.old.fuel }
     {
         let Some(solution) = self.search.solution(number) else {
             return Ok(Value::Nothing);
         };
-        let changes = self.solvers.restore(at, solution)?;
+        let changes = out.restore(at, solution)?;
         self.search.queue(&changes)?;
         Ok(Value::Nothing)
     }

@@ -9,6 +9,7 @@ ghost use Rattle.run_values.specs.Did.{Did};
 ghost use Rattle.run_values.specs.Views.{extent_seen, value_seen};
 ghost use Rattle.run_values.specs.declared.stop.Stop.TheVariants.{NoMemory};
 ghost use Rattle.run_state.specs.InTerms.{in_term_seen, term_cells_seen};
+ghost use Rattle.run_outside.specs.Told.{Told};
 ghost use Rattle.run_state.specs.Views.{state_seen};
 
 use crate::state::State;
@@ -95,7 +96,7 @@ impl State {
     /// of its cells. `NoMemory` where there is none for an array; there is no other stop.
     #[tactic(auto, unfolding(comet_meaning::specs::Terms::standing))]
     pub fn standing(&self, value: Value) -> Result<InTerm, Stop>
-        ensures did { (printed : List ℕ) → Did in_term_seen result (state_seen self.now printed) (meaning.standing (value_seen value) (state_seen self.now printed)) }
+        ensures did { (told : Told) → Did in_term_seen result (state_seen self.now told) (meaning.standing (value_seen value) (state_seen self.now told)) }
         ensures memory { IfErr result (λ stop. stop ≡ NoMemory) }
     {
         match value {
@@ -110,7 +111,7 @@ impl State {
 
     /// An array of numbers in a term.
     fn standing_numbers(&self, array: &Value) -> Result<InTerm, Stop>
-        ensures same { (printed : List ℕ) → IfOk result (λ t. in_term_seen t ≡ meaning.Several (constants (cells_of (state_seen self.now printed) (value_seen array.now)))) }
+        ensures same { (told : Told) → IfOk result (λ t. in_term_seen t ≡ meaning.Several (constants (cells_of (state_seen self.now told) (value_seen array.now)))) }
         ensures memory { IfErr result (λ stop. stop ≡ NoMemory) }
     {
         let terms = constants_of(self.alloc, self.numbers(array))?;
@@ -124,7 +125,7 @@ impl State {
 
     /// An array of variables in a term.
     fn standing_variables(&self, array: usize) -> Result<InTerm, Stop>
-        ensures same { (printed : List ℕ) → IfOk result (λ t. in_term_seen t ≡ meaning.Several (variable_terms (variables_of (state_seen self.now printed) (values.Variables array)))) }
+        ensures same { (told : Told) → IfOk result (λ t. in_term_seen t ≡ meaning.Several (variable_terms (variables_of (state_seen self.now told) (values.Variables array)))) }
         ensures memory { IfErr result (λ stop. stop ≡ NoMemory) }
     {
         let terms = variables_of(self.alloc, self.variables(array))?;

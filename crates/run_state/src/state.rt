@@ -1,10 +1,11 @@
 //! The state of a run.
-ghost use Rattle.std.specs.Prelude.{◌≡◌, []};
+ghost use Rattle.std.specs.Prelude.{◌≡◌, List};
 ghost use Rattle.comet_meaning.specs.State.{first_state};
+ghost use Rattle.comet_meaning.specs.Users.{User};
+ghost use Rattle.run_outside.specs.Told.{begun_with};
 ghost use Rattle.run_state.specs.Views.{state_seen};
 
 use run_search::{KeptMove, Search};
-use run_solvers::Solvers;
 use run_values::{Cells, Value, VariableCells};
 use std::alloc::Global;
 
@@ -15,7 +16,6 @@ pub struct State {
     pub frame: Vec<Value>,
     pub(crate) arrays: Vec<Cells>,
     pub(crate) variable_arrays: Vec<VariableCells>,
-    pub solvers: Solvers,
     /// For each `InputFile` how many bytes of the data it has read.
     pub(crate) inputs: Vec<usize>,
     pub(crate) data: Vec<u8>,
@@ -28,15 +28,15 @@ pub struct State {
 
 impl State {
     /// The state at the start of a run, with this seed, this fuel and this data.
+    #[tactic(auto, unfolding(run_search::specs::Searches::moves_seen))]
     pub fn new(alloc: Global, seed: u64, fuel: u64, text: Vec<u8>) -> State
-        ensures { state_seen result [] ≡ first_state seed fuel text.items }
+        ensures { (users : List User) → state_seen result (begun_with users) ≡ first_state seed fuel text.items users }
     {
         State {
             globals: Vec::new(alloc),
             frame: Vec::new(alloc),
             arrays: Vec::new(alloc),
             variable_arrays: Vec::new(alloc),
-            solvers: Solvers::new(alloc),
             inputs: Vec::new(alloc),
             data: text,
             moves: Vec::new(alloc),

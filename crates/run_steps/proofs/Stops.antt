@@ -27,7 +27,7 @@ ended_then (Cyclic place names) s o f k e = ap (λ o. then_do o f) e
 ended_then NoMemory s o f k e = front_then s.printed o f k e
 ended_then (Output x) s o f k e = front_then s.printed o f k e
 
-stays : {A : Type 0} (s t : State) {m : Act A} → GoesOn m → t.printed ≡ s.printed → IsFront t.printed (left_by (m s)).printed
+pub stays : {A : Type 0} (s t : State) {m : Act A} → GoesOn m → t.printed ≡ s.printed → IsFront t.printed (left_by (m s)).printed
 stays s t g same = let on = (g.from s).printed in (on.0, on.1 ∙ ap (λ u. u ++ on.0) (sym same))
 
 -- an act that doesn't print

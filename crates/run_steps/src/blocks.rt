@@ -10,25 +10,35 @@ ghost use Rattle.run_values.specs.Views.{value_seen};
 
 use crate::code::Flow;
 use run_objects::commit_waiting;
-use run_state::State;
+use run_state::{Outside, State};
 use run_values::{Stop, Value};
 
 /// The end of the outermost `with` on a solver: what waits is committed.
-fn close_block(s: &mut State, solver: &Value, flow: Flow) -> Result<Flow, Stop>
-    ensures did { (printed : List ℕ) → Does flow_seen result (state_seen s.new printed) (closed_block (solver_of (value_seen solver.now)) (flow_seen flow) (state_seen s.old printed)) }
+fn close_block<O: Outside>(
+    s: &mut State,
+    out: &mut O,
+    solver: &Value,
+    flow: Flow,
+) -> Result<Flow, Stop>
+    ensures did { Does flow_seen result (state_seen s.new (O.told out.new)) (closed_block (solver_of (value_seen solver.now)) (flow_seen flow) (state_seen s.old (O.told out.old))) }
 {
-    match commit_waiting(s, solver) {
+    match commit_waiting(s, out, solver) {
         Err(stop) => Err(stop),
         Ok(()) => Ok(flow),
     }
 }
 
 /// The same with the answer of its body.
-pub fn commit_part(s: &mut State, solver: &Value, flow: Result<Flow, Stop>) -> Result<Flow, Stop>
-    ensures did { (printed : List ℕ) → Follows flow_seen flow_seen flow result (state_seen s.old printed) (state_seen s.new printed) (closed_block (solver_of (value_seen solver.now))) }
+pub fn commit_part<O: Outside>(
+    s: &mut State,
+    out: &mut O,
+    solver: &Value,
+    flow: Result<Flow, Stop>,
+) -> Result<Flow, Stop>
+    ensures did { Follows flow_seen flow_seen flow result (state_seen s.old (O.told out.old)) (state_seen s.new (O.told out.new)) (closed_block (solver_of (value_seen solver.now))) }
 {
     match flow {
         Err(stop) => Err(stop),
-        Ok(flow) => close_block(s, solver, flow),
+        Ok(flow) => close_block(s, out, solver, flow),
     }
 }

@@ -11,6 +11,7 @@ ghost use Rattle.comet_meaning.specs.Values.{size_of};
 ghost use Rattle.comet_meaning.specs.Variables.{cell_name, variables_with};
 ghost use Rattle.run_state.specs.Views.{state_seen};
 ghost use Rattle.run_steps.specs.Extents.{capped, extent_seen};
+ghost use Rattle.run_outside.specs.Told.{Told};
 ghost use Rattle.run_values.specs.Did.{Did};
 ghost use Rattle.run_values.specs.Views.{bounds_seen, cells_seen, variable_cells_seen};
 ghost use Rattle.run_values.specs.declared.stop.Stop.TheVariants.{NoMemory};
@@ -71,7 +72,7 @@ fn capped(count: u128) -> u128
 
 /// The name of a dimension, where it has one, gets the index.
 pub fn put_named(s: &mut State, slot: Option<Slot>, index: i64) -> Result<(), Stop>
-    ensures { (printed : List ℕ) → Did (λ _. tt) result (state_seen s.new printed) (put_named slot index (state_seen s.old printed)) }
+    ensures { (told : Told) → Did (λ _. tt) result (state_seen s.new told) (put_named slot index (state_seen s.old told)) }
 {
     match slot {
         None => Ok(()),

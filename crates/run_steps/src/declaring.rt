@@ -7,6 +7,7 @@ ghost use Rattle.comet_meaning.specs.State as states;
 ghost use Rattle.comet_meaning.specs.Variables as meaning;
 ghost use Rattle.comet_meaning.specs.Variables.{beginning_with, declared, variable_kind};
 ghost use Rattle.run_solvers.specs.Views.{beginning_seen};
+ghost use Rattle.run_outside.specs.Told.{Told};
 ghost use Rattle.run_state.specs.Views.{state_seen};
 ghost use Rattle.run_steps.specs.Does.{Does};
 ghost use Rattle.run_steps.specs.Extents.{extent_seen};
@@ -20,7 +21,7 @@ use cbl_base::{IntSet, Place, RunFault, VarId};
 use checked_tree::{Kind, Slot, Variable};
 use run_objects::variable_in;
 use run_solvers::{Beginning, Built};
-use run_state::State;
+use run_state::{Outside, State};
 use run_values::{Bounds, Stop, Value};
 use std::alloc::Global;
 use term_model::{VarDecl, VarKind};
@@ -77,34 +78,36 @@ pub fn declared(kind: Kind, domain: Bounds) -> VarDecl
 }
 
 /// A new variable of a solver, which a name gets.
-fn add_variable(
+fn add_variable<O: Outside>(
     s: &mut State,
+    out: &mut O,
     at: Place,
     variable: &Variable,
     domain: Bounds,
     beginning: Beginning,
 ) -> Result<(), Stop>
-    ensures did { (printed : List ℕ) → Does (λ _. tt) result (state_seen s.new printed) (added_variable at (variable_of variable.now) (bounds_seen domain) (beginning_seen beginning) (state_seen s.old printed)) }
+    ensures did { Does (λ _. tt) result (state_seen s.new (O.told out.new)) (added_variable at (variable_of variable.now) (bounds_seen domain) (beginning_seen beginning) (state_seen s.old (O.told out.old))) }
 {
     let name = copied_name(s.alloc, &variable.name)?;
     let decl = declared(variable.kind, domain);
-    let made = variable_in(s, at, variable.solver, decl, name, beginning)?;
+    let made = variable_in(s, out, at, variable.solver, decl, name, beginning)?;
     s.put(variable.slot, Value::Variable(made))
 }
 
 /// A variable with its domain and how it begins.
-pub fn begin_variable(
+pub fn begin_variable<O: Outside>(
     s: &mut State,
+    out: &mut O,
     at: Place,
     variable: &Variable,
     domain: Bounds,
     beginning: Result<Beginning, Stop>,
 ) -> Result<(), Stop>
-    ensures did { (printed : List ℕ) → Follows beginning_seen (λ _. tt) beginning result (state_seen s.old printed) (state_seen s.new printed) (added_variable at (variable_of variable.now) (bounds_seen domain)) }
+    ensures did { Follows beginning_seen (λ _. tt) beginning result (state_seen s.old (O.told out.old)) (state_seen s.new (O.told out.new)) (added_variable at (variable_of variable.now) (bounds_seen domain)) }
 {
     match beginning {
         Err(stop) => Err(stop),
-        Ok(beginning) => add_variable(s, at, variable, domain, beginning),
+        Ok(beginning) => add_variable(s, out, at, variable, domain, beginning),
     }
 }
 
@@ -119,8 +122,9 @@ fn pushed(variables: Vec<VarId>, variable: VarId) -> Result<Vec<VarId>, Stop>
 }
 
 /// One more cell of an array of variables: its variable, with its name.
-fn add_cell(
+fn add_cell<O: Outside>(
     s: &mut State,
+    out: &mut O,
     at: Place,
     variable: &Variable,
     decl: VarDecl,
@@ -128,16 +132,17 @@ fn add_cell(
     cells: Vec<VarId>,
     beginning: Beginning,
 ) -> Result<Vec<VarId>, Stop>
-    ensures did { (printed : List ℕ) → Does (λ cells. cells.items) result (state_seen s.new printed) (added_cell at (variable_of variable.now) decl indices.now cells.items (beginning_seen beginning) (state_seen s.old printed)) }
+    ensures did { Does (λ cells. cells.items) result (state_seen s.new (O.told out.new)) (added_cell at (variable_of variable.now) decl indices.now cells.items (beginning_seen beginning) (state_seen s.old (O.told out.old))) }
 {
     let name = cell_name(s.alloc, &variable.name, indices)?;
-    let made = variable_in(s, at, variable.solver, decl, name, beginning)?;
+    let made = variable_in(s, out, at, variable.solver, decl, name, beginning)?;
     pushed(cells, made)
 }
 
 /// The same with the answer of how it begins.
-pub fn push_variable(
+pub fn push_variable<O: Outside>(
     s: &mut State,
+    out: &mut O,
     at: Place,
     variable: &Variable,
     decl: VarDecl,
@@ -145,25 +150,26 @@ pub fn push_variable(
     cells: Vec<VarId>,
     beginning: Result<Beginning, Stop>,
 ) -> Result<Vec<VarId>, Stop>
-    ensures did { (printed : List ℕ) → Follows beginning_seen (λ cells. cells.items) beginning result (state_seen s.old printed) (state_seen s.new printed) (added_cell at (variable_of variable.now) decl indices.now cells.items) }
+    ensures did { Follows beginning_seen (λ cells. cells.items) beginning result (state_seen s.old (O.told out.old)) (state_seen s.new (O.told out.new)) (added_cell at (variable_of variable.now) decl indices.now cells.items) }
 {
     match beginning {
         Err(stop) => Err(stop),
-        Ok(beginning) => add_cell(s, at, variable, decl, indices, cells, beginning),
+        Ok(beginning) => add_cell(s, out, at, variable, decl, indices, cells, beginning),
     }
 }
 
 /// The numbers of a list of exactly so many, which stands at the second place.
-fn numbers_of_list(
+fn numbers_of_list<O: Outside>(
     s: &State,
+    out: &O,
     at: Place,
     place: Place,
     count: u128,
     list: &Value,
 ) -> Result<Vec<i64>, Stop>
-    ensures did { (printed : List ℕ) → Does (λ numbers. numbers.items) result (state_seen s.now printed) (exactly at place count (value_seen list.now) (state_seen s.now printed)) }
+    ensures did { Does (λ numbers. numbers.items) result (state_seen s.now (O.told out.now)) (exactly at place count (value_seen list.now) (state_seen s.now (O.told out.now))) }
 {
-    let numbers = s.read_numbers(place, list)?;
+    let numbers = s.read_numbers(out, place, list)?;
     let cells = numbers.len();
     if cells as u128 != count {
         return Err(Stop::Fault(at, RunFault::OutOfRange));
@@ -172,18 +178,19 @@ fn numbers_of_list(
 }
 
 /// The same with the list's answer.
-pub fn take_numbers(
+pub fn take_numbers<O: Outside>(
     s: &State,
+    out: &O,
     at: Place,
     place: Place,
     count: u128,
     list: Result<Value, Stop>,
 ) -> Result<Vec<i64>, Stop>
-    ensures did { (printed : List ℕ) → Follows value_seen (λ numbers. numbers.items) list result (state_seen s.now printed) (state_seen s.now printed) (exactly at place count) }
+    ensures did { Follows value_seen (λ numbers. numbers.items) list result (state_seen s.now (O.told out.now)) (state_seen s.now (O.told out.now)) (exactly at place count) }
 {
     match list {
         Err(stop) => Err(stop),
-        Ok(list) => numbers_of_list(s, at, place, count, &list),
+        Ok(list) => numbers_of_list(s, out, at, place, count, &list),
     }
 }
 
@@ -194,7 +201,7 @@ fn put_variables(
     extents: &[Extent],
     variables: Vec<VarId>,
 ) -> Result<(), Stop>
-    ensures did { (printed : List ℕ) → Does (λ _. tt) result (state_seen s.new printed) (made_variables slot (map extent_seen extents.now) variables.items (state_seen s.old printed)) }
+    ensures did { (told : Told) → Does (λ _. tt) result (state_seen s.new told) (made_variables slot (map extent_seen extents.now) variables.items (state_seen s.old told)) }
 {
     let array = s.new_variables(variables_of(extents, variables))?;
     s.put(slot, array)
@@ -207,7 +214,7 @@ pub fn make_variables(
     extents: &[Extent],
     variables: Result<Vec<VarId>, Stop>,
 ) -> Result<(), Stop>
-    ensures did { (printed : List ℕ) → Follows (λ variables. variables.items) (λ _. tt) variables result (state_seen s.old printed) (state_seen s.new printed) (made_variables slot (map extent_seen extents.now)) }
+    ensures did { (told : Told) → Follows (λ variables. variables.items) (λ _. tt) variables result (state_seen s.old told) (state_seen s.new told) (made_variables slot (map extent_seen extents.now)) }
 {
     match variables {
         Err(stop) => Err(stop),

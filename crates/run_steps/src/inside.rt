@@ -7,6 +7,7 @@ ghost use Rattle.comet_meaning.specs.Parts as parts;
 ghost use Rattle.comet_meaning.specs.Program.{level};
 ghost use Rattle.run_state.specs.InTerms.{in_term_seen};
 ghost use Rattle.run_state.specs.Targets.{target_seen};
+ghost use Rattle.run_outside.specs.Told.{Told};
 ghost use Rattle.run_state.specs.Views.{state_seen};
 ghost use Rattle.run_steps.specs.Does.{Does};
 ghost use Rattle.run_steps.specs.Inside.{Defines, Evaluates, Executes, Locates};
@@ -17,12 +18,12 @@ ghost use Rattle.run_values.specs.Views.{value_seen};
 use crate::code::{Code, Flow};
 use crate::short_calls::called_number;
 use checked_tree::{Task, Typed};
-use run_state::{InTerm, Out, State, Target};
+use run_state::{InTerm, Outside, State, Target};
 use run_values::{Stop, Value};
 
 /// How the parts inside a part are executed: each with the program's functions, and with room for so many parts inside
 /// each other.
-pub trait Within<O: Out> {
+pub trait Within<O: Outside> {
     /// The program's functions.
     ghost code: { Self → levels.Code };
 
@@ -39,39 +40,39 @@ pub trait Within<O: Out> {
     /// The number of a part that is a short call, or a chain with short calls, where there is room and fuel for it. Where
     /// nothing is answered, the state is as it was.
     fn called_number(&self, s: &mut State, e: &Typed) -> Option<i64>
-        ensures given { (printed : List ℕ) → TakesFuel result (state_seen s.old printed) (state_seen s.new printed) (parts.value (level (code self.now) (depth self.now)) (part e.now) (state_seen s.old printed)) };
+        ensures given { (told : Told) → TakesFuel result (state_seen s.old told) (state_seen s.new told) (parts.value (level (code self.now) (depth self.now)) (part e.now) (state_seen s.old told)) };
 
     /// The value of an expression; of a variable the variable itself.
     fn evaluate(&self, s: &mut State, out: &mut O, e: &Typed) -> Result<Value, Stop>
         requires { is_ready self.now }
-        ensures did { Does value_seen result (state_seen s.new (O.taken out.new)) ((level (code self.now) (depth self.now)).expr (part e.now) (state_seen s.old (O.taken out.old))) };
+        ensures did { Does value_seen result (state_seen s.new (O.told out.new)) ((level (code self.now) (depth self.now)).expr (part e.now) (state_seen s.old (O.told out.old))) };
 
     /// What a statement does, and how it ends.
     fn execute(&self, s: &mut State, out: &mut O, t: &Task) -> Result<Flow, Stop>
         requires { is_ready self.now }
-        ensures did { Does flow_seen result (state_seen s.new (O.taken out.new)) ((level (code self.now) (depth self.now)).stmt (work_of t.now) (state_seen s.old (O.taken out.old))) };
+        ensures did { Does flow_seen result (state_seen s.new (O.told out.new)) ((level (code self.now) (depth self.now)).stmt (work_of t.now) (state_seen s.old (O.told out.old))) };
 }
 
 /// The same, where parts stand in a term, too.
-pub trait Defining<O: Out>: Within<O> {
+pub trait Defining<O: Outside>: Within<O> {
     /// Whether terms may be asked for.
     ghost can_define: { Self → Type 0 };
 
     /// What an expression stands for in a term.
     fn define(&self, s: &mut State, out: &mut O, e: &Typed) -> Result<InTerm, Stop>
         requires { can_define self.now }
-        ensures did { Does in_term_seen result (state_seen s.new (O.taken out.new)) ((level (Self.code self.now) (Self.depth self.now)).term (part e.now) (state_seen s.old (O.taken out.old))) };
+        ensures did { Does in_term_seen result (state_seen s.new (O.told out.new)) ((level (Self.code self.now) (Self.depth self.now)).term (part e.now) (state_seen s.old (O.told out.old))) };
 }
 
 /// The same, where parts are written, too.
-pub trait Around<O: Out>: Defining<O> {
+pub trait Around<O: Outside>: Defining<O> {
     /// Whether targets may be asked for.
     ghost can_locate: { Self → Type 0 };
 
     /// What an expression stands for where it is written.
     fn locate(&self, s: &mut State, out: &mut O, e: &Typed) -> Result<Target, Stop>
         requires { can_locate self.now }
-        ensures did { Does target_seen result (state_seen s.new (O.taken out.new)) ((level (Self.code self.now) (Self.depth self.now)).target (part e.now) (state_seen s.old (O.taken out.old))) };
+        ensures did { Does target_seen result (state_seen s.new (O.told out.new)) ((level (Self.code self.now) (Self.depth self.now)).target (part e.now) (state_seen s.old (O.told out.old))) };
 }
 
 /// The same, by a function for each kind of part; where none is asked for, `()` stands in its place.
@@ -88,7 +89,7 @@ pub struct Inside<'a, 'p, V, X, T, L> {
 impl<
     'a,
     'p,
-    O: Out,
+    O: Outside,
     V: Fn(&mut State, &mut O, &Typed) -> Result<Value, Stop>,
     X: Fn(&mut State, &mut O, &Task) -> Result<Flow, Stop>,
     T,
@@ -98,7 +99,7 @@ impl<
 
     ghost depth = { λ i. i.room };
 
-    ghost is_ready = { λ i. (V.IsAlwaysCallable i.evaluate × Evaluates O.taken (V.post i.evaluate) (code_seen i.code.now) i.room) × (X.IsAlwaysCallable i.execute × Executes O.taken (X.post i.execute) (code_seen i.code.now) i.room) };
+    ghost is_ready = { λ i. (V.IsAlwaysCallable i.evaluate × Evaluates O.told (V.post i.evaluate) (code_seen i.code.now) i.room) × (X.IsAlwaysCallable i.execute × Executes O.told (X.post i.execute) (code_seen i.code.now) i.room) };
 
     fn room(&self) -> u32 {
         self.room
@@ -120,13 +121,13 @@ impl<
 impl<
     'a,
     'p,
-    O: Out,
+    O: Outside,
     V: Fn(&mut State, &mut O, &Typed) -> Result<Value, Stop>,
     X: Fn(&mut State, &mut O, &Task) -> Result<Flow, Stop>,
     T: Fn(&mut State, &mut O, &Typed) -> Result<InTerm, Stop>,
     L,
 > Defining<O> for Inside<'a, 'p, V, X, T, L> {
-    ghost can_define = { λ i. T.IsAlwaysCallable i.define × Defines O.taken (T.post i.define) (code_seen i.code.now) i.room };
+    ghost can_define = { λ i. T.IsAlwaysCallable i.define × Defines O.told (T.post i.define) (code_seen i.code.now) i.room };
 
     fn define(&self, s: &mut State, out: &mut O, e: &Typed) -> Result<InTerm, Stop> {
         (self.define)(s, out, e)
@@ -136,13 +137,13 @@ impl<
 impl<
     'a,
     'p,
-    O: Out,
+    O: Outside,
     V: Fn(&mut State, &mut O, &Typed) -> Result<Value, Stop>,
     X: Fn(&mut State, &mut O, &Task) -> Result<Flow, Stop>,
     T: Fn(&mut State, &mut O, &Typed) -> Result<InTerm, Stop>,
     L: Fn(&mut State, &mut O, &Typed) -> Result<Target, Stop>,
 > Around<O> for Inside<'a, 'p, V, X, T, L> {
-    ghost can_locate = { λ i. L.IsAlwaysCallable i.locate × Locates O.taken (L.post i.locate) (code_seen i.code.now) i.room };
+    ghost can_locate = { λ i. L.IsAlwaysCallable i.locate × Locates O.told (L.post i.locate) (code_seen i.code.now) i.room };
 
     fn locate(&self, s: &mut State, out: &mut O, e: &Typed) -> Result<Target, Stop> {
         (self.locate)(s, out, e)

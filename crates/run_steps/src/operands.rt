@@ -11,6 +11,7 @@ ghost use Rattle.comet_meaning.specs.Values.{as_kind, bounds_of, number_of, trut
 ghost use Rattle.run_state.specs.Acts.{cell_written, counted, index_written, indexed, indexed_twice};
 ghost use Rattle.run_state.specs.InTerms.{in_term_seen, term_cells_seen};
 ghost use Rattle.run_state.specs.Targets.{target_seen};
+ghost use Rattle.run_outside.specs.Told.{Told};
 ghost use Rattle.run_state.specs.Views.{state_seen};
 ghost use Rattle.run_steps.specs.Does.{Does};
 ghost use Rattle.run_steps.specs.Following.{Follows};
@@ -24,7 +25,7 @@ use checked_tree::{Builtin, Kind, Link, Method, Slot, Typed};
 use comet_syntax::tree::UnaryOperator;
 use run_objects::{method as call_method, post};
 use run_solvers::Built;
-use run_state::{InTerm, State, Target, TermCells};
+use run_state::{InTerm, Outside, State, Target, TermCells};
 use run_values::builtins::builtin;
 use run_values::operators::{linked, unary};
 use run_values::values::as_kind;
@@ -32,12 +33,17 @@ use run_values::{Bounds, Stop, Value};
 use std::alloc::Global;
 
 /// The value of a part that was evaluated: a variable is read.
-pub fn read_part(s: &State, e: &Typed, value: Result<Value, Stop>) -> Result<Value, Stop>
-    ensures did { (printed : List ℕ) → Follows value_seen value_seen value result (state_seen s.now printed) (state_seen s.now printed) (parts.read (parts.read_place (part e.now))) }
+pub fn read_part<O: Outside>(
+    s: &State,
+    out: &O,
+    e: &Typed,
+    value: Result<Value, Stop>,
+) -> Result<Value, Stop>
+    ensures did { Follows value_seen value_seen value result (state_seen s.now (O.told out.now)) (state_seen s.now (O.told out.now)) (parts.read (parts.read_place (part e.now))) }
 {
     match value {
         Err(stop) => Err(stop),
-        Ok(value) => s.read(read_place(e), value),
+        Ok(value) => s.read(out, read_place(e), value),
     }
 }
 
@@ -116,7 +122,7 @@ pub fn index_array(
     array: &Value,
     index: Result<i64, Stop>,
 ) -> Result<Value, Stop>
-    ensures did { (printed : List ℕ) → Follows (λ z. z) value_seen index result (state_seen s.now printed) (state_seen s.now printed) (indexed at (value_seen array.now)) }
+    ensures did { (told : Told) → Follows (λ z. z) value_seen index result (state_seen s.now told) (state_seen s.now told) (indexed at (value_seen array.now)) }
 {
     match index {
         Err(stop) => Err(stop),
@@ -132,7 +138,7 @@ pub fn index_grid(
     row: i64,
     column: Result<i64, Stop>,
 ) -> Result<Value, Stop>
-    ensures did { (printed : List ℕ) → Follows (λ z. z) value_seen column result (state_seen s.now printed) (state_seen s.now printed) (indexed_twice at (value_seen grid.now) row) }
+    ensures did { (told : Told) → Follows (λ z. z) value_seen column result (state_seen s.now told) (state_seen s.now told) (indexed_twice at (value_seen grid.now) row) }
 {
     match column {
         Err(stop) => Err(stop),
@@ -147,7 +153,7 @@ pub fn target_in_array(
     array: &Value,
     index: Result<i64, Stop>,
 ) -> Result<Target, Stop>
-    ensures did { (printed : List ℕ) → Follows (λ z. z) target_seen index result (state_seen s.now printed) (state_seen s.now printed) (index_written at (value_seen array.now)) }
+    ensures did { (told : Told) → Follows (λ z. z) target_seen index result (state_seen s.now told) (state_seen s.now told) (index_written at (value_seen array.now)) }
 {
     match index {
         Err(stop) => Err(stop),
@@ -163,7 +169,7 @@ pub fn target_in_grid(
     row: i64,
     column: Result<i64, Stop>,
 ) -> Result<Target, Stop>
-    ensures did { (printed : List ℕ) → Follows (λ z. z) target_seen column result (state_seen s.now printed) (state_seen s.now printed) (cell_written at (value_seen grid.now) row) }
+    ensures did { (told : Told) → Follows (λ z. z) target_seen column result (state_seen s.now told) (state_seen s.now told) (cell_written at (value_seen grid.now) row) }
 {
     match column {
         Err(stop) => Err(stop),
@@ -172,18 +178,19 @@ pub fn target_in_grid(
 }
 
 /// `count(a, e)`, of the array, which stands at the second place, and the number.
-pub fn count_in_array(
+pub fn count_in_array<O: Outside>(
     s: &mut State,
+    out: &O,
     at: Place,
     place: Place,
     array: &Value,
     number: Result<i64, Stop>,
 ) -> Result<Value, Stop>
-    ensures did { (printed : List ℕ) → Follows (λ z. z) value_seen number result (state_seen s.old printed) (state_seen s.new printed) (counted at place (value_seen array.now)) }
+    ensures did { Follows (λ z. z) value_seen number result (state_seen s.old (O.told out.now)) (state_seen s.new (O.told out.now)) (counted at place (value_seen array.now)) }
 {
     match number {
         Err(stop) => Err(stop),
-        Ok(number) => s.count(at, place, array, number),
+        Ok(number) => s.count(out, at, place, array, number),
     }
 }
 
@@ -194,7 +201,7 @@ pub fn call_builtin(
     function: Builtin,
     arguments: Result<Vec<Value>, Stop>,
 ) -> Result<Value, Stop>
-    ensures did { (printed : List ℕ) → Follows (λ values. map value_seen values.items) value_seen arguments result (state_seen s.old printed) (state_seen s.new printed) (called_builtin at function) }
+    ensures did { (told : Told) → Follows (λ values. map value_seen values.items) value_seen arguments result (state_seen s.old told) (state_seen s.new told) (called_builtin at function) }
 {
     match arguments {
         Err(stop) => Err(stop),
@@ -206,53 +213,56 @@ pub fn call_builtin(
 }
 
 /// A method: a unit for the call, and then what it does.
-pub fn call_on(
+pub fn call_on<O: Outside>(
     s: &mut State,
+    out: &mut O,
     at: Place,
     method: Method,
     object: &Typed,
     value: &Value,
     arguments: Result<Vec<Value>, Stop>,
 ) -> Result<Value, Stop>
-    ensures did { (printed : List ℕ) → Follows (λ values. map value_seen values.items) value_seen arguments result (state_seen s.old printed) (state_seen s.new printed) (called_method at method (whole (seen object.now)) (value_seen value.now)) }
+    ensures did { Follows (λ values. map value_seen values.items) value_seen arguments result (state_seen s.old (O.told out.old)) (state_seen s.new (O.told out.new)) (called_method at method (whole (seen object.now)) (value_seen value.now)) }
 {
     match arguments {
         Err(stop) => Err(stop),
         Ok(values) => {
             s.charge(1, at)?;
-            call_method(s, at, method, object, value, &values)
+            call_method(s, out, at, method, object, value, &values)
         }
     }
 }
 
 /// `post`: a unit for the call, and then the term with its weight comes to the object, which gives no value.
-pub fn post_with(
+pub fn post_with<O: Outside>(
     s: &mut State,
+    out: &mut O,
     at: Place,
     object: &Value,
     term: Built,
     weight: Result<i64, Stop>,
 ) -> Result<Value, Stop>
-    ensures did { (printed : List ℕ) → Follows (λ z. z) value_seen weight result (state_seen s.old printed) (state_seen s.new printed) (posted_with at (value_seen object.now) term) }
+    ensures did { Follows (λ z. z) value_seen weight result (state_seen s.old (O.told out.old)) (state_seen s.new (O.told out.new)) (posted_with at (value_seen object.now) term) }
 {
     match weight {
         Err(stop) => Err(stop),
-        Ok(weight) => post_behind(s, at, object, term, weight),
+        Ok(weight) => post_behind(s, out, at, object, term, weight),
     }
 }
 
 /// The same of the weight.
-fn post_behind(
+fn post_behind<O: Outside>(
     s: &mut State,
+    out: &mut O,
     at: Place,
     object: &Value,
     term: Built,
     weight: i64,
 ) -> Result<Value, Stop>
-    ensures did { (printed : List ℕ) → Does value_seen result (state_seen s.new printed) (posted_with at (value_seen object.now) term weight (state_seen s.old printed)) }
+    ensures did { Does value_seen result (state_seen s.new (O.told out.new)) (posted_with at (value_seen object.now) term weight (state_seen s.old (O.told out.old))) }
 {
     s.charge(1, at)?;
-    post(s, at, object, term, weight)
+    post(out, at, object, term, weight)
 }
 
 /// A truth value as a constraint, which is violated once where it is false.
@@ -278,14 +288,14 @@ fn broken(truth: bool) -> Built
 
 /// What a value stands for in a term: a variable for itself, and an array for its cells.
 fn standing(s: &State, value: Value) -> Result<InTerm, Stop>
-    ensures did { (printed : List ℕ) → Does in_term_seen result (state_seen s.now printed) (standing (value_seen value) (state_seen s.now printed)) }
+    ensures did { (told : Told) → Does in_term_seen result (state_seen s.now told) (standing (value_seen value) (state_seen s.now told)) }
 {
     s.standing(value)
 }
 
 /// The same with the value's answer.
 pub fn as_standing(s: &State, value: Result<Value, Stop>) -> Result<InTerm, Stop>
-    ensures did { (printed : List ℕ) → Follows value_seen in_term_seen value result (state_seen s.now printed) (state_seen s.now printed) standing }
+    ensures did { (told : Told) → Follows value_seen in_term_seen value result (state_seen s.now told) (state_seen s.now told) standing }
 {
     match value {
         Err(stop) => Err(stop),
@@ -295,7 +305,7 @@ pub fn as_standing(s: &State, value: Result<Value, Stop>) -> Result<InTerm, Stop
 
 /// What a name stands for in a term.
 pub fn name_term(s: &State, slot: Slot) -> Result<InTerm, Stop>
-    ensures did { (printed : List ℕ) → Does in_term_seen result (state_seen s.now printed) (named_term slot (state_seen s.now printed)) }
+    ensures did { (told : Told) → Does in_term_seen result (state_seen s.now told) (named_term slot (state_seen s.now told)) }
 {
     match s.look(slot) {
         Err(stop) => Err(stop),

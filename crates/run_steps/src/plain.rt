@@ -10,6 +10,7 @@ ghost use Rattle.comet_meaning.specs.Program.{level};
 ghost use Rattle.comet_meaning.specs.State as states;
 ghost use Rattle.comet_meaning.specs.Writes.{name_target};
 ghost use Rattle.run_state.specs.Acts.{indexed};
+ghost use Rattle.run_outside.specs.Told.{Told};
 ghost use Rattle.run_state.specs.Views.{state_seen};
 ghost use Rattle.run_steps.specs.Plainly.{GivesName, GivesNumber, GivesTarget, GivesTruth, GivesValue, GivesWhole, ResultsIn};
 ghost use Rattle.run_steps.specs.Views.{links_seen, part};
@@ -27,7 +28,7 @@ const MOST_CHAINS: u32 = 4;
 
 /// The value of a part, where it is plain and there is room for it.
 pub fn plain_value(s: &State, room: u32, e: &Typed) -> Option<Value>
-    ensures given { (code : levels.Code) (printed : List ℕ) → GivesValue result (state_seen s.now printed) (parts.value (level code room) (part e.now) (state_seen s.now printed)) }
+    ensures given { (code : levels.Code) (told : Told) → GivesValue result (state_seen s.now told) (parts.value (level code room) (part e.now) (state_seen s.now told)) }
 {
     match number_within(s, room, MOST_CHAINS, e) {
         Some(number) => Some(Value::Number(number)),
@@ -37,7 +38,7 @@ pub fn plain_value(s: &State, room: u32, e: &Typed) -> Option<Value>
 
 /// What a name's cell holds, where it is a value that is read as it is.
 pub fn plain_name(s: &State, room: u32, e: &Typed) -> Option<Value>
-    ensures given { (code : levels.Code) (printed : List ℕ) → GivesValue result (state_seen s.now printed) (parts.value (level code room) (part e.now) (state_seen s.now printed)) }
+    ensures given { (code : levels.Code) (told : Told) → GivesValue result (state_seen s.now told) (parts.value (level code room) (part e.now) (state_seen s.now told)) }
 {
     if room == 0 {
         return None;
@@ -50,14 +51,14 @@ pub fn plain_name(s: &State, room: u32, e: &Typed) -> Option<Value>
 
 /// The number that a part gives, where it is plain and there is room for it.
 pub fn plain_number(s: &State, room: u32, e: &Typed) -> Option<i64>
-    ensures given { (code : levels.Code) (printed : List ℕ) → GivesWhole result (state_seen s.now printed) (parts.number (level code room) (part e.now) (state_seen s.now printed)) }
+    ensures given { (code : levels.Code) (told : Told) → GivesWhole result (state_seen s.now told) (parts.number (level code room) (part e.now) (state_seen s.now told)) }
 {
     number_within(s, room, MOST_CHAINS, e)
 }
 
 /// The number that is a part's value, where it is plain and there is room for it.
 pub fn number_itself(s: &State, room: u32, e: &Typed) -> Option<i64>
-    ensures given { (code : levels.Code) (printed : List ℕ) → GivesNumber result (state_seen s.now printed) (parts.value (level code room) (part e.now) (state_seen s.now printed)) }
+    ensures given { (code : levels.Code) (told : Told) → GivesNumber result (state_seen s.now told) (parts.value (level code room) (part e.now) (state_seen s.now told)) }
 {
     number_within(s, room, MOST_CHAINS, e)
 }
@@ -113,7 +114,7 @@ fn slot_of(kind: Kind, slot: Slot) -> Option<Slot>
 
 /// The truth value of a relation of plain numbers, where there is room for it.
 pub fn plain_truth(s: &State, room: u32, e: &Typed) -> Option<bool>
-    ensures given { (code : levels.Code) (printed : List ℕ) → GivesTruth result (state_seen s.now printed) (parts.truth (level code room) (part e.now) (state_seen s.now printed)) }
+    ensures given { (code : levels.Code) (told : Told) → GivesTruth result (state_seen s.now told) (parts.truth (level code room) (part e.now) (state_seen s.now told)) }
 {
     if room == 0 {
         return None;
@@ -136,7 +137,7 @@ pub fn plain_truth(s: &State, room: u32, e: &Typed) -> Option<bool>
 #[cycle(plain)]
 #[inline(always)]
 fn number_within(s: &State, room: u32, chains: u32, e: &Typed) -> Option<i64>
-    ensures given { (code : levels.Code) (printed : List ℕ) → GivesNumber result (state_seen s.now printed) (parts.value (level code room) (part e.now) (state_seen s.now printed)) }
+    ensures given { (code : levels.Code) (told : Told) → GivesNumber result (state_seen s.now told) (parts.value (level code room) (part e.now) (state_seen s.now told)) }
 {
     if room == 0 {
         return None;
@@ -151,7 +152,7 @@ fn number_within(s: &State, room: u32, chains: u32, e: &Typed) -> Option<i64>
 /// The same of a part that has parts inside it.
 #[cycle(plain)]
 fn number_inside(s: &State, room: u32, chains: u32, e: &Typed) -> Option<i64>
-    ensures given { (code : levels.Code) (printed : List ℕ) → GivesNumber result (state_seen s.now printed) (parts.value (level code room) (part e.now) (state_seen s.now printed)) }
+    ensures given { (code : levels.Code) (told : Told) → GivesNumber result (state_seen s.now told) (parts.value (level code room) (part e.now) (state_seen s.now told)) }
 {
     if room == 0 {
         return None;
@@ -173,7 +174,7 @@ fn cell_within(
     array: &Typed,
     index: &Typed,
 ) -> Option<i64>
-    ensures given { (code : levels.Code) (printed : List ℕ) → GivesNumber result (state_seen s.now printed) (index_form (level code room) at (part array.now) (part index.now) (state_seen s.now printed)) }
+    ensures given { (code : levels.Code) (told : Told) → GivesNumber result (state_seen s.now told) (index_form (level code room) at (part array.now) (part index.now) (state_seen s.now told)) }
 {
     if chains == 0 {
         return None;
@@ -185,7 +186,7 @@ fn cell_within(
 
 /// The number in the cell of an index, where there is such a cell and it holds a number.
 fn number_in(s: &State, at: Place, array: &Value, index: i64) -> Option<i64>
-    ensures given { (printed : List ℕ) → GivesNumber result (state_seen s.now printed) (indexed at (value_seen array.now) index (state_seen s.now printed)) }
+    ensures given { (told : Told) → GivesNumber result (state_seen s.now told) (indexed at (value_seen array.now) index (state_seen s.now told)) }
 {
     match s.index(at, array, index) {
         Ok(Value::Number(number)) => Some(number),
@@ -196,7 +197,7 @@ fn number_in(s: &State, at: Place, array: &Value, index: i64) -> Option<i64>
 /// The number of a chain of plain numbers.
 #[cycle(plain)]
 fn chain_within(s: &State, room: u32, chains: u32, first: &Typed, links: &[Link]) -> Option<i64>
-    ensures given { (code : levels.Code) (printed : List ℕ) → GivesNumber result (state_seen s.now printed) (operators.chain_form (level code room) (part first.now) (links_seen links.now) (state_seen s.now printed)) }
+    ensures given { (code : levels.Code) (told : Told) → GivesNumber result (state_seen s.now told) (operators.chain_form (level code room) (part first.now) (links_seen links.now) (state_seen s.now told)) }
 {
     if chains == 0 {
         return None;

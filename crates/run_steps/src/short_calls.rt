@@ -14,6 +14,7 @@ ghost use Rattle.comet_meaning.specs.Levels as levels;
 ghost use Rattle.comet_meaning.specs.Operators as operators;
 ghost use Rattle.comet_meaning.specs.Parts as parts;
 ghost use Rattle.comet_meaning.specs.Program.{level};
+ghost use Rattle.run_outside.specs.Told.{Told};
 ghost use Rattle.run_state.specs.Views.{state_seen};
 ghost use Rattle.run_steps.specs.Spending.{GivesNumbers, IsAlone, IsReturn, Spends, TakesFuel};
 ghost use Rattle.run_steps.specs.Views.{code_seen, links_seen, part, row};
@@ -30,7 +31,7 @@ const CALL_FUEL: u64 = 3;
 
 /// The number of a part that is such a call, or a chain with such calls, where there is room and fuel for it.
 pub fn called_number(s: &mut State, code: &Code<'_>, room: u32, e: &Typed) -> Option<i64>
-    ensures given { (printed : List ℕ) → TakesFuel result (state_seen s.old printed) (state_seen s.new printed) (parts.value (level (code_seen code.now) room) (part e.now) (state_seen s.old printed)) }
+    ensures given { (told : Told) → TakesFuel result (state_seen s.old told) (state_seen s.new told) (parts.value (level (code_seen code.now) room) (part e.now) (state_seen s.old told)) }
 {
     let fuel = s.fuel;
     match number_spending(s, code, room, e) {
@@ -44,7 +45,7 @@ pub fn called_number(s: &mut State, code: &Code<'_>, room: u32, e: &Typed) -> Op
 
 /// The same, but where nothing is answered some fuel may be gone.
 fn number_spending(s: &mut State, code: &Code<'_>, room: u32, e: &Typed) -> Option<i64>
-    ensures given { (printed : List ℕ) → Spends result (state_seen s.old printed) (state_seen s.new printed) (parts.value (level (code_seen code.now) room) (part e.now) (state_seen s.old printed)) }
+    ensures given { (told : Told) → Spends result (state_seen s.old told) (state_seen s.new told) (parts.value (level (code_seen code.now) room) (part e.now) (state_seen s.old told)) }
 {
     if room == 0 {
         return None;
@@ -67,7 +68,7 @@ fn chain_spending(
     first: &Typed,
     links: &[Link],
 ) -> Option<i64>
-    ensures given { (printed : List ℕ) → Spends result (state_seen s.old printed) (state_seen s.new printed) (operators.chain_form (level (code_seen code.now) room) (part first.now) (links_seen links.now) (state_seen s.old printed)) }
+    ensures given { (told : Told) → Spends result (state_seen s.old told) (state_seen s.new told) (operators.chain_form (level (code_seen code.now) room) (part first.now) (links_seen links.now) (state_seen s.old told)) }
 {
     let mut number = operand_spending(s, code, room, first)?;
     for link in links {
@@ -79,7 +80,7 @@ fn chain_spending(
 
 /// The number of a part that is plain or such a call.
 fn operand_spending(s: &mut State, code: &Code<'_>, room: u32, e: &Typed) -> Option<i64>
-    ensures given { (printed : List ℕ) → Spends result (state_seen s.old printed) (state_seen s.new printed) (parts.value (level (code_seen code.now) room) (part e.now) (state_seen s.old printed)) }
+    ensures given { (told : Told) → Spends result (state_seen s.old told) (state_seen s.new told) (parts.value (level (code_seen code.now) room) (part e.now) (state_seen s.old told)) }
 {
     match number_itself(s, room, e) {
         Some(number) => Some(number),
@@ -89,7 +90,7 @@ fn operand_spending(s: &mut State, code: &Code<'_>, room: u32, e: &Typed) -> Opt
 
 /// The number of a part that is such a call.
 fn itself_spending(s: &mut State, code: &Code<'_>, room: u32, e: &Typed) -> Option<i64>
-    ensures given { (printed : List ℕ) → Spends result (state_seen s.old printed) (state_seen s.new printed) (parts.value (level (code_seen code.now) room) (part e.now) (state_seen s.old printed)) }
+    ensures given { (told : Told) → Spends result (state_seen s.old told) (state_seen s.new told) (parts.value (level (code_seen code.now) room) (part e.now) (state_seen s.old told)) }
 {
     if room == 0 {
         return None;
@@ -111,7 +112,7 @@ fn call_spending(
     function: usize,
     arguments: &[Typed],
 ) -> Option<i64>
-    ensures given { (at : Place) (printed : List ℕ) → Spends result (state_seen s.old printed) (state_seen s.new printed) (calls.call_form (code_seen code.now) (level (code_seen code.now) room) at function (row arguments.now) (state_seen s.old printed)) }
+    ensures given { (at : Place) (told : Told) → Spends result (state_seen s.old told) (state_seen s.new told) (calls.call_form (code_seen code.now) (level (code_seen code.now) room) at function (row arguments.now) (state_seen s.old told)) }
 {
     let callee = function_at(code, function)?;
     let value = returned_alone(&callee.body)?;
@@ -142,7 +143,7 @@ fn may_be_plain(e: &Typed) -> bool {
 
 /// The arguments for these parameters, where they are plain numbers.
 fn numbers_for(s: &State, room: u32, parameters: &[Kind], arguments: &[Typed]) -> Option<Vec<Value>>
-    ensures given { (code : levels.Code) (printed : List ℕ) → GivesNumbers result (state_seen s.now printed) (calls.arguments_form (level code room) parameters.now (row arguments.now) [] (state_seen s.now printed)) }
+    ensures given { (code : levels.Code) (told : Told) → GivesNumbers result (state_seen s.now told) (calls.arguments_form (level code room) parameters.now (row arguments.now) [] (state_seen s.now told)) }
 {
     let Ok(mut values) = Vec::with_capacity(s.alloc, arguments.len()) else {
         return None;

@@ -6,6 +6,7 @@ ghost use Rattle.comet_meaning.specs.Odometer.{next_of, behind_next, begun};
 ghost use Rattle.comet_meaning.specs.Values.{Range};
 ghost use Rattle.run_state.specs.Views.{state_seen};
 ghost use Rattle.run_steps.specs.OpenTuples.{SameLeft, pending_seen, names_seen};
+ghost use Rattle.run_outside.specs.Told.{Told};
 ghost use Rattle.run_values.specs.Did.{Did};
 ghost use Rattle.run_values.specs.Views.{bounds_seen, value_seen};
 
@@ -110,7 +111,7 @@ pub fn begin(
     slot: Slot,
     value: i64,
 ) -> Result<(), Stop>
-    ensures did { (printed : List ℕ) → Did (λ _. tt) result (state_seen s.new printed) (begun place (with_bound (names_seen below.now) slot value) (state_seen s.old printed)) }
+    ensures did { (told : Told) → Did (λ _. tt) result (state_seen s.new told) (begun place (with_bound (names_seen below.now) slot value) (state_seen s.old told)) }
     ensures falls { OnOk result (s.new.fuel < s.old.fuel) }
 {
     s.charge(1, place)?;
@@ -120,7 +121,7 @@ pub fn begin(
 
 /// The names of open generators get their values.
 fn bind_names(s: &mut State, below: &[Entered]) -> Result<(), Stop>
-    ensures did { (printed : List ℕ) → Did (λ _. tt) result (state_seen s.new printed) (bind (names_seen below.now) (state_seen s.old printed)) }
+    ensures did { (told : Told) → Did (λ _. tt) result (state_seen s.new told) (bind (names_seen below.now) (state_seen s.old told)) }
     ensures fuel { s.new.fuel ≡ s.old.fuel }
 {
     for entered in below {

@@ -7,6 +7,7 @@ ghost use Rattle.comet_meaning.specs.Program.{level};
 ghost use Rattle.comet_meaning.specs.State as states;
 ghost use Rattle.run_state.specs.Views.{state_seen};
 ghost use Rattle.run_steps.specs.Does.{Does};
+ghost use Rattle.run_outside.specs.Told.{Told};
 ghost use Rattle.run_values.specs.Did.{Did, IsFaultOrMemory};
 ghost use Rattle.run_values.specs.Views.{value_seen};
 ghost use Rattle.run_values.specs.declared.stop.Stop.TheVariants.{NoMemory};
@@ -18,14 +19,14 @@ use cbl_base::Place;
 use checked_tree::Generator;
 use declaration_forms::evaluating::expressions::value_of;
 use declaration_forms::evaluating::tuples::next_tuple;
-use run_state::{Out, State};
+use run_state::{Outside, State};
 use run_steps::inside::Within;
 use run_steps::tuples::{Tuples, pending_of, take_value};
 use run_values::{Stop, Value};
 
 /// All candidates: the tuples of the generators, the last one fastest. A value of a generator before the last one costs a
 /// unit at its name.
-pub(crate) fn candidates_of<O: Out, W: Within<O>>(
+pub(crate) fn candidates_of<O: Outside, W: Within<O>>(
     s: &mut State,
     out: &mut O,
     inside: &W,
@@ -33,7 +34,7 @@ pub(crate) fn candidates_of<O: Out, W: Within<O>>(
     generators: &[Generator],
 ) -> Result<Candidates, Stop>
     requires ready { W.is_ready inside.now }
-    ensures did { Does candidates_seen result (state_seen s.new (O.taken out.new)) (candidates_form (level (W.code inside.now) (W.depth inside.now)) at (map shape_of_generator generators.now) (state_seen s.old (O.taken out.old))) }
+    ensures did { Does candidates_seen result (state_seen s.new (O.told out.new)) (candidates_form (level (W.code inside.now) (W.depth inside.now)) at (map shape_of_generator generators.now) (state_seen s.old (O.told out.old))) }
     ensures rows { IfOk result (λ c. AreRows c (length generators.now)) }
 {
     let count = generators.len();
@@ -52,7 +53,7 @@ pub(crate) fn candidates_of<O: Out, W: Within<O>>(
 }
 
 /// The candidates for each tuple of the generators before the last one.
-fn list_behind<O: Out, W: Within<O>>(
+fn list_behind<O: Outside, W: Within<O>>(
     s: &mut State,
     out: &mut O,
     inside: &W,
@@ -64,7 +65,7 @@ fn list_behind<O: Out, W: Within<O>>(
     requires ready { W.is_ready inside.now }
     requires some { 0 < length front.now }
     requires rows { AreRows found.old (length front.now + 1) }
-    ensures did { Does (λ _. candidates_seen found.new) result (state_seen s.new (O.taken out.new)) (behind_front (level (W.code inside.now) (W.depth inside.now)) at (map shape_of_generator front.now) (shape_of_generator last.now) (candidates_seen found.old) (state_seen s.old (O.taken out.old))) }
+    ensures did { Does (λ _. candidates_seen found.new) result (state_seen s.new (O.told out.new)) (behind_front (level (W.code inside.now) (W.depth inside.now)) at (map shape_of_generator front.now) (shape_of_generator last.now) (candidates_seen found.old) (state_seen s.old (O.told out.old))) }
     ensures rows { OnOk result (AreRows found.new (length front.now + 1)) }
 {
     let first = &front[0];
@@ -84,7 +85,7 @@ fn list_behind<O: Out, W: Within<O>>(
 }
 
 /// The candidates for the values that the generators before the last one have now.
-fn list_last<O: Out, W: Within<O>>(
+fn list_last<O: Outside, W: Within<O>>(
     s: &mut State,
     out: &mut O,
     inside: &W,
@@ -95,7 +96,7 @@ fn list_last<O: Out, W: Within<O>>(
 ) -> Result<(), Stop>
     requires ready { W.is_ready inside.now }
     requires rows { AreRows found.old (length front.now + 1) }
-    ensures did { Does (λ _. candidates_seen found.new) result (state_seen s.new (O.taken out.new)) (last_form (level (W.code inside.now) (W.depth inside.now)) at (map shape_of_generator front.now) (shape_of_generator last.now) (candidates_seen found.old) (state_seen s.old (O.taken out.old))) }
+    ensures did { Does (λ _. candidates_seen found.new) result (state_seen s.new (O.told out.new)) (last_form (level (W.code inside.now) (W.depth inside.now)) at (map shape_of_generator front.now) (shape_of_generator last.now) (candidates_seen found.old) (state_seen s.old (O.told out.old))) }
     ensures rows { OnOk result (AreRows found.new (length front.now + 1)) }
 {
     let domain = value_of(s, out, inside, &last.domain)?;
@@ -121,7 +122,7 @@ fn add_values(at: Place, known: &[i64], domain: Value, found: &mut Candidates) -
 
 /// The values that the names of generators have now.
 fn values_now(s: &State, generators: &[Generator]) -> Result<Vec<i64>, Stop>
-    ensures did { (printed : List ℕ) → Did (λ v. v.items) result (state_seen s.now printed) (meaning.values_now (map shape_of_generator generators.now) (state_seen s.now printed)) }
+    ensures did { (told : Told) → Did (λ v. v.items) result (state_seen s.now told) (meaning.values_now (map shape_of_generator generators.now) (state_seen s.now told)) }
     ensures many { IfOk result (λ v. length v.items ≡ length generators.now) }
     ensures memory { IfErr result (λ stop. stop ≡ NoMemory) }
 {

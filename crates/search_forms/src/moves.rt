@@ -12,7 +12,7 @@ ghost use Rattle.run_values.specs.Views.{value_seen};
 use checked_tree::{Later, Slot, Typed};
 use declaration_forms::evaluating::expressions::{number_of, value_of};
 use event_forms::run_closure;
-use run_state::{Out, State};
+use run_state::{Outside, State};
 use run_steps::code::Flow;
 use run_steps::inside::Within;
 use run_values::{Stop, Value};
@@ -20,7 +20,7 @@ use run_values::{Stop, Value};
 /// A `neighbor`: its delta, and then the selector that a name has keeps the statement, where it keeps none yet or the delta
 /// is less.
 #[tactic(auto, unfolding(comet_meaning::specs::Moves::neighbor_form))]
-pub fn execute_neighbor<O: Out, W: Within<O>>(
+pub fn execute_neighbor<O: Outside, W: Within<O>>(
     s: &mut State,
     out: &mut O,
     inside: &W,
@@ -29,7 +29,7 @@ pub fn execute_neighbor<O: Out, W: Within<O>>(
     body: &Later,
 ) -> Result<Flow, Stop>
     requires ready { W.is_ready inside.now }
-    ensures did { Does flow_seen result (state_seen s.new (O.taken out.new)) (moves.neighbor_form (level (W.code inside.now) (W.depth inside.now)) (seen delta.now) selector (work_of body.now.value.value) (state_seen s.old (O.taken out.old))) }
+    ensures did { Does flow_seen result (state_seen s.new (O.told out.new)) (moves.neighbor_form (level (W.code inside.now) (W.depth inside.now)) (seen delta.now) selector (work_of body.now.value.value) (state_seen s.old (O.told out.old))) }
 {
     let delta = number_of(s, out, inside, delta)?;
     let selector = s.look(selector)?;
@@ -39,28 +39,28 @@ pub fn execute_neighbor<O: Out, W: Within<O>>(
 
 /// A `call`: the statement that the move is, if there is one.
 #[tactic(auto, unfolding(comet_meaning::specs::Moves::choose_form))]
-pub fn call_move<O: Out, W: Within<O>>(
+pub fn call_move<O: Outside, W: Within<O>>(
     s: &mut State,
     out: &mut O,
     inside: &W,
     e: &Typed,
 ) -> Result<(), Stop>
     requires ready { W.is_ready inside.now }
-    ensures did { Does (λ _. tt) result (state_seen s.new (O.taken out.new)) (moves.choose_form (level (W.code inside.now) (W.depth inside.now)) (seen e.now) (state_seen s.old (O.taken out.old))) }
+    ensures did { Does (λ _. tt) result (state_seen s.new (O.told out.new)) (moves.choose_form (level (W.code inside.now) (W.depth inside.now)) (seen e.now) (state_seen s.old (O.told out.old))) }
 {
     let chosen = value_of(s, out, inside, e)?;
     run_move(s, out, inside, &chosen)
 }
 
 /// The statement that the move is, if there is one.
-fn run_move<O: Out, W: Within<O>>(
+fn run_move<O: Outside, W: Within<O>>(
     s: &mut State,
     out: &mut O,
     inside: &W,
     chosen: &Value,
 ) -> Result<(), Stop>
     requires ready { W.is_ready inside.now }
-    ensures did { Does (λ _. tt) result (state_seen s.new (O.taken out.new)) (moves.called_move (level (W.code inside.now) (W.depth inside.now)) (value_seen chosen.now) (state_seen s.old (O.taken out.old))) }
+    ensures did { Does (λ _. tt) result (state_seen s.new (O.told out.new)) (moves.called_move (level (W.code inside.now) (W.depth inside.now)) (value_seen chosen.now) (state_seen s.old (O.told out.old))) }
 {
     match chosen {
         Value::Move(number) => run_kept(s, out, inside, *number),
@@ -69,14 +69,14 @@ fn run_move<O: Out, W: Within<O>>(
 }
 
 /// The statement that the selector with a number keeps, if it keeps one.
-fn run_kept<O: Out, W: Within<O>>(
+fn run_kept<O: Outside, W: Within<O>>(
     s: &mut State,
     out: &mut O,
     inside: &W,
     number: usize,
 ) -> Result<(), Stop>
     requires ready { W.is_ready inside.now }
-    ensures did { Does (λ _. tt) result (state_seen s.new (O.taken out.new)) (moves.run_move (level (W.code inside.now) (W.depth inside.now)) (moves.kept_in (state_seen s.old (O.taken out.old)) number) (state_seen s.old (O.taken out.old))) }
+    ensures did { Does (λ _. tt) result (state_seen s.new (O.told out.new)) (moves.run_move (level (W.code inside.now) (W.depth inside.now)) (moves.kept_in (state_seen s.old (O.told out.old)) number) (state_seen s.old (O.told out.old))) }
 {
     let kept = s.kept_closure(number)?;
     match kept {

@@ -10,6 +10,7 @@ ghost use Rattle.ls_select.specs.Candidates.{stop_in};
 ghost use Rattle.run_state.specs.Views.{state_seen};
 ghost use Rattle.run_steps.specs.Does.{Does};
 ghost use Rattle.run_steps.specs.Views.{part};
+ghost use Rattle.run_outside.specs.Told.{Told};
 ghost use Rattle.run_values.specs.Did.{Did};
 ghost use Rattle.search_forms.specs.Asking.{condition_of, key_of, want_of};
 ghost use Rattle.search_forms.specs.Scans.{ScansTo, rated_by};
@@ -21,7 +22,7 @@ use checked_tree::{Generator, Typed};
 use comet_syntax::tree::Extreme;
 use declaration_forms::evaluating::expressions::{condition, number_of};
 use ls_select::{End, Part, Scored, Want};
-use run_state::{Out, State};
+use run_state::{Outside, State};
 use run_steps::inside::Within;
 use run_values::{Stop, Value};
 
@@ -41,7 +42,7 @@ pub(crate) struct Scanned {
 }
 
 /// The scan of all candidates in order: each costs a unit, is tested, and gets its key.
-pub(crate) fn scan<O: Out, W: Within<O>>(
+pub(crate) fn scan<O: Outside, W: Within<O>>(
     s: &mut State,
     out: &mut O,
     inside: &W,
@@ -52,7 +53,7 @@ pub(crate) fn scan<O: Out, W: Within<O>>(
 ) -> Result<Part, Stop>
     requires ready { W.is_ready inside.now }
     requires rows { AreRows candidates.now candidates.now.width }
-    ensures did { ScansTo asked.entry.extreme result (state_seen s.new (O.taken out.new)) (scanned (level (W.code inside.now) (W.depth inside.now)) at (map shape_of_generator generators.now) (condition_of asked.entry) (key_of asked.entry) 0 (candidates_seen candidates.now) [] (state_seen s.old (O.taken out.old))) }
+    ensures did { ScansTo asked.entry.extreme result (state_seen s.new (O.told out.new)) (scanned (level (W.code inside.now) (W.depth inside.now)) at (map shape_of_generator generators.now) (condition_of asked.entry) (key_of asked.entry) 0 (candidates_seen candidates.now) [] (state_seen s.old (O.told out.old))) }
 {
     let _start = s.fuel;
     let want = wanted(asked.extreme);
@@ -77,7 +78,7 @@ fn wanted(extreme: Option<Extreme>) -> Want
 }
 
 /// How a candidate with these values is scored: what it costs, and whether it is kept, with its key.
-fn score<O: Out, W: Within<O>>(
+fn score<O: Outside, W: Within<O>>(
     s: &mut State,
     out: &mut O,
     inside: &W,
@@ -87,7 +88,7 @@ fn score<O: Out, W: Within<O>>(
     asked: Asked<'_>,
 ) -> Result<Scored, Stop>
     requires ready { W.is_ready inside.now }
-    ensures did { (n : ℕ) (xs : List Rated) → Does (λ x. rated_by n x.end xs) result (state_seen s.new (O.taken out.new)) (generated at (named (map shape_of_generator generators.now) values.now) (rated_form (level (W.code inside.now) (W.depth inside.now)) (condition_of asked.entry) (key_of asked.entry) n xs) (state_seen s.old (O.taken out.old))) }
+    ensures did { (n : ℕ) (xs : List Rated) → Does (λ x. rated_by n x.end xs) result (state_seen s.new (O.told out.new)) (generated at (named (map shape_of_generator generators.now) values.now) (rated_form (level (W.code inside.now) (W.depth inside.now)) (condition_of asked.entry) (key_of asked.entry) n xs) (state_seen s.old (O.told out.old))) }
     ensures cost { IfOk result (λ x. x.cost + s.new.fuel ≡ s.old.fuel) }
     ensures goes_on { IfOk result (λ x. stop_in x.end ≡ None) }
 {
@@ -102,14 +103,14 @@ fn score<O: Out, W: Within<O>>(
 }
 
 /// Whether a candidate whose names have their values is kept, with its key.
-fn rate<O: Out, W: Within<O>>(
+fn rate<O: Outside, W: Within<O>>(
     s: &mut State,
     out: &mut O,
     inside: &W,
     asked: Asked<'_>,
 ) -> Result<End, Stop>
     requires ready { W.is_ready inside.now }
-    ensures did { (n : ℕ) (xs : List Rated) → Does (λ end. rated_by n end xs) result (state_seen s.new (O.taken out.new)) (rated_form (level (W.code inside.now) (W.depth inside.now)) (condition_of asked.entry) (key_of asked.entry) n xs (state_seen s.old (O.taken out.old))) }
+    ensures did { (n : ℕ) (xs : List Rated) → Does (λ end. rated_by n end xs) result (state_seen s.new (O.told out.new)) (rated_form (level (W.code inside.now) (W.depth inside.now)) (condition_of asked.entry) (key_of asked.entry) n xs (state_seen s.old (O.told out.old))) }
     ensures goes_on { IfOk result (λ end. stop_in end ≡ None) }
 {
     let passes = condition(s, out, inside, asked.condition)?;
@@ -122,14 +123,14 @@ fn rate<O: Out, W: Within<O>>(
 
 /// The key of a candidate.
 #[tactic(auto, unfolding(comet_meaning::specs::Selection::key_form))]
-fn key_asked<O: Out, W: Within<O>>(
+fn key_asked<O: Outside, W: Within<O>>(
     s: &mut State,
     out: &mut O,
     inside: &W,
     key: Option<&Typed>,
 ) -> Result<i64, Stop>
     requires ready { W.is_ready inside.now }
-    ensures did { Does (λ z. z) result (state_seen s.new (O.taken out.new)) (selection.key_form (level (W.code inside.now) (W.depth inside.now)) (optional (λ e. part e.now) key.entry) (state_seen s.old (O.taken out.old))) }
+    ensures did { Does (λ z. z) result (state_seen s.new (O.told out.new)) (selection.key_form (level (W.code inside.now) (W.depth inside.now)) (optional (λ e. part e.now) key.entry) (state_seen s.old (O.told out.old))) }
 {
     match key {
         None => Ok(0),
@@ -143,7 +144,7 @@ pub(crate) fn bind_values(
     generators: &[Generator],
     values: &[i64],
 ) -> Result<(), Stop>
-    ensures did { (printed : List ℕ) → Did (λ _. tt) result (state_seen s.new printed) (bind (named (map shape_of_generator generators.now) values.now) (state_seen s.old printed)) }
+    ensures did { (told : Told) → Did (λ _. tt) result (state_seen s.new told) (bind (named (map shape_of_generator generators.now) values.now) (state_seen s.old told)) }
     ensures fuel { s.new.fuel ≡ s.old.fuel }
 {
     for (generator, value) in generators.iter().zip(values.iter()) {

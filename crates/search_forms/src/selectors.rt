@@ -19,7 +19,7 @@ use crate::scanning::{Asked, Scanned, bind_values, scan};
 use cbl_base::Place;
 use checked_tree::{Generator, Task, Typed};
 use comet_syntax::tree::Extreme;
-use run_state::{Out, State};
+use run_state::{Outside, State};
 use run_steps::code::Flow;
 use run_steps::inside::Within;
 use run_values::Stop;
@@ -27,7 +27,7 @@ use std::alloc::Global;
 
 /// A `select`: the body for one of the candidates that pass the condition.
 #[tactic(auto, unfolding(comet_meaning::specs::Selection::select_form))]
-pub fn execute_select<O: Out, W: Within<O>>(
+pub fn execute_select<O: Outside, W: Within<O>>(
     s: &mut State,
     out: &mut O,
     inside: &W,
@@ -37,7 +37,7 @@ pub fn execute_select<O: Out, W: Within<O>>(
     body: &Task,
 ) -> Result<Flow, Stop>
     requires ready { W.is_ready inside.now }
-    ensures did { Does flow_seen result (state_seen s.new (O.taken out.new)) (selection.select_form (level (W.code inside.now) (W.depth inside.now)) at (map shape_of_generator generators.now) (option_map seen condition.now) (work_of body.now) (state_seen s.old (O.taken out.old))) }
+    ensures did { Does flow_seen result (state_seen s.new (O.told out.new)) (selection.select_form (level (W.code inside.now) (W.depth inside.now)) at (map shape_of_generator generators.now) (option_map seen condition.now) (work_of body.now) (state_seen s.old (O.told out.old))) }
 {
     let asked = Asked {
         extreme: None,
@@ -50,7 +50,7 @@ pub fn execute_select<O: Out, W: Within<O>>(
 
 /// A `selectMin` or `selectMax`: the body for one of the candidates that pass the condition and have the best key.
 #[tactic(auto, unfolding(comet_meaning::specs::Selection::select_by_form))]
-pub fn execute_select_by<O: Out, W: Within<O>>(
+pub fn execute_select_by<O: Outside, W: Within<O>>(
     s: &mut State,
     out: &mut O,
     inside: &W,
@@ -62,7 +62,7 @@ pub fn execute_select_by<O: Out, W: Within<O>>(
     body: &Task,
 ) -> Result<Flow, Stop>
     requires ready { W.is_ready inside.now }
-    ensures did { Does flow_seen result (state_seen s.new (O.taken out.new)) (selection.select_by_form (level (W.code inside.now) (W.depth inside.now)) at extreme (map shape_of_generator generators.now) (option_map seen condition.now) (seen key.now) (work_of body.now) (state_seen s.old (O.taken out.old))) }
+    ensures did { Does flow_seen result (state_seen s.new (O.told out.new)) (selection.select_by_form (level (W.code inside.now) (W.depth inside.now)) at extreme (map shape_of_generator generators.now) (option_map seen condition.now) (seen key.now) (work_of body.now) (state_seen s.old (O.told out.old))) }
 {
     let asked = Asked {
         extreme: Some(extreme),
@@ -74,7 +74,7 @@ pub fn execute_select_by<O: Out, W: Within<O>>(
 }
 
 /// The values of the chosen candidate; `None` exactly where none is kept. One word chooses where there are several.
-fn choose<O: Out, W: Within<O>>(
+fn choose<O: Outside, W: Within<O>>(
     s: &mut State,
     out: &mut O,
     inside: &W,
@@ -83,7 +83,7 @@ fn choose<O: Out, W: Within<O>>(
     asked: Asked<'_>,
 ) -> Result<Option<Vec<i64>>, Stop>
     requires ready { W.is_ready inside.now }
-    ensures did { Does (option_map (λ v. v.items)) result (state_seen s.new (O.taken out.new)) (selection.choice_form (level (W.code inside.now) (W.depth inside.now)) at asked.entry.extreme (map shape_of_generator generators.now) (condition_of asked.entry) (key_of asked.entry) (state_seen s.old (O.taken out.old))) }
+    ensures did { Does (option_map (λ v. v.items)) result (state_seen s.new (O.told out.new)) (selection.choice_form (level (W.code inside.now) (W.depth inside.now)) at asked.entry.extreme (map shape_of_generator generators.now) (condition_of asked.entry) (key_of asked.entry) (state_seen s.old (O.told out.old))) }
 {
     let scan = scan_all(s, out, inside, at, generators, asked)?;
     let number = s.pick(&scan.part.ties);
@@ -107,7 +107,7 @@ fn chosen_in(
 }
 
 /// All candidates, and their scan. The names of the generators end with it.
-fn scan_all<O: Out, W: Within<O>>(
+fn scan_all<O: Outside, W: Within<O>>(
     s: &mut State,
     out: &mut O,
     inside: &W,
@@ -116,7 +116,7 @@ fn scan_all<O: Out, W: Within<O>>(
     asked: Asked<'_>,
 ) -> Result<Scanned, Stop>
     requires ready { W.is_ready inside.now }
-    ensures did { ScansAs asked.entry.extreme result (state_seen s.new (O.taken out.new)) (selection.scan_form (level (W.code inside.now) (W.depth inside.now)) at (map shape_of_generator generators.now) (condition_of asked.entry) (key_of asked.entry) (state_seen s.old (O.taken out.old))) }
+    ensures did { ScansAs asked.entry.extreme result (state_seen s.new (O.told out.new)) (selection.scan_form (level (W.code inside.now) (W.depth inside.now)) at (map shape_of_generator generators.now) (condition_of asked.entry) (key_of asked.entry) (state_seen s.old (O.told out.old))) }
     ensures rows { IfOk result (λ scan. AreRows scan.candidates scan.candidates.width) }
 {
     let frame = s.copied_frame()?;
@@ -127,7 +127,7 @@ fn scan_all<O: Out, W: Within<O>>(
 }
 
 /// The body with the names of the chosen candidate, where there is one.
-fn execute_chosen<O: Out, W: Within<O>>(
+fn execute_chosen<O: Outside, W: Within<O>>(
     s: &mut State,
     out: &mut O,
     inside: &W,
@@ -136,7 +136,7 @@ fn execute_chosen<O: Out, W: Within<O>>(
     body: &Task,
 ) -> Result<Flow, Stop>
     requires ready { W.is_ready inside.now }
-    ensures did { Does flow_seen result (state_seen s.new (O.taken out.new)) (selection.with_chosen (level (W.code inside.now) (W.depth inside.now)) (map shape_of_generator generators.now) (work_of body.now) (option_map (λ v. v.items) chosen) (state_seen s.old (O.taken out.old))) }
+    ensures did { Does flow_seen result (state_seen s.new (O.told out.new)) (selection.with_chosen (level (W.code inside.now) (W.depth inside.now)) (map shape_of_generator generators.now) (work_of body.now) (option_map (λ v. v.items) chosen) (state_seen s.old (O.told out.old))) }
 {
     match chosen {
         None => Ok(Flow::Next),

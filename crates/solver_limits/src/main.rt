@@ -7,6 +7,7 @@ use ls_solver::{Solver, SolverFault};
 use std::alloc::Global;
 use std::process::ExitCode;
 use term_model::Term;
+use user_constraint::{LocalConstraint, UserConstraint};
 
 const SOLVER: u32 = 1;
 
@@ -33,7 +34,7 @@ fn ended<T: Drop>(answer: Result<T, SolverFault>) -> End {
     }
 }
 
-fn new_var(solver: &mut Solver) -> End {
+fn new_var<U: LocalConstraint>(solver: &mut Solver<U>) -> End {
     if !solver.usable() {
         return End::Other;
     }
@@ -41,7 +42,7 @@ fn new_var(solver: &mut Solver) -> End {
 }
 
 /// Whether so many variables are made.
-fn makes(solver: &mut Solver, variables: u32) -> bool {
+fn makes<U: LocalConstraint>(solver: &mut Solver<U>, variables: u32) -> bool {
     for _variable in 0..variables {
         if new_var(solver) != End::Done {
             return false;
@@ -61,7 +62,11 @@ fn sum_from(alloc: Global, first: u32) -> Result<Term, NoMemory> {
     Ok(Term::Node { op, args, place })
 }
 
-fn define(solver: &mut Solver, index: u32, term: Term) -> Result<End, NoMemory> {
+fn define<U: LocalConstraint>(
+    solver: &mut Solver<U>,
+    index: u32,
+    term: Term,
+) -> Result<End, NoMemory> {
     let x = VarId {
         solver: SOLVER,
         index,
@@ -73,7 +78,10 @@ fn define(solver: &mut Solver, index: u32, term: Term) -> Result<End, NoMemory> 
 }
 
 /// Whether as many terms as there may be are defined.
-fn defines_all(alloc: Global, solver: &mut Solver) -> Result<bool, NoMemory> {
+fn defines_all<U: LocalConstraint>(
+    alloc: Global,
+    solver: &mut Solver<U>,
+) -> Result<bool, NoMemory> {
     for sum in 0..SUMS {
         let term = sum_from(alloc, sum.saturating_mul(CONSTANTS))?;
         if define(solver, sum, term)? != End::Done {
@@ -83,9 +91,9 @@ fn defines_all(alloc: Global, solver: &mut Solver) -> Result<bool, NoMemory> {
     Ok(true)
 }
 
-fn go<R: Print + AllocGlobal>(rt: &R) -> Result<bool, NoMemory> {
+fn go<R: Print + AllocGlobal, U: LocalConstraint>(rt: &R) -> Result<bool, NoMemory> {
     let alloc = rt.alloc();
-    let mut solver = Solver::new(alloc, SOLVER);
+    let mut solver = Solver::<U>::new(alloc, SOLVER);
     let made = makes(&mut solver, VARIABLES);
     let one_variable_more = new_var(&mut solver);
     let defined = defines_all(alloc, &mut solver)?;
@@ -101,7 +109,7 @@ fn go<R: Print + AllocGlobal>(rt: &R) -> Result<bool, NoMemory> {
 }
 
 fn main(rt: HostRuntime) -> ExitCode {
-    match go(&rt) {
+    match go::<HostRuntime, Box<dyn UserConstraint>>(&rt) {
         Ok(true) => ExitCode::SUCCESS,
         _ => ExitCode::FAILURE,
     }

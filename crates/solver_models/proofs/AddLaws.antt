@@ -1,5 +1,5 @@
 -- What a solver keeps once it got a system, an objective or a member.
-use Rattle.std.proofs.Common.{◌≡◌, ℕ, ℤ, pos, ◌<◌, Bool, true, false, ◌&&◌, List, [], Option, Some, None, Result, Ok, Err, length, refl, subst, arith, true≢false}
+use Rattle.std.proofs.Common.{◌≡◌, ℕ, ℤ, pos, ◌<◌, Bool, true, false, ◌&&◌, List, [], ◌∷◌, ◌++◌, Option, Some, None, Result, Ok, Err, length, refl, subst, arith, true≢false}
 use Rattle.std.specs.Prelude.{OnErr, OnOk, int_lt, not, nat_eq, nat_le, nat_lt, if◌then◌else◌}
 use Rattle.cbl_base.specs.Inputs.{number_kind}
 use Rattle.cbl_base.specs.declared.faults.NoMemory.{NoMemory}
@@ -14,7 +14,7 @@ use Rattle.solver_models.specs.Kept.{IsKept}
 use Rattle.solver_models.specs.State.{IsSameModel, SolverState}
 use Rattle.solver_models.specs.Totals.{GetsTotal, is_own_total}
 use Rattle.solver_models.specs.declared.totals.TotalId.{TotalId}
-use Rattle.solver_models.proofs.KeptLaws.{kept_member, kept_same, kept_total}
+use Rattle.solver_models.proofs.KeptLaws.{kept_member, kept_same, kept_total, kept_user}
 use Rattle.solver_models.proofs.TermLaws.{le_from}
 use Rattle.term_count.specs.Counting.{Counts}
 use Rattle.term_count.specs.declared.subterms.Subterms.{Subterms}
@@ -28,6 +28,7 @@ use Rattle.term_model.specs.declared.model.Member.{Member}
 use Rattle.term_model.specs.declared.model.Model.{Model}
 use Rattle.term_model.specs.declared.posting.Side.{Side}
 use Rattle.term_model.specs.declared.term.Term.{Term}
+use Rattle.posted_users.specs.KeptRule.{KeptRule}
 
 early_parts : (s : SolverState) (k : TotalId) (t : Term) (weight : ℤ) → early_member_refusal s k t weight ≡ None → (s.closed ≡ false) × (is_own_member s k t ≡ true)
 early_parts s k t weight e = by s.closed (is_own_member s k t) (int_lt weight (pos 0)) e
@@ -61,32 +62,46 @@ shallow_enough : (b : Bool) → not b ≡ false → b ≡ true
 shallow_enough true h = refl
 shallow_enough false h = absurd (true≢false h)
 
-module _ (number : ℕ) (M N : Model) (a : List ℤ) (marks : List Bool) (counted : Option Subterms) (after : Subterms) (values : Fresh) (closed usable : Bool) (k : TotalId) (member : Member) (kept : IsKept M a marks counted values closed usable) where
+module _ (number : ℕ) (M N : Model) (a : List ℤ) (marks : List Bool) (rules : List KeptRule) (counted : Option Subterms) (after : Subterms) (values : Fresh) (closed usable : Bool) (k : TotalId) (member : Member) (kept : IsKept M a marks rules counted values closed usable) where
   abbrev state : SolverState
-  state = record { number = number; model = M; assignment = a; closed = closed; usable = usable }
+  state = record { number = number; model = M; assignment = a; rules = rules; closed = closed; usable = usable }
 
   adds_kept : GetsMember M N k.side k.index member → early_member_refusal state k member.term member.weight ≡ None → is_too_deep member.term ≡ false →
-      kind_of_term (kinds_in M.vars.items) member.term ≡ Some number_kind → users_of member.term ≡ [] → Counts after (distinct_with (distinct_subterms M) member.term) → IsKept N a marks (Some after) values closed usable
+      kind_of_term (kinds_in M.vars.items) member.term ≡ Some number_kind → users_of member.term ≡ [] → Counts after (distinct_with (distinct_subterms M) member.term) → IsKept N a marks rules (Some after) values closed usable
   adds_kept gets early shallow kind none counts =
       let is : IsMember M member = record {
         kind = kind;
         depth = le_from (depth_of member.term) MAX_TERM_DEPTH (shallow_enough (nat_le (depth_of member.term) MAX_TERM_DEPTH) shallow);
       } in
-      kept_member M N k.side k.index member a marks counted after values closed usable gets (early_parts state k member.term member.weight early).0 is none counts kept
+      kept_member M N k.side k.index member a marks rules counted after values closed usable gets (early_parts state k member.term member.weight early).0 is none counts kept
 
-  same_kept : IsSameModel M N → early_member_refusal state k member.term member.weight ≡ None → IsKept N a marks counted values closed usable
-  same_kept same early = kept_same M N a a marks marks counted values closed usable same refl refl (early_parts state k member.term member.weight early).0 kept
+  user_kept : (rule : KeptRule) → GetsMember M N k.side k.index member → early_member_refusal state k member.term member.weight ≡ None → is_too_deep member.term ≡ false →
+      kind_of_term (kinds_in M.vars.items) member.term ≡ Some number_kind → users_of member.term ≡ length rules ∷ [] → Counts after (distinct_with (distinct_subterms M) member.term) → IsKept N a marks (rules ++ rule ∷ []) (Some after) values closed usable
+  user_kept rule gets early shallow kind numbered counts =
+      let is : IsMember M member = record {
+        kind = kind;
+        depth = le_from (depth_of member.term) MAX_TERM_DEPTH (shallow_enough (nat_le (depth_of member.term) MAX_TERM_DEPTH) shallow);
+      } in
+      kept_user M N k.side k.index member rule a marks rules counted after values closed usable gets (early_parts state k member.term member.weight early).0 is numbered counts kept
+
+  same_kept : IsSameModel M N → early_member_refusal state k member.term member.weight ≡ None → IsKept N a marks rules counted values closed usable
+  same_kept same early = kept_same M N a a marks marks rules counted values closed usable same refl refl (early_parts state k member.term member.weight early).0 kept
 
   module _ (s : SolverState) (view : state ≡ s) where
     pub member_there : GetsMember M N k.side k.index member → early_member_refusal s k member.term member.weight ≡ None → is_too_deep member.term ≡ false →
-        kind_of_term (kinds_in s.model.vars.items) member.term ≡ Some number_kind → users_of member.term ≡ [] → Counts after (distinct_with (distinct_subterms s.model) member.term) → IsKept N a marks (Some after) values closed usable
+        kind_of_term (kinds_in s.model.vars.items) member.term ≡ Some number_kind → users_of member.term ≡ [] → Counts after (distinct_with (distinct_subterms s.model) member.term) → IsKept N a marks rules (Some after) values closed usable
     member_there gets = subst (λ (t : SolverState). early_member_refusal t k member.term member.weight ≡ None → is_too_deep member.term ≡ false → kind_of_term (kinds_in t.model.vars.items) member.term ≡ Some number_kind → users_of member.term ≡ [] →
-        Counts after (distinct_with (distinct_subterms t.model) member.term) → IsKept N a marks (Some after) values closed usable) view (adds_kept gets)
+        Counts after (distinct_with (distinct_subterms t.model) member.term) → IsKept N a marks rules (Some after) values closed usable) view (adds_kept gets)
 
-    pub no_member_there : IsSameModel M N → early_member_refusal s k member.term member.weight ≡ None → IsKept N a marks counted values closed usable
-    no_member_there same = subst (λ (t : SolverState). early_member_refusal t k member.term member.weight ≡ None → IsKept N a marks counted values closed usable) view (same_kept same)
+    pub user_there : (rule : KeptRule) → GetsMember M N k.side k.index member → early_member_refusal s k member.term member.weight ≡ None → is_too_deep member.term ≡ false →
+        kind_of_term (kinds_in s.model.vars.items) member.term ≡ Some number_kind → users_of member.term ≡ length s.rules ∷ [] → Counts after (distinct_with (distinct_subterms s.model) member.term) → IsKept N a marks (rules ++ rule ∷ []) (Some after) values closed usable
+    user_there rule gets = subst (λ (t : SolverState). early_member_refusal t k member.term member.weight ≡ None → is_too_deep member.term ≡ false → kind_of_term (kinds_in t.model.vars.items) member.term ≡ Some number_kind → users_of member.term ≡ length t.rules ∷ [] →
+        Counts after (distinct_with (distinct_subterms t.model) member.term) → IsKept N a marks (rules ++ rule ∷ []) (Some after) values closed usable) view (user_kept rule gets)
 
-pub kept_made : (result : Result ℕ NoMemory) (M N : Model) (side : Side) (place : Place) (a : List ℤ) (marks : List Bool) (counted : Option Subterms) (values : Fresh) (closed usable : Bool) → OnOk result (GetsTotal M N side place) → OnErr result (IsSameModel M N) → closed ≡ false →
-    IsKept M a marks counted values closed usable → IsKept N a marks counted values closed usable
-kept_made (Ok index) M N side place a marks counted values closed usable gets same open' kept = kept_total M N side place a marks counted values closed usable gets open' kept
-kept_made (Err stop) M N side place a marks counted values closed usable gets same open' kept = kept_same M N a a marks marks counted values closed usable same refl refl open' kept
+    pub no_member_there : IsSameModel M N → early_member_refusal s k member.term member.weight ≡ None → IsKept N a marks rules counted values closed usable
+    no_member_there same = subst (λ (t : SolverState). early_member_refusal t k member.term member.weight ≡ None → IsKept N a marks rules counted values closed usable) view (same_kept same)
+
+pub kept_made : (result : Result ℕ NoMemory) (M N : Model) (side : Side) (place : Place) (a : List ℤ) (marks : List Bool) (rules : List KeptRule) (counted : Option Subterms) (values : Fresh) (closed usable : Bool) → OnOk result (GetsTotal M N side place) → OnErr result (IsSameModel M N) → closed ≡ false →
+    IsKept M a marks rules counted values closed usable → IsKept N a marks rules counted values closed usable
+kept_made (Ok index) M N side place a marks rules counted values closed usable gets same open' kept = kept_total M N side place a marks rules counted values closed usable gets open' kept
+kept_made (Err stop) M N side place a marks rules counted values closed usable gets same open' kept = kept_same M N a a marks marks rules counted values closed usable same refl refl open' kept

@@ -16,6 +16,7 @@ use Rattle.solver_models.specs.KeptChanges.{change_in, with_change}
 use Rattle.solver_models.specs.Reading.{fresh_value}
 use Rattle.solver_models.specs.State.{SolverState}
 use Rattle.solver_models.proofs.ListLaws.{filter_range, range_push}
+use Rattle.posted_users.specs.KeptRule.{users_of}
 
 pushed : (changes : List VarChange) (o : Option VarChange) → with_change changes o ≡ changes ++ cons_option o []
 pushed changes (Some change) = refl
@@ -28,7 +29,7 @@ changes_more f n so_far after change e is next =
     ∙ sym (filter_map-append f (range_with_len 0 n) (n ∷ [])) ∙ ap (λ k. filter_map f (range_with_len 0 n ++ k ∷ [])) (let z : n ≡ 0 + n = omega arith in z) ∙ ap (filter_map f) (sym (range_push 0 n))
 
 -- the changes from kept values are those from fresh values
-pub changes_are : (old new : SolverState) (before after : List Input) → AreFresh old.model old.assignment before → AreFresh new.model new.assignment after → length new.model.vars.items ≡ length old.model.vars.items →
+pub changes_are : (old new : SolverState) (before after : List Input) → AreFresh (users_of old.rules) old.model old.assignment before → AreFresh (users_of new.rules) new.model new.assignment after → length new.model.vars.items ≡ length old.model.vars.items →
     filter_map (change_in old.number before after) (range_with_len 0 (length before)) ≡ changes_of old new
 changes_are old new before after was is same =
     ap (λ n. filter_map (change_in old.number before after) (range_with_len 0 n)) was.count

@@ -22,6 +22,7 @@ use Rattle.term_model.specs.Wellformed.{IsDefinition}
 use Rattle.term_model.specs.declared.model.Definition.{Definition}
 use Rattle.term_model.specs.declared.model.Model.{Model}
 use Rattle.term_model.specs.declared.term.Term.{Term}
+use Rattle.posted_users.specs.KeptRule.{KeptRule}
 
 early_parts : (s : SolverState) (x : VarId) (t : Term) → early_refusal s x t ≡ None → (s.closed ≡ false) × (is_own_definition s x t ≡ true) × (has_definition s.model x.index ≡ false)
 early_parts s x t e = by s.closed (is_own_definition s x t) (has_definition s.model x.index) e
@@ -40,12 +41,12 @@ shallow_enough : (b : Bool) → not b ≡ false → b ≡ true
 shallow_enough true h = refl
 shallow_enough false h = absurd (true≢false h)
 
-module _ (number : ℕ) (M N : Model) (a : List ℤ) (marks marked : List Bool) (counted : Option Subterms) (after : Subterms) (values : Fresh) (closed usable : Bool) (def : Definition) (kept : IsKept M a marks counted values closed usable) where
+module _ (number : ℕ) (M N : Model) (a : List ℤ) (marks marked : List Bool) (rules : List KeptRule) (counted : Option Subterms) (after : Subterms) (values : Fresh) (closed usable : Bool) (def : Definition) (kept : IsKept M a marks rules counted values closed usable) where
   abbrev state : SolverState
-  state = record { number = number; model = M; assignment = a; closed = closed; usable = usable }
+  state = record { number = number; model = M; assignment = a; rules = rules; closed = closed; usable = usable }
 
   gets_kept : GetsDefinition M N def → marked ≡ set marks def.var.index true → early_refusal state def.var def.term ≡ None → is_too_deep def.term ≡ false →
-      kind_of_term (kinds_in M.vars.items) def.term ≡ kinds_in M.vars.items def.var.index → users_of def.term ≡ [] → Counts after (distinct_with (distinct_subterms M) def.term) → IsKept N a marked (Some after) values closed usable
+      kind_of_term (kinds_in M.vars.items) def.term ≡ kinds_in M.vars.items def.var.index → users_of def.term ≡ [] → Counts after (distinct_with (distinct_subterms M) def.term) → IsKept N a marked rules (Some after) values closed usable
   gets_kept gets next early shallow kind none counts =
       let parts = early_parts state def.var def.term early in
       let own = first_true (is_own state def.var) (names_only (is_own state) def.term) parts.1 in
@@ -54,16 +55,16 @@ module _ (number : ℕ) (M N : Model) (a : List ℤ) (marks marked : List Bool) 
         kind = kind;
         depth = le_from (depth_of def.term) MAX_TERM_DEPTH (shallow_enough (nat_le (depth_of def.term) MAX_TERM_DEPTH) shallow);
       } in
-      kept_definition M N def a marks marked counted after values closed usable gets next parts.0 parts.2 is none counts kept
+      kept_definition M N def a marks marked rules counted after values closed usable gets next parts.0 parts.2 is none counts kept
 
-  same_kept : IsSameModel M N → early_refusal state def.var def.term ≡ None → IsKept N a marks counted values closed usable
-  same_kept same early = kept_same M N a a marks marks counted values closed usable same refl refl (early_parts state def.var def.term early).0 kept
+  same_kept : IsSameModel M N → early_refusal state def.var def.term ≡ None → IsKept N a marks rules counted values closed usable
+  same_kept same early = kept_same M N a a marks marks rules counted values closed usable same refl refl (early_parts state def.var def.term early).0 kept
 
   module _ (s : SolverState) (view : state ≡ s) where
     pub definition_there : GetsDefinition M N def → marked ≡ set marks def.var.index true → early_refusal s def.var def.term ≡ None → is_too_deep def.term ≡ false →
-        kind_of_term (kinds_in s.model.vars.items) def.term ≡ kinds_in s.model.vars.items def.var.index → users_of def.term ≡ [] → Counts after (distinct_with (distinct_subterms s.model) def.term) → IsKept N a marked (Some after) values closed usable
+        kind_of_term (kinds_in s.model.vars.items) def.term ≡ kinds_in s.model.vars.items def.var.index → users_of def.term ≡ [] → Counts after (distinct_with (distinct_subterms s.model) def.term) → IsKept N a marked rules (Some after) values closed usable
     definition_there gets next = subst (λ (t : SolverState). early_refusal t def.var def.term ≡ None → is_too_deep def.term ≡ false → kind_of_term (kinds_in t.model.vars.items) def.term ≡ kinds_in t.model.vars.items def.var.index → users_of def.term ≡ [] →
-        Counts after (distinct_with (distinct_subterms t.model) def.term) → IsKept N a marked (Some after) values closed usable) view (gets_kept gets next)
+        Counts after (distinct_with (distinct_subterms t.model) def.term) → IsKept N a marked rules (Some after) values closed usable) view (gets_kept gets next)
 
-    pub unchanged_there : IsSameModel M N → early_refusal s def.var def.term ≡ None → IsKept N a marks counted values closed usable
-    unchanged_there same = subst (λ (t : SolverState). early_refusal t def.var def.term ≡ None → IsKept N a marks counted values closed usable) view (same_kept same)
+    pub unchanged_there : IsSameModel M N → early_refusal s def.var def.term ≡ None → IsKept N a marks rules counted values closed usable
+    unchanged_there same = subst (λ (t : SolverState). early_refusal t def.var def.term ≡ None → IsKept N a marks rules counted values closed usable) view (same_kept same)

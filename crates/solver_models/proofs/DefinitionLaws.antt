@@ -83,7 +83,7 @@ has_posted M formed d def at =
     (formed.posted_defs.all d (less_there M.defs.items d def at))
 
 -- ---- the numbers of definitions, and one more
-named_push : (ns : List ℕ) (n : ℕ) → NamesEachOnce ns n → NamesEachOnce (ns ++ n ∷ []) (n + 1)
+pub named_push : (ns : List ℕ) (n : ℕ) → NamesEachOnce ns n → NamesEachOnce (ns ++ n ∷ []) (n + 1)
 named_push ns n named = record {
   within = λ k d at. within k d (last_or ns n k d at);
   once = λ j k d at of. once j k d (last_or ns n j d at) (last_or ns n k d of);

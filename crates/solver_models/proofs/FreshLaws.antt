@@ -18,7 +18,6 @@ use Rattle.model_values.specs.Wholes.{place_in, place_of, sum_in, sum_or}
 use Rattle.model_values.specs.declared.failure.Failure.{Failure}
 use Rattle.term_model.specs.Posting.{totals_by}
 use Rattle.term_model.specs.Subterms.{distinct_subterms}
-use Rattle.term_model.specs.Users.{no_users}
 use Rattle.term_model.specs.Wellformed.{IsWellFormed}
 use Rattle.term_model.specs.declared.model.Model.{Model}
 use Rattle.term_model.specs.declared.model.Total.{Total}
@@ -63,14 +62,14 @@ one_there : (o : Option Input) (v : Outcome) → option_map (λ (x : Input). Som
 one_there (Some x) v e = ap (λ (p : Option Outcome). unwrap_or p v) e
 one_there None v e = let c : None ≡ Some v = e in cc
 
-module _ (M : Model) (a : List ℤ) (formed : IsWellFormed M) (closable : IsClosable M) (long : length a ≡ length M.vars.items) where
+module _ (users : ℕ → NumberRule) (M : Model) (a : List ℤ) (formed : IsWellFormed M) (closable : IsClosable M) (long : length a ≡ length M.vars.items) where
   abbrev env : ℕ → Outcome
-  env = outcome_of_var no_users M a
+  env = outcome_of_var users M a
 
   abbrev count : ℕ
   count = length M.vars.items
 
-  fresh_from : (xs : List Input) → fresh_vars no_users M env ≡ Some xs → AreFresh M a xs
+  fresh_from : (xs : List Input) → fresh_vars users M env ≡ Some xs → AreFresh users M a xs
   fresh_from xs e =
       let parts = all_gathered (map env (range_with_len 0 count)) [] xs e in
       let lists : map env (range_with_len 0 count) ≡ map (λ (x : Input). Some x) xs = parts.2 ∙ ap (λ (ys : List Input). map (λ (x : Input). Some x) ys) (sym parts.1) in
@@ -80,7 +79,7 @@ module _ (M : Model) (a : List ℤ) (formed : IsWellFormed M) (closable : IsClos
       record {
         count = length';
         each = each;
-        kinds = λ i x at. variables_kinded no_users M a formed closable.sets long i x (sym (each i (within xs i x at length')) ∙ at);
+        kinds = λ i x at. variables_kinded users M a formed closable.sets long i x (sym (each i (within xs i x at length')) ∙ at);
       }
     where
       within : (ys : List Input) (i : ℕ) (x : Input) → slice_get ys i ≡ Some x → length ys ≡ count → i < count
@@ -92,13 +91,13 @@ module _ (M : Model) (a : List ℤ) (formed : IsWellFormed M) (closable : IsClos
           inside (z ∷ zs) (suc j) y e = omega (arith, inside zs j y e)
 
   abbrev systems_there : Sums
-  systems_there = fresh_sums no_users M env Systems
+  systems_there = fresh_sums users M env Systems
 
   abbrev objectives_there : Sums
-  objectives_there = fresh_sums no_users M env Objectives
+  objectives_there = fresh_sums users M env Objectives
 
-  pub variables_there : (f : Fresh) → fresh_of no_users M a ≡ Ok f → AreFresh M a f.vars
-  variables_there f is = fresh_from f.vars (all_there (fresh_vars no_users M env) systems_there objectives_there no_users env (distinct_subterms M) f is).0
+  pub variables_there : (f : Fresh) → fresh_of users M a ≡ Ok f → AreFresh users M a f.vars
+  variables_there f is = fresh_from f.vars (all_there (fresh_vars users M env) systems_there objectives_there users env (distinct_subterms M) f is).0
 
 -- ---- all systems and objectives have values
 module _ (users : ℕ → NumberRule) (M : Model) (env : ℕ → Outcome) (side : Side) where
@@ -170,18 +169,18 @@ place_by : (M : Model) (side : Side) (k : ℕ) → place_of M (whole_by side k) 
 place_by M Systems k = refl
 place_by M Objectives k = refl
 
-side_there : (M : Model) (a : List ℤ) (f : Fresh) → fresh_of no_users M a ≡ Ok f → (side : Side) → fresh_sums no_users M (outcome_of_var no_users M a) side ≡ Some (Ok (totals_in f side))
-side_there M a f is Systems =
-    (all_there (fresh_vars no_users M (outcome_of_var no_users M a)) (fresh_sums no_users M (outcome_of_var no_users M a) Systems) (fresh_sums no_users M (outcome_of_var no_users M a) Objectives) no_users (outcome_of_var no_users M a) (distinct_subterms M) f is).1
-side_there M a f is Objectives =
-    (all_there (fresh_vars no_users M (outcome_of_var no_users M a)) (fresh_sums no_users M (outcome_of_var no_users M a) Systems) (fresh_sums no_users M (outcome_of_var no_users M a) Objectives) no_users (outcome_of_var no_users M a) (distinct_subterms M) f is).2
+side_there : (users : ℕ → NumberRule) (M : Model) (a : List ℤ) (f : Fresh) → fresh_of users M a ≡ Ok f → (side : Side) → fresh_sums users M (outcome_of_var users M a) side ≡ Some (Ok (totals_in f side))
+side_there users M a f is Systems =
+    (all_there (fresh_vars users M (outcome_of_var users M a)) (fresh_sums users M (outcome_of_var users M a) Systems) (fresh_sums users M (outcome_of_var users M a) Objectives) users (outcome_of_var users M a) (distinct_subterms M) f is).1
+side_there users M a f is Objectives =
+    (all_there (fresh_vars users M (outcome_of_var users M a)) (fresh_sums users M (outcome_of_var users M a) Systems) (fresh_sums users M (outcome_of_var users M a) Objectives) users (outcome_of_var users M a) (distinct_subterms M) f is).2
 
-pub totals_there : (M : Model) (a : List ℤ) (f : Fresh) → fresh_of no_users M a ≡ Ok f → (side : Side) → AreTotals M a side (totals_in f side)
-totals_there M a f is side k lt =
-    let sums = sums_from no_users M (outcome_of_var no_users M a) side (totals_by M side) 0 [] (totals_in f side) (side_there M a f is side) in
+pub totals_there : (users : ℕ → NumberRule) (M : Model) (a : List ℤ) (f : Fresh) → fresh_of users M a ≡ Ok f → (side : Side) → AreTotals users M a side (totals_in f side)
+totals_there users M a f is side k lt =
+    let sums = sums_from users M (outcome_of_var users M a) side (totals_by M side) 0 [] (totals_in f side) (side_there users M a f is side) in
     let total = slice_within (totals_by M side) k lt in
     let found = sums.2 k total.0 total.1 in
-    let whole : sum_in no_users M (outcome_of_var no_users M a) (whole_by side k) (place_of M (whole_by side k)) ≡ Some (Ok found.0) =
-    ap (sum_in no_users M (outcome_of_var no_users M a) (whole_by side k)) (place_by M side k ∙ place_there (totals_by M side) k total.0 total.1)
-    ∙ ap (λ m. sum_in no_users M (outcome_of_var no_users M a) (whole_by side m) total.0.place) (let z : k ≡ 0 + k = omega arith in z) ∙ found.2 in
-    (found.0, ap (λ ys. slice_get ys k) sums.1 ∙ found.1, ap (λ o. sum_or o (failure_below no_users M (outcome_of_var no_users M a) (whole_by side k))) whole)
+    let whole : sum_in users M (outcome_of_var users M a) (whole_by side k) (place_of M (whole_by side k)) ≡ Some (Ok found.0) =
+    ap (sum_in users M (outcome_of_var users M a) (whole_by side k)) (place_by M side k ∙ place_there (totals_by M side) k total.0 total.1)
+    ∙ ap (λ m. sum_in users M (outcome_of_var users M a) (whole_by side m) total.0.place) (let z : k ≡ 0 + k = omega arith in z) ∙ found.2 in
+    (found.0, ap (λ ys. slice_get ys k) sums.1 ∙ found.1, ap (λ o. sum_or o (failure_below users M (outcome_of_var users M a) (whole_by side k))) whole)

@@ -16,15 +16,14 @@ use Rattle.solver_models.specs.Ids.{has_definition}
 use Rattle.solver_models.specs.Kept.{AreMarks, IsClosable, IsCounted, IsKept, mark_at}
 use Rattle.solver_models.specs.State.{IsSameModel}
 use Rattle.solver_models.specs.Totals.{GetsTotal}
-use Rattle.solver_models.proofs.DefinitionLaws.{formed_defined, has_more, subterms_more}
-use Rattle.solver_models.proofs.MemberLaws.{definitions_with_member, formed_with_member, subterms_with_member}
-use Rattle.solver_models.proofs.ModelLaws.{IsEmpty, IsGrown, definitions_same, formed_empty, formed_grown, grown_same, grown_variable, nothing_defined, subterms_same}
-use Rattle.solver_models.proofs.TotalLaws.{definitions_with_total, formed_with_total, subterms_with_total}
+use Rattle.solver_models.proofs.DefinitionLaws.{formed_defined, has_more, named_push, subterms_more, users_same}
+use Rattle.solver_models.proofs.MemberLaws.{definitions_with_member, formed_with_member, subterms_with_member, users_more, users_with_member}
+use Rattle.solver_models.proofs.ModelLaws.{IsEmpty, IsGrown, definitions_same, formed_empty, formed_grown, grown_same, grown_variable, nothing_defined, subterms_same, users_grown}
+use Rattle.solver_models.proofs.TotalLaws.{definitions_with_total, formed_with_total, subterms_with_total, users_with_total}
 use Rattle.term_count.specs.Counting.{Counts}
 use Rattle.term_count.specs.declared.subterms.Subterms.{Subterms}
-use Rattle.term_model.specs.Naming.{users_of}
+use Rattle.term_model.specs.Naming.{NamesEachOnce, users_of, users_posted}
 use Rattle.term_model.specs.Subterms.{distinct_subterms}
-use Rattle.term_model.specs.Users.{no_users}
 use Rattle.term_model.specs.Wellformed.{IsDefinition, IsMember}
 use Rattle.term_model.specs.declared.model.Definition.{Definition}
 use Rattle.term_model.specs.declared.model.Member.{Member}
@@ -32,6 +31,7 @@ use Rattle.term_model.specs.declared.model.Model.{Model}
 use Rattle.term_model.specs.declared.model.VarDecl.{VarDecl}
 use Rattle.term_model.specs.declared.posting.Side.{Side}
 use Rattle.term_model.proofs.VarLaws.{set_same}
+use Rattle.posted_users.specs.KeptRule.{KeptRule, users_of as users_by}
 
 open_ : {X : Type 0} (closed : Bool) → closed ≡ false → closed ≡ true → X
 open_ closed e h = absurd (true≢false (sym h ∙ e))
@@ -62,7 +62,7 @@ mark_set marks x i lt = cases (ℕ_discrete i x)
 
 -- ---- a new solver
 pub empty_kept : (M : Model) (a : List ℤ) (marks : List Bool) (values : Fresh) → M.vars.items ≡ [] → M.defs.items ≡ [] → M.systems.items ≡ [] → M.objectives.items ≡ [] → M.posted.items ≡ [] →
-    a ≡ [] → marks ≡ [] → IsKept M a marks None values false true
+    a ≡ [] → marks ≡ [] → IsKept M a marks [] None values false true
 empty_kept M a marks values vars defs systems objectives posted assigned marked =
     let empty : IsEmpty M = record { vars = vars; defs = defs; systems = systems; objectives = objectives; posted = posted } in
     record {
@@ -74,6 +74,7 @@ empty_kept M a marks values vars defs systems objectives posted assigned marked 
         each = λ i. ap (λ ms. mark_at ms i) marked ∙ sym (ap is_some (nothing_defined M empty i));
       };
       terms = tt;
+      posted = ap (λ ps. length (users_posted M ps)) posted;
       closable = λ h. open_ false refl h;
       fresh = λ h. open_ false refl h;
     }
@@ -83,24 +84,25 @@ counted_same : (M N : Model) (counted : Option Subterms) → distinct_subterms N
 counted_same M N None e counted = tt
 counted_same M N (Some terms) e counted = subst (Counts terms) (sym e) counted
 
-module _ (M N : Model) (more : List VarDecl) (a after : List ℤ) (marks marked : List Bool) (counted : Option Subterms) (values : Fresh) (closed usable : Bool) (grown : IsGrown M N more) (kept : IsKept M a marks counted values closed usable) (open' : closed ≡ false)
+module _ (M N : Model) (more : List VarDecl) (a after : List ℤ) (marks marked : List Bool) (rules : List KeptRule) (counted : Option Subterms) (values : Fresh) (closed usable : Bool) (grown : IsGrown M N more) (kept : IsKept M a marks rules counted values closed usable) (open' : closed ≡ false)
     (few : length N.vars.items < 2 ^ 32) (long : length after ≡ length N.vars.items) (are : AreMarks N marked) where
-  kept_grown : IsKept N after marked counted values closed usable
+  kept_grown : IsKept N after marked rules counted values closed usable
   kept_grown = record {
     formed = formed_grown M N more grown kept.formed;
     few = few;
     assigned = long;
     marked = are;
     terms = counted_same M N counted (subterms_same M N more grown) kept.terms;
+    posted = ap length (users_grown M N more grown) ∙ kept.posted;
     closable = λ h. open_ closed open' h;
     fresh = λ h. open_ closed open' h;
   }
 
-pub kept_same : (M N : Model) (a after : List ℤ) (marks marked : List Bool) (counted : Option Subterms) (values : Fresh) (closed usable : Bool) → IsSameModel M N → after ≡ a → marked ≡ marks → closed ≡ false →
-    IsKept M a marks counted values closed usable → IsKept N after marked counted values closed usable
-kept_same M N a after marks marked counted values closed usable same e f open' kept =
+pub kept_same : (M N : Model) (a after : List ℤ) (marks marked : List Bool) (rules : List KeptRule) (counted : Option Subterms) (values : Fresh) (closed usable : Bool) → IsSameModel M N → after ≡ a → marked ≡ marks → closed ≡ false →
+    IsKept M a marks rules counted values closed usable → IsKept N after marked rules counted values closed usable
+kept_same M N a after marks marked rules counted values closed usable same e f open' kept =
     let count : length N.vars.items ≡ length M.vars.items = ap length same.vars in
-    kept_grown M N [] a after marks marked counted values closed usable (grown_same M N same) kept open' (subst (λ n. n < 2 ^ 32) (sym count) kept.few) (ap length e ∙ kept.assigned ∙ sym count) (record {
+    kept_grown M N [] a after marks marked rules counted values closed usable (grown_same M N same) kept open' (subst (λ n. n < 2 ^ 32) (sym count) kept.few) (ap length e ∙ kept.assigned ∙ sym count) (record {
       count = ap length f ∙ kept.marked.count ∙ sym count;
       each = λ i. ap (λ ms. mark_at ms i) f ∙ kept.marked.each i ∙ sym (ap is_some (definitions_same M N [] (grown_same M N same) i));
     })
@@ -109,20 +111,20 @@ length_push : {X : Type 0} (xs : List X) (x : X) → length (xs ++ x ∷ []) ≡
 length_push [] x = refl
 length_push (y ∷ xs) x = let rest = length_push xs x in omega (arith, rest)
 
-pub kept_variable : (M N : Model) (decl : VarDecl) (start : ℤ) (a after : List ℤ) (marks marked : List Bool) (counted : Option Subterms) (values : Fresh) (closed usable : Bool) → GetsVariable M N decl → after ≡ a ++ start ∷ [] → marked ≡ marks ++ false ∷ [] →
-    closed ≡ false → length M.vars.items + 1 < 2 ^ 32 → IsKept M a marks counted values closed usable → IsKept N after marked counted values closed usable
-kept_variable M N decl start a after marks marked counted values closed usable gets e f open' few kept =
+pub kept_variable : (M N : Model) (decl : VarDecl) (start : ℤ) (a after : List ℤ) (marks marked : List Bool) (rules : List KeptRule) (counted : Option Subterms) (values : Fresh) (closed usable : Bool) → GetsVariable M N decl → after ≡ a ++ start ∷ [] → marked ≡ marks ++ false ∷ [] →
+    closed ≡ false → length M.vars.items + 1 < 2 ^ 32 → IsKept M a marks rules counted values closed usable → IsKept N after marked rules counted values closed usable
+kept_variable M N decl start a after marks marked rules counted values closed usable gets e f open' few kept =
     let count : length N.vars.items ≡ length M.vars.items + 1 = ap length gets.vars ∙ length_push M.vars.items decl in
-    kept_grown M N (decl ∷ []) a after marks marked counted values closed usable (grown_variable M N decl gets) kept open' (subst (λ n. n < 2 ^ 32) (sym count) few)
+    kept_grown M N (decl ∷ []) a after marks marked rules counted values closed usable (grown_variable M N decl gets) kept open' (subst (λ n. n < 2 ^ 32) (sym count) few)
     (ap length e ∙ length_push a start ∙ ap (λ n. n + 1) kept.assigned ∙ sym count) (record {
       count = ap length f ∙ length_push marks false ∙ ap (λ n. n + 1) kept.marked.count ∙ sym count;
       each = λ i. ap (λ ms. mark_at ms i) f ∙ mark_push marks i ∙ kept.marked.each i ∙ sym (ap is_some (definitions_same M N (decl ∷ []) (grown_variable M N decl gets) i));
     })
 
 -- ---- one more definition
-pub kept_definition : (M N : Model) (def : Definition) (a : List ℤ) (marks marked : List Bool) (counted : Option Subterms) (after : Subterms) (values : Fresh) (closed usable : Bool) → GetsDefinition M N def → marked ≡ set marks def.var.index true → closed ≡ false →
-    has_definition M def.var.index ≡ false → IsDefinition M def → users_of def.term ≡ [] → Counts after (distinct_with (distinct_subterms M) def.term) → IsKept M a marks counted values closed usable → IsKept N a marked (Some after) values closed usable
-kept_definition M N def a marks marked counted after values closed usable gets e open' free is none counts kept =
+pub kept_definition : (M N : Model) (def : Definition) (a : List ℤ) (marks marked : List Bool) (rules : List KeptRule) (counted : Option Subterms) (after : Subterms) (values : Fresh) (closed usable : Bool) → GetsDefinition M N def → marked ≡ set marks def.var.index true → closed ≡ false →
+    has_definition M def.var.index ≡ false → IsDefinition M def → users_of def.term ≡ [] → Counts after (distinct_with (distinct_subterms M) def.term) → IsKept M a marks rules counted values closed usable → IsKept N a marked rules (Some after) values closed usable
+kept_definition M N def a marks marked rules counted after values closed usable gets e open' free is none counts kept =
     let count : length N.vars.items ≡ length M.vars.items = ap length gets.vars in
     record {
       formed = formed_defined M N def kept.formed gets free is none;
@@ -134,14 +136,15 @@ kept_definition M N def a marks marked counted after values closed usable gets e
             ∙ ap (λ b. nat_eq def.var.index i || b) (kept.marked.each i) ∙ sym (has_more M N def kept.formed gets i);
       };
       terms = subst (Counts after) (sym (subterms_more M N def kept.formed gets)) counts;
+      posted = ap length (users_same M N def kept.formed gets none) ∙ kept.posted;
       closable = λ h. open_ closed open' h;
       fresh = λ h. open_ closed open' h;
     }
 
 -- ---- one more system or objective, and one more member
-pub kept_total : (M N : Model) (side : Side) (place : Place) (a : List ℤ) (marks : List Bool) (counted : Option Subterms) (values : Fresh) (closed usable : Bool) → GetsTotal M N side place → closed ≡ false →
-    IsKept M a marks counted values closed usable → IsKept N a marks counted values closed usable
-kept_total M N side place a marks counted values closed usable gets open' kept =
+pub kept_total : (M N : Model) (side : Side) (place : Place) (a : List ℤ) (marks : List Bool) (rules : List KeptRule) (counted : Option Subterms) (values : Fresh) (closed usable : Bool) → GetsTotal M N side place → closed ≡ false →
+    IsKept M a marks rules counted values closed usable → IsKept N a marks rules counted values closed usable
+kept_total M N side place a marks rules counted values closed usable gets open' kept =
     let count : length N.vars.items ≡ length M.vars.items = ap length gets.vars in
     record {
       formed = formed_with_total M N side place gets kept.formed;
@@ -152,16 +155,17 @@ kept_total M N side place a marks counted values closed usable gets open' kept =
         each = λ i. kept.marked.each i ∙ sym (ap is_some (definitions_with_total M N side place gets i));
       };
       terms = counted_same M N counted (subterms_with_total M N side place gets) kept.terms;
+      posted = ap length (users_with_total M N side place gets) ∙ kept.posted;
       closable = λ h. open_ closed open' h;
       fresh = λ h. open_ closed open' h;
     }
 
-pub kept_member : (M N : Model) (side : Side) (k : ℕ) (member : Member) (a : List ℤ) (marks : List Bool) (counted : Option Subterms) (after : Subterms) (values : Fresh) (closed usable : Bool) → GetsMember M N side k member → closed ≡ false →
-    IsMember M member → users_of member.term ≡ [] → Counts after (distinct_with (distinct_subterms M) member.term) → IsKept M a marks counted values closed usable → IsKept N a marks (Some after) values closed usable
-kept_member M N side k member a marks counted after values closed usable gets open' is none counts kept =
+pub kept_member : (M N : Model) (side : Side) (k : ℕ) (member : Member) (a : List ℤ) (marks : List Bool) (rules : List KeptRule) (counted : Option Subterms) (after : Subterms) (values : Fresh) (closed usable : Bool) → GetsMember M N side k member → closed ≡ false →
+    IsMember M member → users_of member.term ≡ [] → Counts after (distinct_with (distinct_subterms M) member.term) → IsKept M a marks rules counted values closed usable → IsKept N a marks rules (Some after) values closed usable
+kept_member M N side k member a marks rules counted after values closed usable gets open' is none counts kept =
     let count : length N.vars.items ≡ length M.vars.items = ap length gets.vars in
     record {
-      formed = formed_with_member M N side k member kept.formed gets is none;
+      formed = formed_with_member M N side k member kept.formed gets is (subst (λ ns. NamesEachOnce ns (length ns)) (sym (users_with_member M N side k member kept.formed gets none)) kept.formed.users);
       few = subst (λ n. n < 2 ^ 32) (sym count) kept.few;
       assigned = kept.assigned ∙ sym count;
       marked = record {
@@ -169,64 +173,92 @@ kept_member M N side k member a marks counted after values closed usable gets op
         each = λ i. kept.marked.each i ∙ sym (ap is_some (definitions_with_member M N side k member kept.formed gets i));
       };
       terms = subst (Counts after) (sym (subterms_with_member M N side k member kept.formed gets)) counts;
+      posted = ap length (users_with_member M N side k member kept.formed gets none) ∙ kept.posted;
       closable = λ h. open_ closed open' h;
       fresh = λ h. open_ closed open' h;
     }
 
-pub kept_uncounted : (M : Model) (a : List ℤ) (marks : List Bool) (counted : Option Subterms) (values : Fresh) (closed usable : Bool) → IsKept M a marks counted values closed usable → IsKept M a marks None values closed usable
-kept_uncounted M a marks counted values closed usable kept = record {
+-- one more user's constraint, and its rule
+pub kept_user : (M N : Model) (side : Side) (k : ℕ) (member : Member) (rule : KeptRule) (a : List ℤ) (marks : List Bool) (rules : List KeptRule) (counted : Option Subterms) (after : Subterms) (values : Fresh) (closed usable : Bool) → GetsMember M N side k member → closed ≡ false →
+    IsMember M member → users_of member.term ≡ length rules ∷ [] → Counts after (distinct_with (distinct_subterms M) member.term) → IsKept M a marks rules counted values closed usable → IsKept N a marks (rules ++ rule ∷ []) (Some after) values closed usable
+kept_user M N side k member rule a marks rules counted after values closed usable gets open' is numbered counts kept =
+    let count : length N.vars.items ≡ length M.vars.items = ap length gets.vars in
+    let us = users_posted M M.posted.items in
+    let more : users_posted N N.posted.items ≡ us ++ length us ∷ [] = users_more M N side k member kept.formed gets ∙ ap (λ ns. us ++ ns) numbered ∙ ap (λ n. us ++ n ∷ []) (sym kept.posted) in
+    let named : NamesEachOnce (users_posted N N.posted.items) (length (users_posted N N.posted.items)) =
+    subst (λ ns. NamesEachOnce ns (length ns)) (sym more) (subst (NamesEachOnce (us ++ length us ∷ [])) (sym (length_push us (length us))) (named_push us (length us) kept.formed.users)) in
+    record {
+      formed = formed_with_member M N side k member kept.formed gets is named;
+      few = subst (λ n. n < 2 ^ 32) (sym count) kept.few;
+      assigned = kept.assigned ∙ sym count;
+      marked = record {
+        count = kept.marked.count ∙ sym count;
+        each = λ i. kept.marked.each i ∙ sym (ap is_some (definitions_with_member M N side k member kept.formed gets i));
+      };
+      terms = subst (Counts after) (sym (subterms_with_member M N side k member kept.formed gets)) counts;
+      posted = ap length more ∙ length_push us (length us) ∙ ap (λ n. n + 1) kept.posted ∙ sym (length_push rules rule);
+      closable = λ h. open_ closed open' h;
+      fresh = λ h. open_ closed open' h;
+    }
+
+pub kept_uncounted : (M : Model) (a : List ℤ) (marks : List Bool) (rules : List KeptRule) (counted : Option Subterms) (values : Fresh) (closed usable : Bool) → IsKept M a marks rules counted values closed usable → IsKept M a marks rules None values closed usable
+kept_uncounted M a marks rules counted values closed usable kept = record {
   formed = kept.formed;
   few = kept.few;
   assigned = kept.assigned;
   marked = kept.marked;
   terms = tt;
+  posted = kept.posted;
   closable = kept.closable;
   fresh = kept.fresh;
 }
 
 -- ---- a solver that can't be used any more, one that was closed, and other numbers
-pub kept_unusable : (M : Model) (a after : List ℤ) (marks : List Bool) (counted : Option Subterms) (values : Fresh) (closed usable : Bool) → length after ≡ length a → IsKept M a marks counted values closed usable → IsKept M after marks counted values closed false
-kept_unusable M a after marks counted values closed usable long kept = record {
+pub kept_unusable : (M : Model) (a after : List ℤ) (marks : List Bool) (rules : List KeptRule) (counted : Option Subterms) (values : Fresh) (closed usable : Bool) → length after ≡ length a → IsKept M a marks rules counted values closed usable → IsKept M after marks rules counted values closed false
+kept_unusable M a after marks rules counted values closed usable long kept = record {
   formed = kept.formed;
   few = kept.few;
   assigned = long ∙ kept.assigned;
   marked = kept.marked;
   terms = kept.terms;
+  posted = kept.posted;
   closable = kept.closable;
   fresh = λ h g. open_ false refl g;
 }
 
-pub kept_open : (M : Model) (a after : List ℤ) (marks : List Bool) (counted : Option Subterms) (values : Fresh) (closed usable : Bool) → length after ≡ length a → closed ≡ false → IsKept M a marks counted values closed usable → IsKept M after marks counted values closed usable
-kept_open M a after marks counted values closed usable long open' kept = record {
+pub kept_open : (M : Model) (a after : List ℤ) (marks : List Bool) (rules : List KeptRule) (counted : Option Subterms) (values : Fresh) (closed usable : Bool) → length after ≡ length a → closed ≡ false → IsKept M a marks rules counted values closed usable → IsKept M after marks rules counted values closed usable
+kept_open M a after marks rules counted values closed usable long open' kept = record {
   formed = kept.formed;
   few = kept.few;
   assigned = long ∙ kept.assigned;
   marked = kept.marked;
   terms = kept.terms;
+  posted = kept.posted;
   closable = kept.closable;
   fresh = λ h. open_ closed open' h;
 }
 
-pub kept_closed : (M : Model) (a after : List ℤ) (marks : List Bool) (counted : Option Subterms) (values fresh : Fresh) (closed usable : Bool) → length after ≡ length a → IsClosable M → fresh_of no_users M after ≡ Ok fresh → IsKept M a marks counted values closed usable → IsKept M after marks counted fresh true usable
-kept_closed M a after marks counted values fresh closed usable long closable are kept = record {
+pub kept_closed : (M : Model) (a after : List ℤ) (marks : List Bool) (rules : List KeptRule) (counted : Option Subterms) (values fresh : Fresh) (closed usable : Bool) → length after ≡ length a → IsClosable M → fresh_of (users_by rules) M after ≡ Ok fresh → IsKept M a marks rules counted values closed usable → IsKept M after marks rules counted fresh true usable
+kept_closed M a after marks rules counted values fresh closed usable long closable are kept = record {
   formed = kept.formed;
   few = kept.few;
   assigned = long ∙ kept.assigned;
   marked = kept.marked;
   terms = kept.terms;
+  posted = kept.posted;
   closable = λ _. closable;
   fresh = λ _ _. are;
 }
 
-pub kept_closed_again : (M : Model) (a after : List ℤ) (marks : List Bool) (counted : Option Subterms) (values fresh : Fresh) (closed usable : Bool) → length after ≡ length a → closed ≡ true → fresh_of no_users M after ≡ Ok fresh → IsKept M a marks counted values closed usable → IsKept M after marks counted fresh closed usable
-kept_closed_again M a after marks counted values fresh closed usable long shut are kept =
-    subst (λ b. IsKept M after marks counted fresh b usable) (sym shut) (kept_closed M a after marks counted values fresh closed usable long (kept.closable shut) are kept)
+pub kept_closed_again : (M : Model) (a after : List ℤ) (marks : List Bool) (rules : List KeptRule) (counted : Option Subterms) (values fresh : Fresh) (closed usable : Bool) → length after ≡ length a → closed ≡ true → fresh_of (users_by rules) M after ≡ Ok fresh → IsKept M a marks rules counted values closed usable → IsKept M after marks rules counted fresh closed usable
+kept_closed_again M a after marks rules counted values fresh closed usable long shut are kept =
+    subst (λ b. IsKept M after marks rules counted fresh b usable) (sym shut) (kept_closed M a after marks rules counted values fresh closed usable long (kept.closable shut) are kept)
 
 -- ---- the same whatever was answered
-pub kept_pushed : (result : Result (Unit {0}) NoMemory) (M N : Model) (decl : VarDecl) (start : ℤ) (a after : List ℤ) (marks marked : List Bool) (counted : Option Subterms) (values : Fresh) (closed usable : Bool) → OnOk result (GetsVariable M N decl) → OnOk result (after ≡ a ++ start ∷ []) → OnOk result (marked ≡ marks ++ false ∷ []) →
-    OnErr result (IsSameModel M N) → OnErr result (after ≡ a) → OnErr result (marked ≡ marks) → closed ≡ false → length M.vars.items + 1 < 2 ^ 32 → IsKept M a marks counted values closed usable → IsKept N after marked counted values closed usable
-kept_pushed (Ok done) M N decl start a after marks marked counted values closed usable gets e f same e' f' open' few kept = kept_variable M N decl start a after marks marked counted values closed usable gets e f open' few kept
-kept_pushed (Err stop) M N decl start a after marks marked counted values closed usable gets e f same e' f' open' few kept = kept_same M N a after marks marked counted values closed usable same e' f' open' kept
+pub kept_pushed : (result : Result (Unit {0}) NoMemory) (M N : Model) (decl : VarDecl) (start : ℤ) (a after : List ℤ) (marks marked : List Bool) (rules : List KeptRule) (counted : Option Subterms) (values : Fresh) (closed usable : Bool) → OnOk result (GetsVariable M N decl) → OnOk result (after ≡ a ++ start ∷ []) → OnOk result (marked ≡ marks ++ false ∷ []) →
+    OnErr result (IsSameModel M N) → OnErr result (after ≡ a) → OnErr result (marked ≡ marks) → closed ≡ false → length M.vars.items + 1 < 2 ^ 32 → IsKept M a marks rules counted values closed usable → IsKept N after marked rules counted values closed usable
+kept_pushed (Ok done) M N decl start a after marks marked rules counted values closed usable gets e f same e' f' open' few kept = kept_variable M N decl start a after marks marked rules counted values closed usable gets e f open' few kept
+kept_pushed (Err stop) M N decl start a after marks marked rules counted values closed usable gets e f same e' f' open' few kept = kept_same M N a after marks marked rules counted values closed usable same e' f' open' kept
 
 -- an open solver with room for a variable
 pub open_room : (closed : Bool) (n : ℕ) → (if closed then Some AlreadyClosed else (if nat_lt n MAX_VARIABLES then None else Some (TooMany Variables))) ≡ None → (closed ≡ false) × (n + 1 < 2 ^ 32)

@@ -160,13 +160,15 @@ module _ (M N : Model) (side : Side) (k : ℕ) (member : Member) (formed : IsWel
       term_by side refl ∙ ap (λ ts. option_map (λ (u : Member). u.term) (member_at ts k count)) gets.totals.all
       ∙ ap (λ (o : Option Member). option_map (λ (u : Member). u.term) o) (member_last (totals_by M side) k was is_now member gets.totals.stood gets.totals.members)
 
-  pub users_with_member : users_of member.term ≡ [] → users_posted N N.posted.items ≡ users_posted M M.posted.items
-  users_with_member none =
+  pub users_more : users_posted N N.posted.items ≡ users_posted M M.posted.items ++ users_of member.term
+  users_more =
       ap (λ ps. users_posted N ps) gets.posted ∙ ap joined (map_push (λ p. users_where (term_posted N p)) M.posted.items posted_last)
       ∙ joined-push (map (λ p. users_where (term_posted N p)) M.posted.items) (users_where (term_posted N posted_last))
-      ∙ ap (λ ns. joined (map (λ p. users_where (term_posted N p)) M.posted.items) ++ ns) (ap users_where term_last ∙ none)
-      ∙ append-nil (joined (map (λ p. users_where (term_posted N p)) M.posted.items))
-      ∙ ap joined (map_old (λ p. users_where (term_posted N p)) (λ p. users_where (term_posted M p)) (number_by side k) count (λ p old. ap users_where (term_front p old)) M.posted.items numbers_old)
+      ∙ ap (λ ns. joined (map (λ p. users_where (term_posted N p)) M.posted.items) ++ ns) (ap users_where term_last)
+      ∙ ap (λ ns. joined ns ++ users_of member.term) (map_old (λ p. users_where (term_posted N p)) (λ p. users_where (term_posted M p)) (number_by side k) count (λ p old. ap users_where (term_front p old)) M.posted.items numbers_old)
+
+  pub users_with_member : users_of member.term ≡ [] → users_posted N N.posted.items ≡ users_posted M M.posted.items
+  users_with_member none = users_more ∙ ap (λ ns. users_posted M M.posted.items ++ ns) none ∙ append-nil (users_posted M M.posted.items)
 
   pub subterms_with_member : distinct_subterms N ≡ distinct_with (distinct_subterms M) member.term
   subterms_with_member =
@@ -184,7 +186,7 @@ module _ (M N : Model) (side : Side) (k : ℕ) (member : Member) (formed : IsWel
       ∙ fold-append (note M.defs.items i) None M.posted.items (posted_last ∷ []) ∙ no_note M.defs.items i (definition_of M i) side k count
 
   -- ---- the model is well formed
-  module _ (is : IsMember M member) (none : users_of member.term ≡ []) where
+  module _ (is : IsMember M member) (named : NamesEachOnce (users_posted N N.posted.items) (length (users_posted N N.posted.items))) where
     vars : N.vars.items ≡ M.vars.items ++ []
     vars = gets.vars ∙ sym (append-nil M.vars.items)
 
@@ -259,5 +261,5 @@ module _ (M N : Model) (side : Side) (k : ℕ) (member : Member) (formed : IsWel
           (subst (λ ns. NamesEachOnce ns (length M.defs.items)) (sym (posted_same define_number (no_define side k count))) formed.posted_defs);
       posted = λ other j total at. posted_by other j total (old_or_grown other j total (one_of_sides side other) at);
       there = λ other. subst (All (IsThere other (length (totals_by N other)))) (sym gets.posted) (there_by other (one_of_sides side other));
-      users = subst (λ ns. NamesEachOnce ns (length ns)) (sym (users_with_member none)) formed.users;
+      users = named;
     })

@@ -50,8 +50,8 @@ module _ (M N : Model) (more : List VarDecl) (grown : IsGrown M N more) where
   term_same (Constrain system member) = ap (λ ts. option_map (λ (m : Member). m.term) (member_at ts system member)) grown.systems
   term_same (Part objective member) = ap (λ ts. option_map (λ (m : Member). m.term) (member_at ts objective member)) grown.objectives
 
-  users_same : users_posted N N.posted.items ≡ users_posted M M.posted.items
-  users_same =
+  pub users_grown : users_posted N N.posted.items ≡ users_posted M M.posted.items
+  users_grown =
       ap (λ ps. users_posted N ps) grown.posted
       ∙ ap joined (map_same (λ p. users_where (term_posted N p)) (λ p. users_where (term_posted M p)) (λ p. ap users_where (term_same p)) M.posted.items)
 
@@ -77,7 +77,7 @@ module _ (M N : Model) (more : List VarDecl) (grown : IsGrown M N more) where
         (subst (All (IsThere Systems (length M.systems.items))) (sym grown.posted) formed.posted_systems);
     posted_objectives = subst (λ ts. All (IsThere Objectives (length ts)) N.posted.items) (sym grown.objectives)
         (subst (All (IsThere Objectives (length M.objectives.items))) (sym grown.posted) formed.posted_objectives);
-    users = subst (λ ns. NamesEachOnce ns (length ns)) (sym users_same) formed.users;
+    users = subst (λ ns. NamesEachOnce ns (length ns)) (sym users_grown) formed.users;
   }
 
 -- ---- the model of nothing

@@ -19,8 +19,8 @@ use Rattle.model_values.specs.VarOutcomes.{outcome_by, outcome_of_var, outcomes_
 use Rattle.term_count.specs.declared.subterms.Subterms.{Subterms}
 use Rattle.term_model.specs.Definitions.{definition_of}
 use Rattle.term_model.specs.Kinds.{kinds_in}
-use Rattle.term_model.specs.Users.{no_users}
 use Rattle.term_model.specs.declared.model.Model.{Model}
+use Rattle.posted_users.specs.KeptRule.{KeptRule, users_of}
 
 -- a free variable has its number
 pub free_value : (users : ℕ → NumberRule) (M : Model) (a : List ℤ) (i : ℕ) → i < length M.vars.items → definition_of M i ≡ None → outcome_of_var users M a i ≡ option_map (λ z. Int z) (slice_get a i)
@@ -40,14 +40,14 @@ set_of_kind (Int z) e = let c : Some set_kind ≡ Some number_kind = e in cc
 set_of_kind (Set s) e = (s, refl)
 
 -- a kept value is of its variable's kind
-pub kept_number : (M : Model) (a : List ℤ) (values : List Input) (i : ℕ) → AreFresh M a values → i < length M.vars.items → kinds_in M.vars.items i ≡ Some number_kind → (z : ℤ) × (slice_get values i ≡ Some (Int z))
-kept_number M a values i are lt kind =
+pub kept_number : (users : ℕ → NumberRule) (M : Model) (a : List ℤ) (values : List Input) (i : ℕ) → AreFresh users M a values → i < length M.vars.items → kinds_in M.vars.items i ≡ Some number_kind → (z : ℤ) × (slice_get values i ≡ Some (Int z))
+kept_number users M a values i are lt kind =
     let found = slice_within values i (subst (λ n. i < n) (sym are.count) lt) in
     let number = number_of_kind found.0 (sym kind ∙ are.kinds i found.0 found.1) in
     (number.0, found.1 ∙ ap Some number.1)
 
-pub kept_set : (M : Model) (a : List ℤ) (values : List Input) (i : ℕ) → AreFresh M a values → i < length M.vars.items → kinds_in M.vars.items i ≡ Some set_kind → (s : List ℤ) × (slice_get values i ≡ Some (Set s))
-kept_set M a values i are lt kind =
+pub kept_set : (users : ℕ → NumberRule) (M : Model) (a : List ℤ) (values : List Input) (i : ℕ) → AreFresh users M a values → i < length M.vars.items → kinds_in M.vars.items i ≡ Some set_kind → (s : List ℤ) × (slice_get values i ≡ Some (Set s))
+kept_set users M a values i are lt kind =
     let found = slice_within values i (subst (λ n. i < n) (sym are.count) lt) in
     let set = set_of_kind found.0 (sym kind ∙ are.kinds i found.0 found.1) in
     (set.0, found.1 ∙ ap Some set.1)
@@ -81,22 +81,22 @@ set_readable s x e = by s.closed (is_own s x) e
     by true false h = let c : Some WrongSolver ≡ None = h in cc
     by false own h = let c : Some NotClosed ≡ None = h in cc
 
-module _ (number : ℕ) (M : Model) (a : List ℤ) (marks : List Bool) (counted : Option Subterms) (values : Fresh) (closed usable : Bool) (kept : IsKept M a marks counted values closed usable) (x : VarId) where
+module _ (number : ℕ) (M : Model) (a : List ℤ) (marks : List Bool) (rules : List KeptRule) (counted : Option Subterms) (values : Fresh) (closed usable : Bool) (kept : IsKept M a marks rules counted values closed usable) (x : VarId) where
   abbrev state : SolverState
-  state = record { number = number; model = M; assignment = a; closed = closed; usable = usable }
+  state = record { number = number; model = M; assignment = a; rules = rules; closed = closed; usable = usable }
 
-  are_fresh : closed ≡ true → usable ≡ true → AreFresh M a values.vars
-  are_fresh shut can = variables_there M a kept.formed (kept.closable shut) kept.assigned values (kept.fresh shut can)
+  are_fresh : closed ≡ true → usable ≡ true → AreFresh (users_of rules) M a values.vars
+  are_fresh shut can = variables_there (users_of rules) M a kept.formed (kept.closable shut) kept.assigned values (kept.fresh shut can)
 
   number_kept : usable ≡ true → value_refusal state x ≡ None → (is_own state x ≡ true → kinds_in M.vars.items x.index ≡ Some number_kind) → closed ≡ true → (z : ℤ) × (slice_get values.vars x.index ≡ Some (Int z))
   number_kept can none kind shut =
       let own = (readable state x none).0 in
-      kept_number M a values.vars x.index (are_fresh shut can) (given_within number (length M.vars.items) x own) (kind own)
+      kept_number (users_of rules) M a values.vars x.index (are_fresh shut can) (given_within number (length M.vars.items) x own) (kind own)
 
   set_kept : usable ≡ true → set_refusal state x ≡ None → (is_own state x ≡ true → kinds_in M.vars.items x.index ≡ Some set_kind) → (s : List ℤ) × (slice_get values.vars x.index ≡ Some (Set s))
   set_kept can none kind =
       let parts = set_readable state x none in
-      kept_set M a values.vars x.index (are_fresh parts.1 can) (given_within number (length M.vars.items) x parts.0) (kind parts.0)
+      kept_set (users_of rules) M a values.vars x.index (are_fresh parts.1 can) (given_within number (length M.vars.items) x parts.0) (kind parts.0)
 
   fresh_kept : usable ≡ true → is_own state x ≡ true → closed ≡ true → (v : Input) → slice_get values.vars x.index ≡ Some v → fresh_value state x.index ≡ Some v
   fresh_kept can own shut v at = sym ((are_fresh shut can).each x.index (given_within number (length M.vars.items) x own)) ∙ at
@@ -108,7 +108,7 @@ module _ (number : ℕ) (M : Model) (a : List ℤ) (marks : List Bool) (counted 
   free_kept : value_refusal state x ≡ None → closed ≡ false → (z : ℤ) → slice_get a x.index ≡ Some z → fresh_value state x.index ≡ Some (Int z)
   free_kept none open' z at =
       let parts = readable state x none in
-      free_value no_users M a x.index (given_within number (length M.vars.items) x parts.0) (none_of (definition_of M x.index) (parts.1 open')) ∙ ap (λ (o : Option ℤ). option_map (λ z. Int z) o) at
+      free_value (users_of rules) M a x.index (given_within number (length M.vars.items) x parts.0) (none_of (definition_of M x.index) (parts.1 open')) ∙ ap (λ (o : Option ℤ). option_map (λ z. Int z) o) at
 
   module _ (s : SolverState) (view : state ≡ s) where
     pub number_there : s.usable ≡ true → value_refusal s x ≡ None → (is_own s x ≡ true → kinds_in s.model.vars.items x.index ≡ Some number_kind) → s.closed ≡ true → (z : ℤ) × (slice_get values.vars x.index ≡ Some (Int z))

@@ -18,9 +18,9 @@ use Rattle.solver_models.proofs.FreshLaws.{totals_there}
 use Rattle.solver_models.proofs.ReadLaws.{given_within}
 use Rattle.term_count.specs.declared.subterms.Subterms.{Subterms}
 use Rattle.term_model.specs.Posting.{totals_by}
-use Rattle.term_model.specs.Users.{no_users}
 use Rattle.term_model.specs.declared.model.Model.{Model}
 use Rattle.term_model.proofs.UsableLaws.{less_there}
+use Rattle.posted_users.specs.KeptRule.{KeptRule, users_of}
 
 both_true : (a b : Bool) → (a && b) ≡ true → (a ≡ true) × (b ≡ true)
 both_true true b h = (refl, h)
@@ -53,14 +53,14 @@ swaps_own s k x y e =
 some_same : {X : Type 0} (x y : X) → Some x ≡ Some y → x ≡ y
 some_same x y e = ap (λ o. unwrap_or o x) e
 
-module _ (number : ℕ) (M : Model) (a : List ℤ) (marks : List Bool) (counted : Option Subterms) (values : Fresh) (closed usable : Bool) (kept : IsKept M a marks counted values closed usable) (k : TotalId) where
+module _ (number : ℕ) (M : Model) (a : List ℤ) (marks : List Bool) (rules : List KeptRule) (counted : Option Subterms) (values : Fresh) (closed usable : Bool) (kept : IsKept M a marks rules counted values closed usable) (k : TotalId) where
   abbrev state : SolverState
-  state = record { number = number; model = M; assignment = a; closed = closed; usable = usable }
+  state = record { number = number; model = M; assignment = a; rules = rules; closed = closed; usable = usable }
 
-  found : usable ≡ true → read_refusal state k ≡ None → (v : ℤ) × (slice_get (totals_in values k.side) k.index ≡ Some v) × (value_of no_users M a (whole_by k.side k.index) ≡ Ok v)
+  found : usable ≡ true → read_refusal state k ≡ None → (v : ℤ) × (slice_get (totals_in values k.side) k.index ≡ Some v) × (value_of (users_of rules) M a (whole_by k.side k.index) ≡ Ok v)
   found can none =
       let parts = replies state k [] none in
-      totals_there M a values (kept.fresh parts.0 can) k.side k.index (total_within state k parts.1)
+      totals_there (users_of rules) M a values (kept.fresh parts.0 can) k.side k.index (total_within state k parts.1)
 
   kept_there : usable ≡ true → read_refusal state k ≡ None → k.index < length (totals_in values k.side)
   kept_there can none = let at = found can none in less_there (totals_in values k.side) k.index at.0 at.1

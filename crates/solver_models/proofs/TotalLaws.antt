@@ -121,8 +121,8 @@ module _ (M N : Model) (side : Side) (place : Place) (gets : GetsTotal M N side 
   term_same (Constrain system member) = ap (λ (o : Option Member). option_map (λ (m : Member). m.term) o) (member_by Systems system member (one_of_sides side Systems))
   term_same (Part objective member) = ap (λ (o : Option Member). option_map (λ (m : Member). m.term) o) (member_by Objectives objective member (one_of_sides side Objectives))
 
-  users_same : users_posted N N.posted.items ≡ users_posted M M.posted.items
-  users_same =
+  pub users_with_total : users_posted N N.posted.items ≡ users_posted M M.posted.items
+  users_with_total =
       ap (λ ps. users_posted N ps) gets.posted
       ∙ ap joined (map_same (λ p. users_where (term_posted N p)) (λ p. users_where (term_posted M p)) (λ p. ap users_where (term_same p)) M.posted.items)
 
@@ -182,5 +182,5 @@ module _ (M N : Model) (side : Side) (place : Place) (gets : GetsTotal M N side 
       posted = λ other k total at. posted_by other k total (old_or_last other k total (one_of_sides side other) at);
       there = λ other. all_there_more other (length (totals_by M other)) (length (totals_by N other)) (no_fewer other (one_of_sides side other)) N.posted.items
           (subst (All (IsThere other (length (totals_by M other)))) (sym gets.posted) (formed_there M formed other));
-      users = subst (λ ns. NamesEachOnce ns (length ns)) (sym users_same) formed.users;
+      users = subst (λ ns. NamesEachOnce ns (length ns)) (sym users_with_total) formed.users;
     })

@@ -59,5 +59,6 @@ pub record Adds (old new : SolverState) (k : TotalId) (member : Member) : Type 0
   pub number : new.number ≡ old.number
   pub model : GetsMember old.model new.model k.side k.index member
   pub assignment : new.assignment ≡ old.assignment
+  pub rules : new.rules ≡ old.rules
   pub closed : new.closed ≡ old.closed
   pub usable : new.usable ≡ old.usable

@@ -26,5 +26,6 @@ pub record Declares (old new : SolverState) (decl : VarDecl) (start : ℤ) : Typ
   pub number : new.number ≡ old.number
   pub model : GetsVariable old.model new.model decl
   pub assignment : new.assignment ≡ old.assignment ++ start ∷ []
+  pub rules : new.rules ≡ old.rules
   pub closed : new.closed ≡ old.closed
   pub usable : new.usable ≡ old.usable

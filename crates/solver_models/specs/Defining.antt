@@ -60,5 +60,6 @@ pub record Defines (old new : SolverState) (def : Definition) : Type 0 where
   pub number : new.number ≡ old.number
   pub model : GetsDefinition old.model new.model def
   pub assignment : new.assignment ≡ old.assignment
+  pub rules : new.rules ≡ old.rules
   pub closed : new.closed ≡ old.closed
   pub usable : new.usable ≡ old.usable

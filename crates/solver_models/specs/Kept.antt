@@ -1,7 +1,8 @@
 -- What a solver keeps beside its state: which variables have a definition, the distinct subterms of the model where they
--- were counted, and the fresh values of all variables, systems and objectives once it is closed.
+-- were counted, a rule for each user's constraint in the model, and the fresh values of all variables, systems and objectives once it is closed.
 use Rattle.std.specs.Prelude.{◌≡◌, ℕ, ℤ, ◌<◌, ◌^◌, Bool, true, false, List, length, Option, Some, None, Ok, slice_get, unwrap_or}
 use Rattle.cbl_base.specs.Inputs.{kind_of, number_kind}
+use Rattle.cbl_base.specs.NumberRule.{NumberRule}
 use Rattle.cbl_base.specs.declared.input.Input.{Input}
 use Rattle.solver_models.specs.Ids.{has_definition}
 use Rattle.model_values.specs.Delta.{value_of}
@@ -11,14 +12,15 @@ use Rattle.term_count.specs.Counting.{Counts}
 use Rattle.term_count.specs.declared.subterms.Subterms.{Subterms}
 use Rattle.term_model.specs.Definitions.{IsAcyclic}
 use Rattle.term_model.specs.Kinds.{kinds_in}
+use Rattle.term_model.specs.Naming.{users_posted}
 use Rattle.term_model.specs.Posting.{totals_by}
 use Rattle.term_model.specs.Subterms.{distinct_subterms}
-use Rattle.term_model.specs.Users.{no_users}
 use Rattle.term_model.specs.Wellformed.{HasDefinedSets, IsWellFormed}
 use Rattle.term_model.specs.declared.model.Model.{Model}
 use Rattle.term_model.specs.declared.model.VarDecl.{VarDecl}
 use Rattle.term_model.specs.declared.posting.Side.{Side}
 use Rattle.term_model.specs.declared.posting.Side.TheVariants.{Systems, Objectives}
+use Rattle.posted_users.specs.KeptRule.{KeptRule, users_of}
 
 -- a mark for each variable that has a definition
 abbrev pub mark_at : List Bool → ℕ → Bool
@@ -33,15 +35,15 @@ abbrev pub AreMarkedOrNumbers : List Bool → List VarDecl → Type 0
 AreMarkedOrNumbers marks vars = (i : ℕ) → i < length vars → mark_at marks i ≡ false → kinds_in vars i ≡ Some number_kind
 
 -- the fresh values of all variables, each of its kind
-pub record AreFresh (M : Model) (a : List ℤ) (values : List Input) : Type 0 where
+pub record AreFresh (users : ℕ → NumberRule) (M : Model) (a : List ℤ) (values : List Input) : Type 0 where
   pub count : length values ≡ length M.vars.items
-  pub each : (i : ℕ) → i < length M.vars.items → slice_get values i ≡ outcome_of_var no_users M a i
+  pub each : (i : ℕ) → i < length M.vars.items → slice_get values i ≡ outcome_of_var users M a i
   pub kinds : (i : ℕ) (x : Input) → slice_get values i ≡ Some x → kinds_in M.vars.items i ≡ Some (kind_of x)
 
 -- the fresh values of all systems, or of all objectives
-abbrev pub AreTotals : Model → List ℤ → Side → List ℤ → Type 0
-AreTotals M a side values =
-    (k : ℕ) → k < length (totals_by M side) → (v : ℤ) × (slice_get values k ≡ Some v) × (value_of no_users M a (whole_by side k) ≡ Ok v)
+abbrev pub AreTotals : (ℕ → NumberRule) → Model → List ℤ → Side → List ℤ → Type 0
+AreTotals users M a side values =
+    (k : ℕ) → k < length (totals_by M side) → (v : ℤ) × (slice_get values k ≡ Some v) × (value_of users M a (whole_by side k) ≡ Ok v)
 
 abbrev pub totals_in : Fresh → Side → List ℤ
 totals_in values Systems = values.systems
@@ -57,11 +59,12 @@ abbrev pub IsCounted : Option Subterms → Model → Type 0
 IsCounted (Some terms) M = Counts terms (distinct_subterms M)
 IsCounted None M = Unit {0}
 
-pub record IsKept (M : Model) (a : List ℤ) (marks : List Bool) (counted : Option Subterms) (values : Fresh) (closed usable : Bool) : Type 0 where
+pub record IsKept (M : Model) (a : List ℤ) (marks : List Bool) (rules : List KeptRule) (counted : Option Subterms) (values : Fresh) (closed usable : Bool) : Type 0 where
   pub formed : IsWellFormed M
   pub few : length M.vars.items < 2 ^ 32
   pub assigned : length a ≡ length M.vars.items
   pub marked : AreMarks M marks
   pub terms : IsCounted counted M
+  pub posted : length (users_posted M M.posted.items) ≡ length rules
   pub closable : closed ≡ true → IsClosable M
-  pub fresh : closed ≡ true → usable ≡ true → fresh_of no_users M a ≡ Ok values
+  pub fresh : closed ≡ true → usable ≡ true → fresh_of (users_of rules) M a ≡ Ok values

@@ -15,3 +15,4 @@ pub mod State
 pub mod Telling
 pub mod Totals
 pub mod Unmarked
+pub mod UserPosting

@@ -8,7 +8,7 @@ use Rattle.solver_models.specs.Ids.{has_definition, is_own}
 use Rattle.solver_models.specs.State.{SolverState}
 use Rattle.model_values.specs.Outcomes.{Outcome}
 use Rattle.model_values.specs.VarOutcomes.{outcome_of_var}
-use Rattle.term_model.specs.Users.{no_users}
+use Rattle.posted_users.specs.KeptRule.{users_of}
 
 -- whether a variable of the solver has a definition
 abbrev pub is_defined : SolverState → VarId → Bool
@@ -31,4 +31,4 @@ domain_refusal s x = if not (is_own s x) then Some WrongSolver else None
 
 -- what a variable comes to
 abbrev pub fresh_value : SolverState → ℕ → Outcome
-fresh_value s i = outcome_of_var no_users s.model s.assignment i
+fresh_value s i = outcome_of_var (users_of s.rules) s.model s.assignment i

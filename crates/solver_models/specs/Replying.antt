@@ -19,11 +19,11 @@ use Rattle.solver_models.specs.State.{SolverState}
 use Rattle.solver_models.specs.Totals.{is_own_total, of_system, whole_of}
 use Rattle.solver_models.specs.declared.totals.SystemId.{SystemId}
 use Rattle.solver_models.specs.declared.totals.TotalId.{TotalId}
-use Rattle.term_model.specs.Users.{no_users}
+use Rattle.posted_users.specs.KeptRule.{users_of}
 
 -- what a system or an objective comes to
 abbrev pub fresh_total : SolverState → TotalId → Result ℤ Failure
-fresh_total s k = value_of no_users s.model s.assignment (whole_of k)
+fresh_total s k = value_of (users_of s.rules) s.model s.assignment (whole_of k)
 
 -- why it can't be asked about these variables
 abbrev pub reply_refusal : SolverState → TotalId → List VarId → Option RunFault
@@ -43,7 +43,7 @@ replied None reply = reply
 
 -- how its value changes where these variables are moved so
 abbrev pub delta_reply : SolverState → TotalId → List VarId → Move → Result ℤ AskStop
-delta_reply s k xs move = replied (reply_refusal s k xs) (delta_of no_users s.model s.assignment (whole_of k) move)
+delta_reply s k xs move = replied (reply_refusal s k xs) (delta_of (users_of s.rules) s.model s.assignment (whole_of k) move)
 
 abbrev pub assign_reply : SolverState → TotalId → VarId → ℤ → Result ℤ AskStop
 assign_reply s k x v = delta_reply s k (x ∷ []) (Assign x.index v)
@@ -53,4 +53,4 @@ swap_reply s k x y = delta_reply s k (x ∷ y ∷ []) (Swap x.index y.index)
 
 -- the violations of a variable in a system
 abbrev pub variable_reply : SolverState → SystemId → VarId → Result ℤ AskStop
-variable_reply s k x = replied (reply_refusal s (of_system k) (x ∷ [])) (variable_violations_of no_users s.model s.assignment k.index x.index)
+variable_reply s k x = replied (reply_refusal s (of_system k) (x ∷ [])) (variable_violations_of (users_of s.rules) s.model s.assignment k.index x.index)

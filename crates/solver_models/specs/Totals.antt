@@ -60,5 +60,6 @@ pub record MakesTotal (old new : SolverState) (side : Side) (place : Place) : Ty
   pub number : new.number ≡ old.number
   pub model : GetsTotal old.model new.model side place
   pub assignment : new.assignment ≡ old.assignment
+  pub rules : new.rules ≡ old.rules
   pub closed : new.closed ≡ old.closed
   pub usable : new.usable ≡ old.usable

@@ -7,3 +7,5 @@
 mod solver;
 #[cfg(test)]
 mod totals;
+#[cfg(test)]
+mod users;

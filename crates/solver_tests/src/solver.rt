@@ -10,6 +10,7 @@ use std::marker::Brand;
 use std::sync::ledger::{Blank, Ledger};
 use std::test::*;
 use term_model::{Op, Term, VarKind};
+use user_constraint::{LocalConstraint, UserConstraint};
 
 const NOWHERE: Place = Place { line: 1, col: 1 };
 
@@ -123,14 +124,18 @@ fn none<T>() -> Result<T, Fail> {
     Err(Fail::from("a call that can't be made"))
 }
 
-fn new_var(solver: &mut Solver, start: i64) -> Result<End, Fail> {
+fn new_var<U: LocalConstraint>(solver: &mut Solver<U>, start: i64) -> Result<End, Fail> {
     if !solver.usable() {
         return none();
     }
     Ok(ended(solver.new_var(-1_000, 1_000, start)))
 }
 
-fn define_by(solver: &mut Solver, x: VarId, term: Term) -> Result<End, Fail> {
+fn define_by<U: LocalConstraint>(
+    solver: &mut Solver<U>,
+    x: VarId,
+    term: Term,
+) -> Result<End, Fail> {
     if !solver.usable() {
         return none();
     }
@@ -140,19 +145,27 @@ fn define_by(solver: &mut Solver, x: VarId, term: Term) -> Result<End, Fail> {
     }
 }
 
-fn define(alloc: Global, solver: &mut Solver, x: VarId, shape: Shape) -> Result<End, Fail> {
+fn define<U: LocalConstraint>(
+    alloc: Global,
+    solver: &mut Solver<U>,
+    x: VarId,
+    shape: Shape,
+) -> Result<End, Fail> {
     let term = term_of(alloc, shape)?;
     define_by(solver, x, term)
 }
 
-fn close(solver: &mut Solver) -> Result<Result<(), SolverFault>, Fail> {
+fn close<U: LocalConstraint>(solver: &mut Solver<U>) -> Result<Result<(), SolverFault>, Fail> {
     if !solver.usable() || !solver.has_defined_sets() {
         return none();
     }
     Ok(solver.close(1))
 }
 
-fn value(solver: &Solver, x: VarId) -> Result<Result<i64, SolverFault>, Fail> {
+fn value<U: LocalConstraint>(
+    solver: &Solver<U>,
+    x: VarId,
+) -> Result<Result<i64, SolverFault>, Fail> {
     if !solver.usable() {
         return none();
     }
@@ -162,9 +175,9 @@ fn value(solver: &Solver, x: VarId) -> Result<Result<i64, SolverFault>, Fail> {
     }
 }
 
-fn commit_by<L: Ledger>(
+fn commit_by<L: Ledger, U: LocalConstraint>(
     blank: Blank,
-    solver: &mut Solver,
+    solver: &mut Solver<U>,
     x: VarId,
     number: i64,
 ) -> Result<Result<Vec<VarChange>, SolverFault>, Fail>
@@ -182,24 +195,24 @@ fn commit_by<L: Ledger>(
     }
 }
 
-fn commit(
-    solver: &mut Solver,
+fn commit<U: LocalConstraint>(
+    solver: &mut Solver<U>,
     x: VarId,
     number: i64,
 ) -> Result<Result<Vec<VarChange>, SolverFault>, Fail> {
-    commit_by::<Brand>(Blank::new(1), solver, x, number)
+    commit_by::<Brand, U>(Blank::new(1), solver, x, number)
 }
 
-fn snapshot(solver: &Solver) -> Result<Result<Solution, SolverFault>, Fail> {
+fn snapshot<U: LocalConstraint>(solver: &Solver<U>) -> Result<Result<Solution, SolverFault>, Fail> {
     if !solver.usable() {
         return none();
     }
     Ok(solver.snapshot())
 }
 
-fn restore_by<L: Ledger>(
+fn restore_by<L: Ledger, U: LocalConstraint>(
     blank: Blank,
-    solver: &mut Solver,
+    solver: &mut Solver<U>,
     solution: &Solution,
 ) -> Result<Result<Vec<VarChange>, SolverFault>, Fail>
     requires name { blank.name ≡ L.name }
@@ -213,11 +226,11 @@ fn restore_by<L: Ledger>(
     Ok(solver.restore(solution, &mut steps))
 }
 
-fn restore(
-    solver: &mut Solver,
+fn restore<U: LocalConstraint>(
+    solver: &mut Solver<U>,
     solution: &Solution,
 ) -> Result<Result<Vec<VarChange>, SolverFault>, Fail> {
-    restore_by::<Brand>(Blank::new(1), solver, solution)
+    restore_by::<Brand, U>(Blank::new(1), solver, solution)
 }
 
 // A solution of the solver with a number.
@@ -254,37 +267,42 @@ enum Step<'a> {
     Usable(bool),
 }
 
-fn names_cycle(solver: &mut Solver, wanted: &[VarId]) -> Result<bool, Fail> {
+fn names_cycle<U: LocalConstraint>(solver: &mut Solver<U>, wanted: &[VarId]) -> Result<bool, Fail> {
     match close(solver)? {
         Err(SolverFault::Cyclic(cycle)) => Ok(cycle.as_slice() == wanted),
         _ => Ok(false),
     }
 }
 
-fn tells(solver: &mut Solver, x: VarId, number: i64, wanted: &[VarChange]) -> Result<bool, Fail> {
+fn tells<U: LocalConstraint>(
+    solver: &mut Solver<U>,
+    x: VarId,
+    number: i64,
+    wanted: &[VarChange],
+) -> Result<bool, Fail> {
     match commit(solver, x, number)? {
         Ok(changes) => Ok(changes.as_slice() == wanted),
         Err(_) => Ok(false),
     }
 }
 
-fn has_value(solver: &Solver, x: VarId, wanted: i64) -> Result<bool, Fail> {
+fn has_value<U: LocalConstraint>(solver: &Solver<U>, x: VarId, wanted: i64) -> Result<bool, Fail> {
     match value(solver, x)? {
         Ok(number) => Ok(number == wanted),
         Err(_) => Ok(false),
     }
 }
 
-fn keeps(solver: &Solver, wanted: &[i64]) -> Result<bool, Fail> {
+fn keeps<U: LocalConstraint>(solver: &Solver<U>, wanted: &[i64]) -> Result<bool, Fail> {
     match snapshot(solver)? {
         Ok(solution) => Ok(solution.solver == 4 && solution.values.as_slice() == wanted),
         Err(_) => Ok(false),
     }
 }
 
-fn restores(
+fn restores<U: LocalConstraint>(
     alloc: Global,
-    solver: &mut Solver,
+    solver: &mut Solver<U>,
     values: &[i64],
     wanted: &[VarChange],
 ) -> Result<bool, Fail> {
@@ -295,9 +313,9 @@ fn restores(
     }
 }
 
-fn stays(
+fn stays<U: LocalConstraint>(
     alloc: Global,
-    solver: &mut Solver,
+    solver: &mut Solver<U>,
     number: u32,
     values: &[i64],
     wanted: End,
@@ -306,7 +324,11 @@ fn stays(
     Ok(ended(restore(solver, &solution)?) == wanted)
 }
 
-fn holds(alloc: Global, solver: &mut Solver, step: Step) -> Result<bool, Fail> {
+fn holds<U: LocalConstraint>(
+    alloc: Global,
+    solver: &mut Solver<U>,
+    step: Step,
+) -> Result<bool, Fail> {
     match step {
         Step::New(start, wanted) => Ok(new_var(solver, start)? == wanted),
         Step::Define(x, shape, wanted) => Ok(define(alloc, solver, x, shape)? == wanted),
@@ -326,7 +348,11 @@ fn holds(alloc: Global, solver: &mut Solver, step: Step) -> Result<bool, Fail> {
     }
 }
 
-fn hold(alloc: Global, solver: &mut Solver, steps: &[Step]) -> Result<(), Fail> {
+fn hold<U: LocalConstraint>(
+    alloc: Global,
+    solver: &mut Solver<U>,
+    steps: &[Step],
+) -> Result<(), Fail> {
     for step in steps {
         if !holds(alloc, solver, *step)? {
             return Err(Fail::from("another answer"));
@@ -335,7 +361,14 @@ fn hold(alloc: Global, solver: &mut Solver, steps: &[Step]) -> Result<(), Fail> 
     Ok(())
 }
 
+// What a new solver answers.
+fn run<U: LocalConstraint>(alloc: Global, steps: &[Step]) -> Result<(), Fail> {
+    hold(alloc, &mut Solver::<U>::new(alloc, 4), steps)
+}
+
 // ---- tests
+type Boxed = Box<dyn UserConstraint>;
+
 const WRONG: End = End::Refused(RunFault::WrongSolver);
 
 const DEFINED: End = End::Refused(RunFault::DefinedVariable);
@@ -379,7 +412,7 @@ const SQUARE: &[Step<'static>] = &[
 // A defined variable follows its term, and each change is told in order of declaration.
 #[test]
 fn square_follows(rt: HostRuntime) -> Result<(), Fail> {
-    hold(rt.alloc(), &mut Solver::new(rt.alloc(), 4), SQUARE)
+    run::<Boxed>(rt.alloc(), SQUARE)
 }
 
 const REFUSALS: &[Step<'static>] = &[
@@ -404,7 +437,7 @@ const REFUSALS: &[Step<'static>] = &[
 // Each call is refused first for its state, then for its ids, then for a definition, then for its size.
 #[test]
 fn refusals_in_order(rt: HostRuntime) -> Result<(), Fail> {
-    hold(rt.alloc(), &mut Solver::new(rt.alloc(), 4), REFUSALS)
+    run::<Boxed>(rt.alloc(), REFUSALS)
 }
 
 const CYCLE: &[Step<'static>] = &[
@@ -419,7 +452,7 @@ const CYCLE: &[Step<'static>] = &[
 // One variable is the other and 1, and the other is the one: the cycle is told, and the solver is as before.
 #[test]
 fn cycle_is_told(rt: HostRuntime) -> Result<(), Fail> {
-    hold(rt.alloc(), &mut Solver::new(rt.alloc(), 4), CYCLE)
+    run::<Boxed>(rt.alloc(), CYCLE)
 }
 
 const FAULT: &[Step<'static>] = &[
@@ -433,7 +466,7 @@ const FAULT: &[Step<'static>] = &[
 // A fault is told with its place, and is the end of the solver.
 #[test]
 fn fault_ends(rt: HostRuntime) -> Result<(), Fail> {
-    hold(rt.alloc(), &mut Solver::new(rt.alloc(), 4), FAULT)
+    run::<Boxed>(rt.alloc(), FAULT)
 }
 
 const OPEN: End = End::Refused(RunFault::NotClosed);
@@ -488,7 +521,7 @@ const SOLUTIONS: &[Step<'static>] = &[
 // first for the solver's state, and then where it is another solver's or has another number of values.
 #[test]
 fn solutions_are_kept_and_restored(rt: HostRuntime) -> Result<(), Fail> {
-    hold(rt.alloc(), &mut Solver::new(rt.alloc(), 4), SOLUTIONS)
+    run::<Boxed>(rt.alloc(), SOLUTIONS)
 }
 
 const FAULT_BEHIND: &[Step<'static>] = &[
@@ -503,7 +536,7 @@ const FAULT_BEHIND: &[Step<'static>] = &[
 // A fault is the end of the solver here, too.
 #[test]
 fn fault_ends_a_restore(rt: HostRuntime) -> Result<(), Fail> {
-    hold(rt.alloc(), &mut Solver::new(rt.alloc(), 4), FAULT_BEHIND)
+    run::<Boxed>(rt.alloc(), FAULT_BEHIND)
 }
 
 const DEEP: &[Step<'static>] = &[
@@ -520,10 +553,10 @@ const DEEP: &[Step<'static>] = &[
 // A chain of 1,001 operands is as deep as a term may be, one more is too deep; what is refused leaves no trace.
 #[test]
 fn deep_terms(rt: HostRuntime) -> Result<(), Fail> {
-    hold(rt.alloc(), &mut Solver::new(rt.alloc(), 4), DEEP)
+    run::<Boxed>(rt.alloc(), DEEP)
 }
 
-fn fill(solver: &mut Solver) -> Result<(), Fail> {
+fn fill<U: LocalConstraint>(solver: &mut Solver<U>) -> Result<(), Fail> {
     for _variable in 0..MAX_VARIABLES {
         if new_var(solver, 0)? != End::Done {
             return none();
@@ -532,13 +565,14 @@ fn fill(solver: &mut Solver) -> Result<(), Fail> {
     Ok(())
 }
 
-fn most(alloc: Global, solver: &mut Solver) -> Result<(), Fail> {
-    fill(solver)?;
-    hold(alloc, solver, &[Step::New(0, TOO_MANY)])
+fn most<U: LocalConstraint>(alloc: Global) -> Result<(), Fail> {
+    let mut solver = Solver::<U>::new(alloc, 4);
+    fill(&mut solver)?;
+    hold(alloc, &mut solver, &[Step::New(0, TOO_MANY)])
 }
 
 // As many variables as there may be, and one more.
 #[test]
 fn most_variables(rt: HostRuntime) -> Result<(), Fail> {
-    most(rt.alloc(), &mut Solver::new(rt.alloc(), 4))
+    most::<Boxed>(rt.alloc())
 }

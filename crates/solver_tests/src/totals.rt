@@ -8,6 +8,7 @@ use std::marker::Brand;
 use std::sync::ledger::{Blank, Ledger};
 use std::test::*;
 use term_model::{Op, Term};
+use user_constraint::{LocalConstraint, UserConstraint};
 
 const SOLVER: u32 = 4;
 
@@ -217,7 +218,12 @@ enum Question {
     SwapValue(ObjectiveId, VarId, VarId),
 }
 
-fn define(alloc: Global, solver: &mut Solver, x: VarId, shape: Shape) -> Result<End, Fail> {
+fn define<U: LocalConstraint>(
+    alloc: Global,
+    solver: &mut Solver<U>,
+    x: VarId,
+    shape: Shape,
+) -> Result<End, Fail> {
     let term = term_of(alloc, shape)?;
     if !solver.usable() {
         return none();
@@ -228,9 +234,9 @@ fn define(alloc: Global, solver: &mut Solver, x: VarId, shape: Shape) -> Result<
     }
 }
 
-fn post(
+fn post<U: LocalConstraint>(
     alloc: Global,
-    solver: &mut Solver,
+    solver: &mut Solver<U>,
     s: SystemId,
     shape: Shape,
     weight: i64,
@@ -245,9 +251,9 @@ fn post(
     }
 }
 
-fn add(
+fn add<U: LocalConstraint>(
     alloc: Global,
-    solver: &mut Solver,
+    solver: &mut Solver<U>,
     f: ObjectiveId,
     shape: Shape,
     weight: i64,
@@ -262,14 +268,18 @@ fn add(
     }
 }
 
-fn close(solver: &mut Solver) -> Result<End, Fail> {
+fn close<U: LocalConstraint>(solver: &mut Solver<U>) -> Result<End, Fail> {
     if !solver.usable() || !solver.has_defined_sets() {
         return none();
     }
     Ok(done(solver.close(1)))
 }
 
-fn make(alloc: Global, solver: &mut Solver, by: Change) -> Result<End, Fail> {
+fn make<U: LocalConstraint>(
+    alloc: Global,
+    solver: &mut Solver<U>,
+    by: Change,
+) -> Result<End, Fail> {
     if !solver.usable() {
         return none();
     }
@@ -284,7 +294,11 @@ fn make(alloc: Global, solver: &mut Solver, by: Change) -> Result<End, Fail> {
     }
 }
 
-fn ask_by<L: Ledger>(blank: Blank, solver: &Solver, question: Question) -> Result<End, Fail>
+fn ask_by<L: Ledger, U: LocalConstraint>(
+    blank: Blank,
+    solver: &Solver<U>,
+    question: Question,
+) -> Result<End, Fail>
     requires name { blank.name ≡ L.name }
     requires parts { blank.parts ≡ L.parts }
     requires some { 0 < L.parts }
@@ -311,13 +325,13 @@ fn ask_by<L: Ledger>(blank: Blank, solver: &Solver, question: Question) -> Resul
     }
 }
 
-fn ask(solver: &Solver, question: Question) -> Result<End, Fail> {
-    ask_by::<Brand>(Blank::new(1), solver, question)
+fn ask<U: LocalConstraint>(solver: &Solver<U>, question: Question) -> Result<End, Fail> {
+    ask_by::<Brand, U>(Blank::new(1), solver, question)
 }
 
-fn hold(
+fn hold<U: LocalConstraint>(
     alloc: Global,
-    solver: &mut Solver,
+    solver: &mut Solver<U>,
     changes: &[(Change, End)],
     questions: &[(Question, End)],
 ) -> Result<(), Fail> {
@@ -342,9 +356,9 @@ struct Row<'a> {
     questions: &'a [(Question, End)],
 }
 
-fn hold_all(alloc: Global, rows: &[Row]) -> Result<(), Fail> {
+fn hold_all<U: LocalConstraint>(alloc: Global, rows: &[Row]) -> Result<(), Fail> {
     for row in rows {
-        let mut solver = Solver::new(alloc, SOLVER);
+        let mut solver = Solver::<U>::new(alloc, SOLVER);
         hold(alloc, &mut solver, row.changes, row.questions)?;
     }
     Ok(())
@@ -443,7 +457,7 @@ const VALUES: &[Row<'static>] = &[
 // Values, deltas and the violations of a variable.
 #[test]
 fn values_and_deltas(rt: HostRuntime) -> Result<(), Fail> {
-    hold_all(rt.alloc(), VALUES)
+    hold_all::<Box<dyn UserConstraint>>(rt.alloc(), VALUES)
 }
 
 const FAULTS: &[Row<'static>] = &[
@@ -492,7 +506,7 @@ const FAULTS: &[Row<'static>] = &[
 // A delta looks through definitions, and its fault is that of the asked part, numbered as in the whole model.
 #[test]
 fn faults_of_the_asked_part(rt: HostRuntime) -> Result<(), Fail> {
-    hold_all(rt.alloc(), FAULTS)
+    hold_all::<Box<dyn UserConstraint>>(rt.alloc(), FAULTS)
 }
 
 const REFUSALS: &[Row<'static>] = &[
@@ -564,5 +578,5 @@ const REFUSALS: &[Row<'static>] = &[
 // Each call is refused first for its state, then for its ids, then for its weight; what is refused leaves no trace.
 #[test]
 fn refusals_in_order(rt: HostRuntime) -> Result<(), Fail> {
-    hold_all(rt.alloc(), REFUSALS)
+    hold_all::<Box<dyn UserConstraint>>(rt.alloc(), REFUSALS)
 }

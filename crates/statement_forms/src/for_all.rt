@@ -13,14 +13,14 @@ use cbl_base::Place;
 use checked_tree::{Generator, Task, Typed};
 use declaration_forms::evaluating::expressions::{condition, value_of};
 use declaration_forms::evaluating::tuples::next_tuple;
-use run_state::{Out, State};
+use run_state::{Outside, State};
 use run_steps::code::Flow;
 use run_steps::inside::Within;
 use run_steps::tuples::{Tuples, pending_of};
 use run_values::Stop;
 
 /// A `forall`: the body for each tuple, to the first that returns.
-pub(crate) fn execute_for_all<O: Out, W: Within<O>>(
+pub(crate) fn execute_for_all<O: Outside, W: Within<O>>(
     s: &mut State,
     out: &mut O,
     inside: &W,
@@ -30,7 +30,7 @@ pub(crate) fn execute_for_all<O: Out, W: Within<O>>(
     body: &Task,
 ) -> Result<Flow, Stop>
     requires ready { W.is_ready inside.now }
-    ensures did { Does flow_seen result (state_seen s.new (O.taken out.new)) (for_all_form (level (W.code inside.now) (W.depth inside.now)) at (map shape_of_generator generators.now) (option_map seen condition.now) (work_of body.now) (state_seen s.old (O.taken out.old))) }
+    ensures did { Does flow_seen result (state_seen s.new (O.told out.new)) (for_all_form (level (W.code inside.now) (W.depth inside.now)) at (map shape_of_generator generators.now) (option_map seen condition.now) (work_of body.now) (state_seen s.old (O.told out.old))) }
 {
     match generators.first() {
         None => Ok(Flow::Next),
@@ -39,7 +39,7 @@ pub(crate) fn execute_for_all<O: Out, W: Within<O>>(
 }
 
 /// The same, where there is a first generator.
-fn visit_all<O: Out, W: Within<O>>(
+fn visit_all<O: Outside, W: Within<O>>(
     s: &mut State,
     out: &mut O,
     inside: &W,
@@ -51,7 +51,7 @@ fn visit_all<O: Out, W: Within<O>>(
 ) -> Result<Flow, Stop>
     requires ready { W.is_ready inside.now }
     requires known { Some first.now ≡ slice_get generators.now 0 }
-    ensures did { Does flow_seen result (state_seen s.new (O.taken out.new)) (for_all_form (level (W.code inside.now) (W.depth inside.now)) at (map shape_of_generator generators.now) (option_map seen condition.now) (work_of body.now) (state_seen s.old (O.taken out.old))) }
+    ensures did { Does flow_seen result (state_seen s.new (O.told out.new)) (for_all_form (level (W.code inside.now) (W.depth inside.now)) at (map shape_of_generator generators.now) (option_map seen condition.now) (work_of body.now) (state_seen s.old (O.told out.old))) }
 {
     let domain = value_of(s, out, inside, &first.domain)?;
     let mut tuples = Tuples {
@@ -75,7 +75,7 @@ fn visit_all<O: Out, W: Within<O>>(
 
 /// What is done with a tuple whose names have their values.
 #[tactic(auto, unfolding(comet_meaning::specs::Loops::visited))]
-fn visit<O: Out, W: Within<O>>(
+fn visit<O: Outside, W: Within<O>>(
     s: &mut State,
     out: &mut O,
     inside: &W,
@@ -83,7 +83,7 @@ fn visit<O: Out, W: Within<O>>(
     body: &Task,
 ) -> Result<Flow, Stop>
     requires ready { W.is_ready inside.now }
-    ensures did { (value : ℤ) (flow : levels.Flow) → Does flow_seen result (state_seen s.new (O.taken out.new)) (visited (level (W.code inside.now) (W.depth inside.now)) (optional whole (option_map seen test.now)) (work_of body.now) value flow (state_seen s.old (O.taken out.old))) }
+    ensures did { (value : ℤ) (flow : levels.Flow) → Does flow_seen result (state_seen s.new (O.told out.new)) (visited (level (W.code inside.now) (W.depth inside.now)) (optional whole (option_map seen test.now)) (work_of body.now) value flow (state_seen s.old (O.told out.old))) }
 {
     let holds = condition(s, out, inside, test.as_ref())?;
     if holds {

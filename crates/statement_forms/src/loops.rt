@@ -16,14 +16,14 @@ use crate::statements::perform;
 use cbl_base::Place;
 use checked_tree::{Action, Counter, Task, Typed};
 use declaration_forms::evaluating::expressions::{condition, number_of};
-use run_state::{Out, State};
+use run_state::{Outside, State};
 use run_steps::code::Flow;
 use run_steps::effects::put_number;
 use run_steps::inside::{Around, Within};
 use run_values::Stop;
 
 #[tactic(auto, unfolding(comet_meaning::specs::Loops::while_form))]
-pub(crate) fn execute_while<O: Out, W: Around<O>>(
+pub(crate) fn execute_while<O: Outside, W: Around<O>>(
     s: &mut State,
     out: &mut O,
     inside: &W,
@@ -34,14 +34,14 @@ pub(crate) fn execute_while<O: Out, W: Around<O>>(
     requires ready { W.is_ready inside.now }
     requires defines { W.can_define inside.now }
     requires locates { W.can_locate inside.now }
-    ensures did { Does flow_seen result (state_seen s.new (O.taken out.new)) (while_form (level (W.code inside.now) (W.depth inside.now)) at (seen test.now) (work_of body.now) (state_seen s.old (O.taken out.old))) }
+    ensures did { Does flow_seen result (state_seen s.new (O.told out.new)) (while_form (level (W.code inside.now) (W.depth inside.now)) at (seen test.now) (work_of body.now) (state_seen s.old (O.told out.old))) }
 {
     repeat(s, out, inside, at, Some(test), None, body)
 }
 
 /// A `for`, whose name gets its value before the first turn.
 #[tactic(auto, unfolding(comet_meaning::specs::Loops::for_form))]
-pub(crate) fn execute_for<O: Out, W: Around<O>>(
+pub(crate) fn execute_for<O: Outside, W: Around<O>>(
     s: &mut State,
     out: &mut O,
     inside: &W,
@@ -54,7 +54,7 @@ pub(crate) fn execute_for<O: Out, W: Around<O>>(
     requires ready { W.is_ready inside.now }
     requires defines { W.can_define inside.now }
     requires locates { W.can_locate inside.now }
-    ensures did { Does flow_seen result (state_seen s.new (O.taken out.new)) (for_form (level (W.code inside.now) (W.depth inside.now)) at (option_map counter_of counter.now) (option_map seen test.now) (step_of (level (W.code inside.now) (W.depth inside.now)) at (option_map deed_of step.now)) (work_of body.now) (state_seen s.old (O.taken out.old))) }
+    ensures did { Does flow_seen result (state_seen s.new (O.told out.new)) (for_form (level (W.code inside.now) (W.depth inside.now)) at (option_map counter_of counter.now) (option_map seen test.now) (step_of (level (W.code inside.now) (W.depth inside.now)) at (option_map deed_of step.now)) (work_of body.now) (state_seen s.old (O.told out.old))) }
 {
     start_counter(s, out, inside, counter)?;
     repeat(s, out, inside, at, test.as_ref(), step.as_ref(), body)
@@ -62,14 +62,14 @@ pub(crate) fn execute_for<O: Out, W: Around<O>>(
 
 /// The first value of the name that a `for` declares.
 #[tactic(auto, unfolding(comet_meaning::specs::Loops::counter_form))]
-fn start_counter<O: Out, W: Within<O>>(
+fn start_counter<O: Outside, W: Within<O>>(
     s: &mut State,
     out: &mut O,
     inside: &W,
     counter: &Option<Counter>,
 ) -> Result<(), Stop>
     requires ready { W.is_ready inside.now }
-    ensures did { Does (λ _. tt) result (state_seen s.new (O.taken out.new)) (counter_form (level (W.code inside.now) (W.depth inside.now)) (option_map counter_of counter.now) (state_seen s.old (O.taken out.old))) }
+    ensures did { Does (λ _. tt) result (state_seen s.new (O.told out.new)) (counter_form (level (W.code inside.now) (W.depth inside.now)) (option_map counter_of counter.now) (state_seen s.old (O.told out.old))) }
 {
     match counter {
         None => Ok(()),
@@ -81,7 +81,7 @@ fn start_counter<O: Out, W: Within<O>>(
 }
 
 /// Turns of a loop, to the one that ends it. Each spends fuel, so they end.
-fn repeat<O: Out, W: Around<O>>(
+fn repeat<O: Outside, W: Around<O>>(
     s: &mut State,
     out: &mut O,
     inside: &W,
@@ -93,7 +93,7 @@ fn repeat<O: Out, W: Around<O>>(
     requires ready { W.is_ready inside.now }
     requires defines { W.can_define inside.now }
     requires locates { W.can_locate inside.now }
-    ensures did { Does flow_seen result (state_seen s.new (O.taken out.new)) (repeated at (turn_form (level (W.code inside.now) (W.depth inside.now)) at (optional (λ e. part e.now) test.entry) (step_of (level (W.code inside.now) (W.depth inside.now)) at (option_map deed_of (option_copied step.entry))) (work_of body.now)) (state_seen s.old (O.taken out.old))) }
+    ensures did { Does flow_seen result (state_seen s.new (O.told out.new)) (repeated at (turn_form (level (W.code inside.now) (W.depth inside.now)) at (optional (λ e. part e.now) test.entry) (step_of (level (W.code inside.now) (W.depth inside.now)) at (option_map deed_of (option_copied step.entry))) (work_of body.now)) (state_seen s.old (O.told out.old))) }
 {
     'turns: loop {
         let end = turn(s, out, inside, at, test, step, body)?;
@@ -106,7 +106,7 @@ fn repeat<O: Out, W: Around<O>>(
 
 /// One turn of a loop: the flow in which the loop ends, if it is the last.
 #[tactic(auto, unfolding(comet_meaning::specs::Loops::turn_form))]
-fn turn<O: Out, W: Around<O>>(
+fn turn<O: Outside, W: Around<O>>(
     s: &mut State,
     out: &mut O,
     inside: &W,
@@ -118,7 +118,7 @@ fn turn<O: Out, W: Around<O>>(
     requires ready { W.is_ready inside.now }
     requires defines { W.can_define inside.now }
     requires locates { W.can_locate inside.now }
-    ensures did { Does (option_map flow_seen) result (state_seen s.new (O.taken out.new)) (turn_form (level (W.code inside.now) (W.depth inside.now)) at (optional (λ e. part e.now) test.entry) (step_of (level (W.code inside.now) (W.depth inside.now)) at (option_map deed_of (option_copied step.entry))) (work_of body.now) (state_seen s.old (O.taken out.old))) }
+    ensures did { Does (option_map flow_seen) result (state_seen s.new (O.told out.new)) (turn_form (level (W.code inside.now) (W.depth inside.now)) at (optional (λ e. part e.now) test.entry) (step_of (level (W.code inside.now) (W.depth inside.now)) at (option_map deed_of (option_copied step.entry))) (work_of body.now) (state_seen s.old (O.told out.old))) }
 {
     s.charge(1, at)?;
     let test = condition(s, out, inside, test)?;
@@ -131,7 +131,7 @@ fn turn<O: Out, W: Around<O>>(
 }
 
 /// What is done behind the body of a turn, unless it returned.
-fn end_turn<O: Out, W: Around<O>>(
+fn end_turn<O: Outside, W: Around<O>>(
     s: &mut State,
     out: &mut O,
     inside: &W,
@@ -142,7 +142,7 @@ fn end_turn<O: Out, W: Around<O>>(
     requires ready { W.is_ready inside.now }
     requires defines { W.can_define inside.now }
     requires locates { W.can_locate inside.now }
-    ensures did { Does (option_map flow_seen) result (state_seen s.new (O.taken out.new)) (meaning.behind_body (step_of (level (W.code inside.now) (W.depth inside.now)) at (option_map deed_of (option_copied step.entry))) (flow_seen flow) (state_seen s.old (O.taken out.old))) }
+    ensures did { Does (option_map flow_seen) result (state_seen s.new (O.told out.new)) (meaning.behind_body (step_of (level (W.code inside.now) (W.depth inside.now)) at (option_map deed_of (option_copied step.entry))) (flow_seen flow) (state_seen s.old (O.told out.old))) }
 {
     match flow {
         Flow::Next => {
@@ -154,7 +154,7 @@ fn end_turn<O: Out, W: Around<O>>(
 }
 
 /// The step of a `for`, which stands at the `for`.
-fn perform_step<O: Out, W: Around<O>>(
+fn perform_step<O: Outside, W: Around<O>>(
     s: &mut State,
     out: &mut O,
     inside: &W,
@@ -164,7 +164,7 @@ fn perform_step<O: Out, W: Around<O>>(
     requires ready { W.is_ready inside.now }
     requires defines { W.can_define inside.now }
     requires locates { W.can_locate inside.now }
-    ensures did { Does (λ _. tt) result (state_seen s.new (O.taken out.new)) (step_of (level (W.code inside.now) (W.depth inside.now)) at (option_map deed_of (option_copied step.entry)) (state_seen s.old (O.taken out.old))) }
+    ensures did { Does (λ _. tt) result (state_seen s.new (O.told out.new)) (step_of (level (W.code inside.now) (W.depth inside.now)) at (option_map deed_of (option_copied step.entry)) (state_seen s.old (O.told out.old))) }
 {
     match step {
         None => Ok(()),

@@ -9,20 +9,20 @@ ghost use Rattle.run_state.specs.Views.{state_seen};
 use checked_tree::Printed;
 use declaration_forms::evaluating::expressions::value_of;
 use run_state::out::print;
-use run_state::{Out, State};
+use run_state::{Outside, State};
 use run_steps::effects::show_part;
 use run_steps::inside::Within;
 use run_values::Stop;
 
 /// Evaluates and prints items, each before the next one.
-pub(crate) fn print_all<O: Out, W: Within<O>>(
+pub(crate) fn print_all<O: Outside, W: Within<O>>(
     s: &mut State,
     out: &mut O,
     inside: &W,
     items: &[Printed],
 ) -> Result<(), Stop>
     requires ready { W.is_ready inside.now }
-    ensures did { Does (λ _. tt) result (state_seen s.new (O.taken out.new)) (print_form (level (W.code inside.now) (W.depth inside.now)) (map printed_of items.now) (state_seen s.old (O.taken out.old))) }
+    ensures did { Does (λ _. tt) result (state_seen s.new (O.told out.new)) (print_form (level (W.code inside.now) (W.depth inside.now)) (map printed_of items.now) (state_seen s.old (O.told out.old))) }
 {
     for item in items {
         show(s, out, inside, item)?;
@@ -31,14 +31,14 @@ pub(crate) fn print_all<O: Out, W: Within<O>>(
 }
 
 #[tactic(auto, unfolding(comet_meaning::specs::Printing::shown_form))]
-fn show<O: Out, W: Within<O>>(
+fn show<O: Outside, W: Within<O>>(
     s: &mut State,
     out: &mut O,
     inside: &W,
     item: &Printed,
 ) -> Result<(), Stop>
     requires ready { W.is_ready inside.now }
-    ensures did { Does (λ _. tt) result (state_seen s.new (O.taken out.new)) (shown_form (level (W.code inside.now) (W.depth inside.now)) (printed_of item.now) (state_seen s.old (O.taken out.old))) }
+    ensures did { Does (λ _. tt) result (state_seen s.new (O.told out.new)) (shown_form (level (W.code inside.now) (W.depth inside.now)) (printed_of item.now) (state_seen s.old (O.told out.old))) }
 {
     match item {
         Printed::Value(e) => {

@@ -22,7 +22,7 @@ use declaration_forms::array_declarations::declare_array;
 use declaration_forms::declarations::{declare, declare_variable};
 use declaration_forms::evaluating::expressions::{truth_of, value_of};
 use declaration_forms::objects::declare_object;
-use run_state::{Out, State};
+use run_state::{Outside, State};
 use run_steps::code::Flow;
 use run_steps::effects::{as_done, as_next, as_returned};
 use run_steps::inside::{Around, Within};
@@ -36,7 +36,7 @@ use search_forms::{
 const MOST_DEPTH: u32 = 1000;
 
 /// A statement at a place, by its form. What isn't there yet does nothing.
-pub fn execute_act<O: Out, W: Around<O>>(
+pub fn execute_act<O: Outside, W: Around<O>>(
     s: &mut State,
     out: &mut O,
     inside: &W,
@@ -46,7 +46,7 @@ pub fn execute_act<O: Out, W: Around<O>>(
     requires ready { W.is_ready inside.now }
     requires defines { W.can_define inside.now }
     requires locates { W.can_locate inside.now }
-    ensures did { Does flow_seen result (state_seen s.new (O.taken out.new)) (meaning_of_form (level (W.code inside.now) (W.depth inside.now)) at (work_of_act act.now) (state_seen s.old (O.taken out.old))) }
+    ensures did { Does flow_seen result (state_seen s.new (O.told out.new)) (meaning_of_form (level (W.code inside.now) (W.depth inside.now)) at (work_of_act act.now) (state_seen s.old (O.told out.old))) }
 {
     match act {
         Act::Action(action) => execute_action(s, out, inside, at, action),
@@ -99,14 +99,14 @@ pub fn execute_act<O: Out, W: Around<O>>(
 }
 
 /// Statements in order, to the first that returns.
-pub fn execute_all<O: Out, W: Within<O>>(
+pub fn execute_all<O: Outside, W: Within<O>>(
     s: &mut State,
     out: &mut O,
     inside: &W,
     tasks: &[Task],
 ) -> Result<Flow, Stop>
     requires ready { W.is_ready inside.now }
-    ensures did { Does flow_seen result (state_seen s.new (O.taken out.new)) (tasks_form (level (W.code inside.now) (W.depth inside.now)) (map work_of tasks.now) (state_seen s.old (O.taken out.old))) }
+    ensures did { Does flow_seen result (state_seen s.new (O.told out.new)) (tasks_form (level (W.code inside.now) (W.depth inside.now)) (map work_of tasks.now) (state_seen s.old (O.told out.old))) }
 {
     for task in tasks {
         let flow = inside.execute(s, out, task)?;
@@ -119,7 +119,7 @@ pub fn execute_all<O: Out, W: Within<O>>(
 }
 
 #[tactic(auto, unfolding(comet_meaning::specs::Loops::if_form))]
-fn execute_if<O: Out, W: Within<O>>(
+fn execute_if<O: Outside, W: Within<O>>(
     s: &mut State,
     out: &mut O,
     inside: &W,
@@ -127,7 +127,7 @@ fn execute_if<O: Out, W: Within<O>>(
     then: &Task,
 ) -> Result<Flow, Stop>
     requires ready { W.is_ready inside.now }
-    ensures did { Does flow_seen result (state_seen s.new (O.taken out.new)) (if_form (level (W.code inside.now) (W.depth inside.now)) (seen test.now) (work_of «then».now) (state_seen s.old (O.taken out.old))) }
+    ensures did { Does flow_seen result (state_seen s.new (O.told out.new)) (if_form (level (W.code inside.now) (W.depth inside.now)) (seen test.now) (work_of «then».now) (state_seen s.old (O.told out.old))) }
 {
     let test = truth_of(s, out, inside, test)?;
     if test {
@@ -138,7 +138,7 @@ fn execute_if<O: Out, W: Within<O>>(
 }
 
 #[tactic(auto, unfolding(comet_meaning::specs::Loops::if_else_form))]
-fn execute_if_else<O: Out, W: Within<O>>(
+fn execute_if_else<O: Outside, W: Within<O>>(
     s: &mut State,
     out: &mut O,
     inside: &W,
@@ -147,7 +147,7 @@ fn execute_if_else<O: Out, W: Within<O>>(
     otherwise: &Task,
 ) -> Result<Flow, Stop>
     requires ready { W.is_ready inside.now }
-    ensures did { Does flow_seen result (state_seen s.new (O.taken out.new)) (if_else_form (level (W.code inside.now) (W.depth inside.now)) (seen test.now) (work_of «then».now) (work_of otherwise.now) (state_seen s.old (O.taken out.old))) }
+    ensures did { Does flow_seen result (state_seen s.new (O.told out.new)) (if_else_form (level (W.code inside.now) (W.depth inside.now)) (seen test.now) (work_of «then».now) (work_of otherwise.now) (state_seen s.old (O.told out.old))) }
 {
     let test = truth_of(s, out, inside, test)?;
     if test {
@@ -158,7 +158,7 @@ fn execute_if_else<O: Out, W: Within<O>>(
 }
 
 /// A statement at a place that holds no statement.
-pub fn execute_action<O: Out, W: Around<O>>(
+pub fn execute_action<O: Outside, W: Around<O>>(
     s: &mut State,
     out: &mut O,
     inside: &W,
@@ -168,7 +168,7 @@ pub fn execute_action<O: Out, W: Around<O>>(
     requires ready { W.is_ready inside.now }
     requires defines { W.can_define inside.now }
     requires locates { W.can_locate inside.now }
-    ensures did { Does flow_seen result (state_seen s.new (O.taken out.new)) (action_form (level (W.code inside.now) (W.depth inside.now)) at (deed_of action.now) (state_seen s.old (O.taken out.old))) }
+    ensures did { Does flow_seen result (state_seen s.new (O.told out.new)) (action_form (level (W.code inside.now) (W.depth inside.now)) at (deed_of action.now) (state_seen s.old (O.told out.old))) }
 {
     match returned(action) {
         Some(value) => execute_return(s, out, inside, value),
@@ -177,14 +177,14 @@ pub fn execute_action<O: Out, W: Around<O>>(
 }
 
 #[tactic(auto, unfolding(comet_meaning::specs::Statements::return_form))]
-fn execute_return<O: Out, W: Within<O>>(
+fn execute_return<O: Outside, W: Within<O>>(
     s: &mut State,
     out: &mut O,
     inside: &W,
     value: &Option<Typed>,
 ) -> Result<Flow, Stop>
     requires ready { W.is_ready inside.now }
-    ensures did { Does flow_seen result (state_seen s.new (O.taken out.new)) (return_form (level (W.code inside.now) (W.depth inside.now)) (option_map seen value.now) (state_seen s.old (O.taken out.old))) }
+    ensures did { Does flow_seen result (state_seen s.new (O.told out.new)) (return_form (level (W.code inside.now) (W.depth inside.now)) (option_map seen value.now) (state_seen s.old (O.told out.old))) }
 {
     match value {
         None => Ok(Flow::Returned(None)),
@@ -194,7 +194,7 @@ fn execute_return<O: Out, W: Within<O>>(
 
 /// What a statement at a place does that holds no statement, and doesn't return. What isn't there yet does nothing.
 #[tactic(auto, unfolding(comet_meaning::specs::Statements::deed_form, checked_tree::specs::Actions::deed_of))]
-pub(crate) fn perform<O: Out, W: Around<O>>(
+pub(crate) fn perform<O: Outside, W: Around<O>>(
     s: &mut State,
     out: &mut O,
     inside: &W,
@@ -204,7 +204,7 @@ pub(crate) fn perform<O: Out, W: Around<O>>(
     requires ready { W.is_ready inside.now }
     requires defines { W.can_define inside.now }
     requires locates { W.can_locate inside.now }
-    ensures did { Does (λ _. tt) result (state_seen s.new (O.taken out.new)) (deed_form (level (W.code inside.now) (W.depth inside.now)) at (deed_of action.now) (state_seen s.old (O.taken out.old))) }
+    ensures did { Does (λ _. tt) result (state_seen s.new (O.told out.new)) (deed_form (level (W.code inside.now) (W.depth inside.now)) at (deed_of action.now) (state_seen s.old (O.told out.old))) }
 {
     match action {
         Action::Empty => Ok(()),

@@ -12,7 +12,7 @@ ghost use Rattle.run_state.specs.Views.{state_seen};
 use cbl_base::Place;
 use checked_tree::{Form, Kind, Typed};
 use declaration_forms::evaluating::expressions::{number_of, value_of};
-use run_state::{Out, State, Target};
+use run_state::{Outside, State, Target};
 use run_steps::inside::{Around, Within};
 use run_steps::operands::{target_in_array, target_in_grid};
 use run_steps::plain::plain_target;
@@ -21,7 +21,7 @@ use run_values::Stop;
 /// What an expression of this kind at this place stands for, by its form.
 #[tactic(auto, unfolding(checked_tree::specs::Shape::shape_of, comet_meaning::specs::Writes::target_of_form))]
 pub fn target_of_form<
-    O: Out,
+    O: Outside,
     W: Within<O>,
     L: Fn(&mut State, &mut O, &Typed) -> Result<Target, Stop>,
 >(
@@ -35,8 +35,8 @@ pub fn target_of_form<
 ) -> Result<Target, Stop>
     requires ready { W.is_ready inside.now }
     requires located { L.IsAlwaysCallable locate.now }
-    requires locates { Locates O.taken (L.post locate.now) (W.code inside.now) (W.depth inside.now) }
-    ensures did { Does target_seen result (state_seen s.new (O.taken out.new)) (writes.target_of_form (level (W.code inside.now) (W.depth inside.now)) at kind (shape_of form.now) (state_seen s.old (O.taken out.old))) }
+    requires locates { Locates O.told (L.post locate.now) (W.code inside.now) (W.depth inside.now) }
+    ensures did { Does target_seen result (state_seen s.new (O.told out.new)) (writes.target_of_form (level (W.code inside.now) (W.depth inside.now)) at kind (shape_of form.now) (state_seen s.old (O.told out.old))) }
 {
     match form {
         Form::Name(slot) => s.name_target(kind, *slot),
@@ -51,7 +51,7 @@ pub fn target_of_form<
 
 /// `a[i]`, and `OutOfRange` outside the array.
 #[tactic(auto, unfolding(comet_meaning::specs::Writes::index_target))]
-fn target_of_index<O: Out, W: Within<O>>(
+fn target_of_index<O: Outside, W: Within<O>>(
     s: &mut State,
     out: &mut O,
     inside: &W,
@@ -60,7 +60,7 @@ fn target_of_index<O: Out, W: Within<O>>(
     index: &Typed,
 ) -> Result<Target, Stop>
     requires ready { W.is_ready inside.now }
-    ensures did { Does target_seen result (state_seen s.new (O.taken out.new)) (writes.index_target (level (W.code inside.now) (W.depth inside.now)) at (part array.now) (part index.now) (state_seen s.old (O.taken out.old))) }
+    ensures did { Does target_seen result (state_seen s.new (O.told out.new)) (writes.index_target (level (W.code inside.now) (W.depth inside.now)) at (part array.now) (part index.now) (state_seen s.old (O.told out.old))) }
 {
     let array = value_of(s, out, inside, array)?;
     let index = number_of(s, out, inside, index);
@@ -69,7 +69,7 @@ fn target_of_index<O: Out, W: Within<O>>(
 
 /// `a[i,j]`, and `OutOfRange` outside the array.
 #[tactic(auto, unfolding(comet_meaning::specs::Writes::cell_target))]
-fn target_of_cell<O: Out, W: Within<O>>(
+fn target_of_cell<O: Outside, W: Within<O>>(
     s: &mut State,
     out: &mut O,
     inside: &W,
@@ -79,7 +79,7 @@ fn target_of_cell<O: Out, W: Within<O>>(
     column: &Typed,
 ) -> Result<Target, Stop>
     requires ready { W.is_ready inside.now }
-    ensures did { Does target_seen result (state_seen s.new (O.taken out.new)) (writes.cell_target (level (W.code inside.now) (W.depth inside.now)) at (part grid.now) (part row.now) (part column.now) (state_seen s.old (O.taken out.old))) }
+    ensures did { Does target_seen result (state_seen s.new (O.told out.new)) (writes.cell_target (level (W.code inside.now) (W.depth inside.now)) at (part grid.now) (part row.now) (part column.now) (state_seen s.old (O.told out.old))) }
 {
     let grid = value_of(s, out, inside, grid)?;
     let row = number_of(s, out, inside, row)?;
@@ -88,14 +88,14 @@ fn target_of_cell<O: Out, W: Within<O>>(
 }
 
 /// What an expression stands for where it is written: a name that holds a number or a truth value for its own cell.
-pub fn target_of<O: Out, W: Around<O>>(
+pub fn target_of<O: Outside, W: Around<O>>(
     s: &mut State,
     out: &mut O,
     inside: &W,
     e: &Typed,
 ) -> Result<Target, Stop>
     requires locates { W.can_locate inside.now }
-    ensures did { Does target_seen result (state_seen s.new (O.taken out.new)) ((level (W.code inside.now) (W.depth inside.now)).target (part e.now) (state_seen s.old (O.taken out.old))) }
+    ensures did { Does target_seen result (state_seen s.new (O.told out.new)) ((level (W.code inside.now) (W.depth inside.now)).target (part e.now) (state_seen s.old (O.told out.old))) }
 {
     match plain_target(inside.room(), e) {
         Some(target) => Ok(target),

@@ -14,14 +14,14 @@ use cbl_base::Place;
 use checked_tree::{Slot, Task};
 use event_forms::behind_block;
 use run_objects::open_with;
-use run_state::{Out, State};
+use run_state::{Outside, State};
 use run_steps::blocks::commit_part;
 use run_steps::code::Flow;
 use run_steps::inside::Within;
 use run_values::{Stop, Value};
 
 /// A `with` on the solver that a name has. `NotClosed` at this place exactly where the solver is open.
-pub(crate) fn execute_together<O: Out, W: Within<O>>(
+pub(crate) fn execute_together<O: Outside, W: Within<O>>(
     s: &mut State,
     out: &mut O,
     inside: &W,
@@ -30,15 +30,15 @@ pub(crate) fn execute_together<O: Out, W: Within<O>>(
     body: &Task,
 ) -> Result<Flow, Stop>
     requires ready { W.is_ready inside.now }
-    ensures did { Does flow_seen result (state_seen s.new (O.taken out.new)) (together_form (level (W.code inside.now) (W.depth inside.now)) at slot (work_of body.now) (state_seen s.old (O.taken out.old))) }
+    ensures did { Does flow_seen result (state_seen s.new (O.told out.new)) (together_form (level (W.code inside.now) (W.depth inside.now)) at slot (work_of body.now) (state_seen s.old (O.told out.old))) }
 {
     let solver = s.look(slot)?;
-    let outermost = open_with(s, at, &solver)?;
+    let outermost = open_with(out, at, &solver)?;
     execute_inside(s, out, inside, at, &solver, outermost, body)
 }
 
 /// The body, and its end where it is that of the outermost `with` on its solver.
-fn execute_inside<O: Out, W: Within<O>>(
+fn execute_inside<O: Outside, W: Within<O>>(
     s: &mut State,
     out: &mut O,
     inside: &W,
@@ -48,11 +48,11 @@ fn execute_inside<O: Out, W: Within<O>>(
     body: &Task,
 ) -> Result<Flow, Stop>
     requires ready { W.is_ready inside.now }
-    ensures did { Does flow_seen result (state_seen s.new (O.taken out.new)) (block (level (W.code inside.now) (W.depth inside.now)) at (solver_of (value_seen solver.now)) (work_of body.now) outermost (state_seen s.old (O.taken out.old))) }
+    ensures did { Does flow_seen result (state_seen s.new (O.told out.new)) (block (level (W.code inside.now) (W.depth inside.now)) at (solver_of (value_seen solver.now)) (work_of body.now) outermost (state_seen s.old (O.told out.old))) }
 {
     let flow = inside.execute(s, out, body);
     if outermost {
-        let committed = commit_part(s, solver, flow);
+        let committed = commit_part(s, out, solver, flow);
         behind_block(s, out, inside, at, committed)
     } else {
         flow

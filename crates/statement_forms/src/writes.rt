@@ -20,7 +20,7 @@ use comet_syntax::tree::{Step, WriteOperator};
 use declaration_forms::evaluating::expressions::{number_of, other_value_of, value_of};
 use declaration_forms::evaluating::parts::single_term;
 use event_forms::behind_commit;
-use run_state::{Out, State, Target};
+use run_state::{Outside, State, Target};
 use run_steps::effects::{add_part, assign_part, define_part, step_part, subtract_part, swap_part};
 use run_steps::inside::{Around, Within};
 use run_steps::plain::{number_itself, plain_slot};
@@ -28,7 +28,7 @@ use run_values::{Stop, Value};
 
 /// `target = value` and its like, at a place.
 #[tactic(auto, unfolding(comet_meaning::specs::Writes::write_form))]
-pub(crate) fn write_value<O: Out, W: Around<O>>(
+pub(crate) fn write_value<O: Outside, W: Around<O>>(
     s: &mut State,
     out: &mut O,
     inside: &W,
@@ -40,7 +40,7 @@ pub(crate) fn write_value<O: Out, W: Around<O>>(
     requires ready { W.is_ready inside.now }
     requires defines { W.can_define inside.now }
     requires locates { W.can_locate inside.now }
-    ensures did { Does (λ _. tt) result (state_seen s.new (O.taken out.new)) (write_form (level (W.code inside.now) (W.depth inside.now)) at operator (seen target.now) (seen value.now) (state_seen s.old (O.taken out.old))) }
+    ensures did { Does (λ _. tt) result (state_seen s.new (O.told out.new)) (write_form (level (W.code inside.now) (W.depth inside.now)) at operator (seen target.now) (seen value.now) (state_seen s.old (O.told out.old))) }
 {
     match operator {
         WriteOperator::Set => assign(s, out, inside, at, target, value),
@@ -53,7 +53,7 @@ pub(crate) fn write_value<O: Out, W: Around<O>>(
 
 /// `target = value` and `target := value`
 #[tactic(auto, unfolding(comet_meaning::specs::Writes::assign_form))]
-fn assign<O: Out, W: Around<O>>(
+fn assign<O: Outside, W: Around<O>>(
     s: &mut State,
     out: &mut O,
     inside: &W,
@@ -63,7 +63,7 @@ fn assign<O: Out, W: Around<O>>(
 ) -> Result<(), Stop>
     requires ready { W.is_ready inside.now }
     requires locates { W.can_locate inside.now }
-    ensures did { Does (λ _. tt) result (state_seen s.new (O.taken out.new)) (assign_form (level (W.code inside.now) (W.depth inside.now)) at (seen target.now) (seen value.now) (state_seen s.old (O.taken out.old))) }
+    ensures did { Does (λ _. tt) result (state_seen s.new (O.told out.new)) (assign_form (level (W.code inside.now) (W.depth inside.now)) at (seen target.now) (seen value.now) (state_seen s.old (O.told out.old))) }
 {
     match plain_slot(inside.room(), target) {
         Some(slot) => assign_name(s, out, inside, at, slot, value),
@@ -72,7 +72,7 @@ fn assign<O: Out, W: Around<O>>(
 }
 
 /// The same, where the target is this name of a number.
-fn assign_name<O: Out, W: Within<O>>(
+fn assign_name<O: Outside, W: Within<O>>(
     s: &mut State,
     out: &mut O,
     inside: &W,
@@ -81,7 +81,7 @@ fn assign_name<O: Out, W: Within<O>>(
     value: &Typed,
 ) -> Result<(), Stop>
     requires ready { W.is_ready inside.now }
-    ensures did { Does (λ _. tt) result (state_seen s.new (O.taken out.new)) (then_do (parts.value (level (W.code inside.now) (W.depth inside.now)) (part value.now) (state_seen s.old (O.taken out.old))) (λ v. write at (levels.Name slot) (as_kind kinds.Int v))) }
+    ensures did { Does (λ _. tt) result (state_seen s.new (O.told out.new)) (then_do (parts.value (level (W.code inside.now) (W.depth inside.now)) (part value.now) (state_seen s.old (O.told out.old))) (λ v. write at (levels.Name slot) (as_kind kinds.Int v))) }
 {
     match number_itself(s, inside.room(), value) {
         Some(number) => s.put(slot, Value::Number(number)),
@@ -90,7 +90,7 @@ fn assign_name<O: Out, W: Within<O>>(
 }
 
 /// The same, where the value isn't plain.
-fn assign_called<O: Out, W: Within<O>>(
+fn assign_called<O: Outside, W: Within<O>>(
     s: &mut State,
     out: &mut O,
     inside: &W,
@@ -99,20 +99,20 @@ fn assign_called<O: Out, W: Within<O>>(
     value: &Typed,
 ) -> Result<(), Stop>
     requires ready { W.is_ready inside.now }
-    ensures did { Does (λ _. tt) result (state_seen s.new (O.taken out.new)) (then_do (parts.value (level (W.code inside.now) (W.depth inside.now)) (part value.now) (state_seen s.old (O.taken out.old))) (λ v. write at (levels.Name slot) (as_kind kinds.Int v))) }
+    ensures did { Does (λ _. tt) result (state_seen s.new (O.told out.new)) (then_do (parts.value (level (W.code inside.now) (W.depth inside.now)) (part value.now) (state_seen s.old (O.told out.old))) (λ v. write at (levels.Name slot) (as_kind kinds.Int v))) }
 {
     match inside.called_number(s, value) {
         Some(number) => s.put(slot, Value::Number(number)),
         None => {
             let value = other_value_of(s, out, inside, value);
-            assign_part(s, at, Kind::Int, &Target::Name(slot), value)
+            assign_part(s, out, at, Kind::Int, &Target::Name(slot), value)
         }
     }
 }
 
 /// The same, whatever the target is.
 #[tactic(auto, unfolding(comet_meaning::specs::Writes::assign_form))]
-fn assign_any<O: Out, W: Around<O>>(
+fn assign_any<O: Outside, W: Around<O>>(
     s: &mut State,
     out: &mut O,
     inside: &W,
@@ -122,18 +122,18 @@ fn assign_any<O: Out, W: Around<O>>(
 ) -> Result<(), Stop>
     requires ready { W.is_ready inside.now }
     requires locates { W.can_locate inside.now }
-    ensures did { Does (λ _. tt) result (state_seen s.new (O.taken out.new)) (assign_form (level (W.code inside.now) (W.depth inside.now)) at (seen target.now) (seen value.now) (state_seen s.old (O.taken out.old))) }
+    ensures did { Does (λ _. tt) result (state_seen s.new (O.told out.new)) (assign_form (level (W.code inside.now) (W.depth inside.now)) at (seen target.now) (seen value.now) (state_seen s.old (O.told out.old))) }
 {
     let kind = target.kind;
     let target = target_of(s, out, inside, target)?;
     let value = value_of(s, out, inside, value);
-    let done = assign_part(s, at, kind, &target, value);
+    let done = assign_part(s, out, at, kind, &target, value);
     behind_commit(s, out, inside, at, &target, done)
 }
 
 /// `target += value`
 #[tactic(auto, unfolding(comet_meaning::specs::Writes::add_form))]
-fn add_value<O: Out, W: Around<O>>(
+fn add_value<O: Outside, W: Around<O>>(
     s: &mut State,
     out: &mut O,
     inside: &W,
@@ -143,17 +143,17 @@ fn add_value<O: Out, W: Around<O>>(
 ) -> Result<(), Stop>
     requires ready { W.is_ready inside.now }
     requires locates { W.can_locate inside.now }
-    ensures did { Does (λ _. tt) result (state_seen s.new (O.taken out.new)) (add_form (level (W.code inside.now) (W.depth inside.now)) at ◌+ℤ◌ (seen target.now) (seen value.now) (state_seen s.old (O.taken out.old))) }
+    ensures did { Does (λ _. tt) result (state_seen s.new (O.told out.new)) (add_form (level (W.code inside.now) (W.depth inside.now)) at ◌+ℤ◌ (seen target.now) (seen value.now) (state_seen s.old (O.told out.old))) }
 {
     let target = target_of(s, out, inside, target)?;
     let old = s.old_value(&target)?;
     let number = number_of(s, out, inside, value);
-    add_part(s, at, &target, &old, number)
+    add_part(s, out, at, &target, &old, number)
 }
 
 /// `target -= value`
 #[tactic(auto, unfolding(comet_meaning::specs::Writes::add_form))]
-fn subtract_value<O: Out, W: Around<O>>(
+fn subtract_value<O: Outside, W: Around<O>>(
     s: &mut State,
     out: &mut O,
     inside: &W,
@@ -163,17 +163,17 @@ fn subtract_value<O: Out, W: Around<O>>(
 ) -> Result<(), Stop>
     requires ready { W.is_ready inside.now }
     requires locates { W.can_locate inside.now }
-    ensures did { Does (λ _. tt) result (state_seen s.new (O.taken out.new)) (add_form (level (W.code inside.now) (W.depth inside.now)) at ◌-ℤ◌ (seen target.now) (seen value.now) (state_seen s.old (O.taken out.old))) }
+    ensures did { Does (λ _. tt) result (state_seen s.new (O.told out.new)) (add_form (level (W.code inside.now) (W.depth inside.now)) at ◌-ℤ◌ (seen target.now) (seen value.now) (state_seen s.old (O.told out.old))) }
 {
     let target = target_of(s, out, inside, target)?;
     let old = s.old_value(&target)?;
     let number = number_of(s, out, inside, value);
-    subtract_part(s, at, &target, &old, number)
+    subtract_part(s, out, at, &target, &old, number)
 }
 
 /// `target <- term`
 #[tactic(auto, unfolding(comet_meaning::specs::Writes::define_form))]
-fn define_value<O: Out, W: Around<O>>(
+fn define_value<O: Outside, W: Around<O>>(
     s: &mut State,
     out: &mut O,
     inside: &W,
@@ -183,16 +183,16 @@ fn define_value<O: Out, W: Around<O>>(
 ) -> Result<(), Stop>
     requires defines { W.can_define inside.now }
     requires locates { W.can_locate inside.now }
-    ensures did { Does (λ _. tt) result (state_seen s.new (O.taken out.new)) (define_form (level (W.code inside.now) (W.depth inside.now)) at (seen target.now) (seen term.now) (state_seen s.old (O.taken out.old))) }
+    ensures did { Does (λ _. tt) result (state_seen s.new (O.told out.new)) (define_form (level (W.code inside.now) (W.depth inside.now)) at (seen target.now) (seen term.now) (state_seen s.old (O.told out.old))) }
 {
     let target = target_of(s, out, inside, target)?;
     let term = single_term(s, out, inside, term);
-    define_part(s, at, &target, term)
+    define_part(out, at, &target, term)
 }
 
 /// `left :=: right`
 #[tactic(auto, unfolding(comet_meaning::specs::Writes::swap_form))]
-pub(crate) fn swap_values<O: Out, W: Around<O>>(
+pub(crate) fn swap_values<O: Outside, W: Around<O>>(
     s: &mut State,
     out: &mut O,
     inside: &W,
@@ -202,17 +202,17 @@ pub(crate) fn swap_values<O: Out, W: Around<O>>(
 ) -> Result<(), Stop>
     requires ready { W.is_ready inside.now }
     requires locates { W.can_locate inside.now }
-    ensures did { Does (λ _. tt) result (state_seen s.new (O.taken out.new)) (swap_form (level (W.code inside.now) (W.depth inside.now)) at (seen left.now) (seen right.now) (state_seen s.old (O.taken out.old))) }
+    ensures did { Does (λ _. tt) result (state_seen s.new (O.told out.new)) (swap_form (level (W.code inside.now) (W.depth inside.now)) at (seen left.now) (seen right.now) (state_seen s.old (O.told out.old))) }
 {
     let left = target_of(s, out, inside, left)?;
     let right = target_of(s, out, inside, right);
-    let done = swap_part(s, at, &left, right);
+    let done = swap_part(s, out, at, &left, right);
     behind_commit(s, out, inside, at, &left, done)
 }
 
 /// `target++` and `target--`
 #[tactic(auto, unfolding(comet_meaning::specs::Writes::step_form))]
-pub(crate) fn step_target<O: Out, W: Around<O>>(
+pub(crate) fn step_target<O: Outside, W: Around<O>>(
     s: &mut State,
     out: &mut O,
     inside: &W,
@@ -222,8 +222,8 @@ pub(crate) fn step_target<O: Out, W: Around<O>>(
 ) -> Result<(), Stop>
     requires ready { W.is_ready inside.now }
     requires locates { W.can_locate inside.now }
-    ensures did { Does (λ _. tt) result (state_seen s.new (O.taken out.new)) (step_form (level (W.code inside.now) (W.depth inside.now)) at step (seen target.now) (state_seen s.old (O.taken out.old))) }
+    ensures did { Does (λ _. tt) result (state_seen s.new (O.told out.new)) (step_form (level (W.code inside.now) (W.depth inside.now)) at step (seen target.now) (state_seen s.old (O.told out.old))) }
 {
     let target = target_of(s, out, inside, target);
-    step_part(s, at, step, target)
+    step_part(s, out, at, step, target)
 }

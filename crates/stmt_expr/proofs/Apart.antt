@@ -12,7 +12,7 @@ use Rattle.comet_meaning.specs.Purity.{is_pure, pure_functions}
 use Rattle.comet_meaning.specs.Spending.{IsSpent, Outside, with_outside, leaving, OnlySpends}
 use Rattle.comet_meaning.proofs.SpendingPrograms.{pure_spends}
 use Rattle.run_steps.specs.Does.{Does}
-use Rattle.run_state.specs.Copies.{without_data}
+use Rattle.run_standing.specs.Seen.{plain_with}
 use Rattle.run_values.specs.Views.{value_seen}
 use Rattle.run_values.specs.declared.values.Value.{Value}
 use Rattle.run_values.specs.declared.stop.Stop.{Stop}
@@ -27,11 +27,11 @@ spends_known c k d e p =
 
 -- the state that the expression is evaluated in
 abbrev pub apart : ℕ → State → State
-apart fuel s = without_data fuel (record s { printed = [] })
+apart fuel s = plain_with fuel (record s { printed = [] })
 
 -- what it leaves out
 abbrev outside_of : State → Outside
-outside_of s = record { inputs = s.inputs; data_text = s.data_text; search = s.search; printed = s.printed }
+outside_of s = record { inputs = s.inputs; data_text = s.data_text; search = s.search; users = s.users; printed = s.printed }
 
 given : (s : State) (fuel : ℕ) (r : Result Value Stop) (t : State) (o : Outcome values.Value) →
     IsSpent (apart fuel s) o → Does value_seen r t o → Gives (answer_seen r) (with_fuel t.fuel s) (leaving (outside_of s) o)

@@ -3,16 +3,18 @@ ghost use Rattle.std.specs.Prelude.{◌≡◌, ℕ, List, true};
 ghost use Rattle.comet_meaning.specs.Program.{level};
 ghost use Rattle.comet_meaning.specs.Purity.{is_pure, pure_functions};
 ghost use Rattle.run_steps.specs.Views.{code_seen, part};
-ghost use Rattle.run_state.specs.Views.{state_seen};
+ghost use Rattle.run_standing.specs.Seen.{standing_seen};
 ghost use Rattle.stmt_expr.specs.Evaluation.{Evaluates, answer_seen};
 
 use cbl_base::{Fuel, Place, RunFault, Steps};
 use checked_tree::Typed;
 use interpreter::{Code, evaluate};
 use ls_solver::Trial;
-use run_state::{Bytes, State};
+use run_standing::Standing;
+use run_state::{Bytes, Stage};
 use run_values::{Stop, Value};
 use std::sync::ledger::Ledger;
+use user_constraint::LocalConstraint;
 
 /// Why an expression has no value.
 #[derive(Clone, Copy, PartialEq, Eq, Debug)]
@@ -24,13 +26,13 @@ pub enum EvalStop {
     NoMemory,
 }
 
-/// The value of a pure expression in a state, whose own fuel isn't looked at; of a variable the variable itself. A value
-/// that names an array, a variable or an object names that of this state. `room` tells how many parts may be executed
+/// The value of a pure expression in what stands of a run, whose own fuel isn't looked at; of a variable the variable itself. A value
+/// that names an array, a variable or an object names that of this run. `room` tells how many parts may be executed
 /// inside each other. The value, or the fault or the end of the fuel with its place, and the fuel that is left are those
 /// of the expression's meaning. With `NoMemory` nothing is told of the fuel. Deltas are tried out in `trial`, which holds
 /// nothing yet, and `steps` counts nothing yet.
-pub fn eval<L: Ledger>(
-    s: &State,
+pub fn eval<L: Ledger, U: LocalConstraint>(
+    standing: &Standing<U>,
     code: &Code<'_>,
     room: u32,
     e: &Typed,
@@ -40,17 +42,27 @@ pub fn eval<L: Ledger>(
 ) -> Result<Value, EvalStop>
     requires known { (code_seen code.now).pure ≡ pure_functions (code_seen code.now).functions }
     requires pure { is_pure (code_seen code.now).pure (part e.now) ≡ true }
-    ensures { (printed : List ℕ) → Evaluates ((level (code_seen code.now) room).expr (part e.now)) (state_seen s.now printed) fuel.old.left result fuel.new.left }
+    ensures { (printed : List ℕ) → Evaluates ((level (code_seen code.now) room).expr (part e.now)) (standing_seen standing.now printed) fuel.old.left result fuel.new.left }
 {
-    let mut copy = match s.without_data(fuel.left) {
+    let copy = match standing.without_data(fuel.left) {
         Ok(copy) => copy,
         Err(_) => return Err(EvalStop::NoMemory),
     };
-    let mut out = Bytes {
-        bytes: Vec::new(s.alloc),
+    let Standing {
+        mut state,
+        solvers,
+        users,
+    } = copy;
+    let bytes = Bytes {
+        bytes: Vec::new(standing.state.alloc),
     };
-    let answer = evaluate(&mut copy, &mut out, code, room, e);
-    fuel.left = copy.fuel;
+    let mut stage = Stage {
+        out: bytes,
+        solvers,
+        users,
+    };
+    let answer = evaluate(&mut state, &mut stage, code, room, e);
+    fuel.left = state.fuel;
     handed_on(answer)
 }
 

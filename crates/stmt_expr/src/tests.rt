@@ -8,12 +8,16 @@ use comet_syntax::tree::{Aggregate, ChainOperator};
 use interpreter::Code;
 use ls_solver::Solver;
 use program_forms::is_pure;
-use run_state::State;
+use run_standing::Standing;
 use run_values::{Cells, Stop, Value};
 use std::alloc::{AllocError, Global};
 use std::marker::Brand;
 use std::sync::ledger::{Blank, Ledger};
 use std::test::*;
+use user_constraint::{LocalConstraint, UserConstraint};
+
+/// What users' constraints come in.
+type Boxed = Box<dyn UserConstraint>;
 
 /// Where the whole expression stands, and where an operator in it does.
 const WHOLE: Place = Place { line: 2, col: 3 };
@@ -80,24 +84,30 @@ fn products(alloc: Global) -> Result<Typed, AllocError> {
     Ok(typed(WHOLE, Kind::Int, form))
 }
 
-/// A state in which `n` is 3 and `a` has the cells 5, 6 and 7.
-fn state(alloc: Global) -> Result<State, Stop> {
-    let mut s = State::new(alloc, 0, 0, Vec::new(alloc));
-    s.put(N, Value::Number(3))?;
+/// A run in which `n` is 3 and `a` has the cells 5, 6 and 7.
+fn state<U: LocalConstraint>(alloc: Global) -> Result<Standing<U>, Stop> {
+    let mut s = Standing::<U>::new(alloc, 0, 0, Vec::new(alloc), Vec::new(alloc));
+    s.state.put(N, Value::Number(3))?;
     let cells = Cells::row(Vec::from_array(alloc, [5, 6, 7])?);
-    let array = s.new_array(cells)?;
-    s.put(A, array)?;
+    let array = s.state.new_array(cells)?;
+    s.state.put(A, array)?;
     Ok(s)
 }
 
-/// The number that a pure expression without calls gives, and the fuel that is left.
-fn given(s: &State, room: u32, e: &Typed, fuel: u64) -> (Result<i64, EvalStop>, u64) {
-    given_by::<Brand>(Blank::new(1), s, room, e, fuel)
+/// The number that a pure expression without calls gives in that run, and the fuel that is left.
+fn given<U: LocalConstraint>(
+    alloc: Global,
+    room: u32,
+    e: &Typed,
+    fuel: u64,
+) -> Result<(Result<i64, EvalStop>, u64), Fail> {
+    let s = state::<U>(alloc)?;
+    Ok(given_by::<Brand, U>(Blank::new(1), &s, room, e, fuel))
 }
 
-fn given_by<L: Ledger>(
+fn given_by<L: Ledger, U: LocalConstraint>(
     blank: Blank,
-    s: &State,
+    s: &Standing<U>,
     room: u32,
     e: &Typed,
     fuel: u64,
@@ -106,14 +116,14 @@ fn given_by<L: Ledger>(
     requires parts { blank.parts ≡ L.parts }
     requires some { 0 < L.parts }
 {
-    let Ok(code) = Code::new(s.alloc, &[], &[]) else {
+    let Ok(code) = Code::new(s.state.alloc, &[], &[]) else {
         return (Err(EvalStop::NoMemory), 0);
     };
     if !is_pure(&[], e) {
         return (Err(EvalStop::NoMemory), 0);
     }
     let mut left = Fuel { left: fuel };
-    let mut trial = Solver::new(s.alloc, 0).trial();
+    let mut trial = Solver::<U>::new(s.state.alloc, 0).trial();
     let mut steps = Steps::<L>::new(blank);
     let answer = match eval(s, &code, room, e, &mut left, &mut trial, &mut steps) {
         Ok(value) => Ok(value.number()),
@@ -125,32 +135,35 @@ fn given_by<L: Ledger>(
 /// Four tuples cost four units, and the products of 1 to 4 with 3 are 30.
 #[test]
 fn sum_over_a_range(rt: HostRuntime) -> Result<(), Fail> {
-    let s = state(rt.alloc())?;
-    let e = products(rt.alloc())?;
-    assert_eq!(rt; given(&s, 9, &e, 10), (Ok(30), 6));
-    assert_eq!(rt; given(&s, 9, &e, 4), (Ok(30), 0));
+    let alloc = rt.alloc();
+    let e = products(alloc)?;
+    assert_eq!(rt; given::<Boxed>(alloc, 9, &e, 10)?, (Ok(30), 6));
+    assert_eq!(rt; given::<Boxed>(alloc, 9, &e, 4)?, (Ok(30), 0));
     Ok(())
 }
 
 /// The third of the tuples is not paid for, and the fuel is spent at the aggregate.
 #[test]
 fn fuel_is_spent(rt: HostRuntime) -> Result<(), Fail> {
-    let s = state(rt.alloc())?;
-    let e = products(rt.alloc())?;
-    assert_eq!(rt; given(&s, 9, &e, 2), (Err(EvalStop::Spent(WHOLE)), 0));
+    let alloc = rt.alloc();
+    let e = products(alloc)?;
+    assert_eq!(rt;
+        given::<Boxed>(alloc, 9, &e, 2)?,
+        (Err(EvalStop::Spent(WHOLE)), 0)
+    );
     Ok(())
 }
 
 /// A division by zero is a fault at its operator. Where there is no room for an operand that is a fault at the operand.
 #[test]
 fn faults_have_their_places(rt: HostRuntime) -> Result<(), Fail> {
-    let s = state(rt.alloc())?;
+    let alloc = rt.alloc();
     let zero = typed(JOINT, Kind::Int, Form::Number(0));
-    let e = joined(rt.alloc(), ChainOperator::Divide, number(7), zero)?;
+    let e = joined(alloc, ChainOperator::Divide, number(7), zero)?;
     let none = Err(EvalStop::Fault(JOINT, RunFault::DivideByZero));
-    assert_eq!(rt; given(&s, 2, &e, 5), (none, 5));
+    assert_eq!(rt; given::<Boxed>(alloc, 2, &e, 5)?, (none, 5));
     let deep = Err(EvalStop::Fault(WHOLE, RunFault::Depth));
-    assert_eq!(rt; given(&s, 1, &e, 5), (deep, 5));
+    assert_eq!(rt; given::<Boxed>(alloc, 1, &e, 5)?, (deep, 5));
     Ok(())
 }
 
@@ -158,10 +171,9 @@ fn faults_have_their_places(rt: HostRuntime) -> Result<(), Fail> {
 #[test]
 fn cells_are_those_of_the_state(rt: HostRuntime) -> Result<(), Fail> {
     let alloc = rt.alloc();
-    let s = state(alloc)?;
     let array = Box::new(alloc, typed(WHOLE, Kind::Array, Form::Name(A)))?;
     let index = Box::new(alloc, number(2))?;
     let e = typed(WHOLE, Kind::Int, Form::Index { array, index });
-    assert_eq!(rt; given(&s, 2, &e, 5), (Ok(7), 5));
+    assert_eq!(rt; given::<Boxed>(alloc, 2, &e, 5)?, (Ok(7), 5));
     Ok(())
 }

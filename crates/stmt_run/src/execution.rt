@@ -5,6 +5,7 @@ ghost use Rattle.checked_tree.specs.Tasks.{program_of};
 ghost use Rattle.comet_meaning.specs.Program as programs;
 ghost use Rattle.run_steps.specs.Does.{Does};
 ghost use Rattle.run_steps.specs.Views.{flow_seen};
+ghost use Rattle.run_standing.specs.Seen.{standing_seen};
 ghost use Rattle.run_state.specs.Views.{state_seen};
 ghost use Rattle.stmt_run.specs.Ending.{EndsAs, end_seen, output_end};
 ghost use Rattle.stmt_run.specs.declared.execution.RunEnd.TheVariants.{Write};
@@ -14,9 +15,11 @@ use cbl_base::{Names, Place, RunFault};
 use checked_tree::Checked;
 use interpreter::{Code, Flow, run as run_tasks};
 use program_forms::pure_functions;
-use run_state::{Out, State};
+use run_standing::Standing;
+use run_state::{Outside, Stage, State};
 use run_values::{OutStop, Stop};
 use std::alloc::Global;
+use user_constraint::LocalConstraint;
 
 /// How a run ends.
 #[derive(Drop, Debug)]
@@ -34,30 +37,55 @@ pub enum RunEnd {
     Write,
 }
 
-/// What a run leaves: its end, the fuel that it didn't use, and the state.
+/// What a run leaves: its end, the fuel that it didn't use, the state, and the output.
 #[derive(Drop)]
-pub struct Ended {
+pub struct Ended<O, U: LocalConstraint> {
     pub end: RunEnd,
     pub fuel: u64,
-    pub state: State,
+    pub standing: Standing<U>,
+    pub out: O,
 }
 
-/// Runs a program from this state on, and adds what it prints to `out`. The end, the fuel that is left and all that
-/// `out` then has taken are those of the program's meaning; with `NoMemory` and `Write` what it has taken is a front of
-/// that. `Write` comes only where the output failed in this call.
-pub fn run<O: CountedOut>(alloc: Global, program: &Checked, state: State, out: &mut O) -> Ended
-    ensures meant { EndsAs result.end result.fuel (O.taken out.new) (programs.run (program_of program.now) (state_seen state (O.taken out.old))) }
-    ensures failed { result.end ≡ Write → HasRisen (O.faults out.old) (O.faults out.new) }
-    ensures fuel { result.fuel ≡ result.state.fuel }
+/// Runs a program from this state on, and adds what it prints to `out`, which it gives back. The end, the fuel that is left
+/// and all that the output then has taken are those of the program's meaning; with `NoMemory` and `Write` what it has taken
+/// is a front of that. `Write` comes only where the output failed in this call.
+pub fn run<O: CountedOut, U: LocalConstraint>(
+    alloc: Global,
+    program: &Checked,
+    standing: Standing<U>,
+    out: O,
+) -> Ended<O, U>
+    ensures meant { EndsAs result.end result.fuel (O.taken result.out) (programs.run (program_of program.now) (standing_seen standing (O.taken out))) }
+    ensures failed { result.end ≡ Write → HasRisen (O.faults out) (O.faults result.out) }
+    ensures fuel { result.fuel ≡ result.standing.state.fuel }
 {
-    let mut state = state;
+    let Standing {
+        mut state,
+        solvers,
+        users,
+    } = standing;
     let failures = out.failures();
-    let flow = execute(alloc, program, &mut state, out);
+    let mut stage = Stage {
+        out,
+        solvers,
+        users,
+    };
+    let flow = execute(alloc, program, &mut state, &mut stage);
+    let Stage {
+        out,
+        solvers,
+        users,
+    } = stage;
     let end = end_of(flow, has_risen(failures, out.failures()));
     Ended {
         end,
         fuel: state.fuel,
-        state,
+        standing: Standing {
+            state,
+            solvers,
+            users,
+        },
+        out,
     }
 }
 
@@ -93,13 +121,13 @@ fn end_of_output(stop: OutStop, failed: bool) -> RunEnd
 }
 
 /// Executes the top statements of a program in order.
-fn execute<O: Out>(
+fn execute<O: Outside>(
     alloc: Global,
     program: &Checked,
     s: &mut State,
     out: &mut O,
 ) -> Result<Flow, Stop>
-    ensures { Does flow_seen result (state_seen s.new (O.taken out.new)) (programs.meaning_of_program (program_of program.now) (state_seen s.old (O.taken out.old))) }
+    ensures { Does flow_seen result (state_seen s.new (O.told out.new)) (programs.meaning_of_program (program_of program.now) (state_seen s.old (O.told out.old))) }
 {
     let pure = pure_functions(alloc, program.functions.as_slice())?;
     let code = Code::new(alloc, program.functions.as_slice(), pure.as_slice())?;

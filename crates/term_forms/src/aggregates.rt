@@ -18,13 +18,13 @@ use comet_syntax::tree::Aggregate;
 use expression_forms::expressions::{truth_of, value_of};
 use expression_forms::parts::single_term;
 use expression_forms::tuples::next_tuple;
-use run_state::{InTerm, Out, State};
+use run_state::{InTerm, Outside, State};
 use run_steps::inside::{Defining, Within};
 use run_steps::tuples::{Tuples, pending_of};
 use run_values::Stop;
 
 /// What an aggregate stands for in a term. The names of its generators end with it.
-pub fn aggregate_term<O: Out, W: Defining<O>>(
+pub fn aggregate_term<O: Outside, W: Defining<O>>(
     s: &mut State,
     out: &mut O,
     inside: &W,
@@ -36,7 +36,7 @@ pub fn aggregate_term<O: Out, W: Defining<O>>(
 ) -> Result<InTerm, Stop>
     requires ready { W.is_ready inside.now }
     requires defines { W.can_define inside.now }
-    ensures did { Does in_term_seen result (state_seen s.new (O.taken out.new)) (forms.aggregate_term (level (W.code inside.now) (W.depth inside.now)) at aggregate (generators_seen generators.now) (part_or_none condition.now) (part body.now) (state_seen s.old (O.taken out.old))) }
+    ensures did { Does in_term_seen result (state_seen s.new (O.told out.new)) (forms.aggregate_term (level (W.code inside.now) (W.depth inside.now)) at aggregate (generators_seen generators.now) (part_or_none condition.now) (part body.now) (state_seen s.old (O.told out.old))) }
 {
     let frame = s.copied_frame()?;
     let bodies = bodies_of(s, out, inside, at, aggregate, generators, condition, body)?;
@@ -45,7 +45,7 @@ pub fn aggregate_term<O: Out, W: Defining<O>>(
 }
 
 /// The bodies of the tuples that pass the condition, in order.
-pub fn bodies_of<O: Out, W: Defining<O>>(
+pub fn bodies_of<O: Outside, W: Defining<O>>(
     s: &mut State,
     out: &mut O,
     inside: &W,
@@ -57,7 +57,7 @@ pub fn bodies_of<O: Out, W: Defining<O>>(
 ) -> Result<Vec<Body>, Stop>
     requires ready { W.is_ready inside.now }
     requires defines { W.can_define inside.now }
-    ensures did { Does (λ bodies. map body_seen bodies.items) result (state_seen s.new (O.taken out.new)) (each_tuple (level (W.code inside.now) (W.depth inside.now)) at always (forms.keyed_form (level (W.code inside.now) (W.depth inside.now)) at aggregate (part_or_none condition.now) (part body.now)) [] (generators_seen generators.now) [] (state_seen s.old (O.taken out.old))) }
+    ensures did { Does (λ bodies. map body_seen bodies.items) result (state_seen s.new (O.told out.new)) (each_tuple (level (W.code inside.now) (W.depth inside.now)) at always (forms.keyed_form (level (W.code inside.now) (W.depth inside.now)) at aggregate (part_or_none condition.now) (part body.now)) [] (generators_seen generators.now) [] (state_seen s.old (O.told out.old))) }
 {
     let mut bodies = Vec::new(s.alloc);
     if generators.len() == 0 {
@@ -87,7 +87,7 @@ pub fn bodies_of<O: Out, W: Defining<O>>(
 
 /// Adds the body of a tuple, if it passes the condition.
 #[tactic(auto, unfolding(comet_meaning::specs::TermForms::keyed_form))]
-fn add_body<O: Out, W: Defining<O>>(
+fn add_body<O: Outside, W: Defining<O>>(
     s: &mut State,
     out: &mut O,
     inside: &W,
@@ -100,7 +100,7 @@ fn add_body<O: Out, W: Defining<O>>(
 ) -> Result<(), Stop>
     requires ready { W.is_ready inside.now }
     requires defines { W.can_define inside.now }
-    ensures did { Does (λ _. map body_seen bodies.new.items) result (state_seen s.new (O.taken out.new)) (forms.keyed_form (level (W.code inside.now) (W.depth inside.now)) at aggregate (part_or_none condition.now) (part body.now) key (map body_seen bodies.old.items) (state_seen s.old (O.taken out.old))) }
+    ensures did { Does (λ _. map body_seen bodies.new.items) result (state_seen s.new (O.told out.new)) (forms.keyed_form (level (W.code inside.now) (W.depth inside.now)) at aggregate (part_or_none condition.now) (part body.now) key (map body_seen bodies.old.items) (state_seen s.old (O.told out.old))) }
 {
     if !passes(s, out, inside, condition)? {
         return Ok(());
@@ -111,14 +111,14 @@ fn add_body<O: Out, W: Defining<O>>(
 
 /// Whether a condition holds, as it does where it is left out.
 #[tactic(auto, unfolding(comet_meaning::specs::Parts::condition))]
-fn passes<O: Out, W: Within<O>>(
+fn passes<O: Outside, W: Within<O>>(
     s: &mut State,
     out: &mut O,
     inside: &W,
     condition: &Option<Box<Typed>>,
 ) -> Result<bool, Stop>
     requires ready { W.is_ready inside.now }
-    ensures did { Does (λ b. b) result (state_seen s.new (O.taken out.new)) (parts.condition (level (W.code inside.now) (W.depth inside.now)) (part_or_none condition.now) (state_seen s.old (O.taken out.old))) }
+    ensures did { Does (λ b. b) result (state_seen s.new (O.told out.new)) (parts.condition (level (W.code inside.now) (W.depth inside.now)) (part_or_none condition.now) (state_seen s.old (O.told out.old))) }
 {
     match condition {
         None => Ok(true),

@@ -8,19 +8,19 @@ ghost use Rattle.run_steps.specs.Does.{Does};
 ghost use Rattle.run_steps.specs.Views.{part, row};
 
 use crate::nodes::{as_row, element_with, grid_with, pick, pick_twice};
-use crate::parts::{term_cells, terms_of};
+use crate::parts::terms_of;
 use cbl_base::Place;
 use checked_tree::Typed;
 use expression_forms::expressions::number_of;
-use expression_forms::parts::single_term;
+use expression_forms::parts::{single_term, term_cells};
 use run_solvers::Built;
-use run_state::{InTerm, Out, State};
+use run_state::{InTerm, Outside, State};
 use run_steps::inside::Defining;
 use run_values::Stop;
 
 /// `a[i]`: where the index holds incremental variables an operation of it and all cells, and else the cell itself.
 #[tactic(auto, unfolding(comet_meaning::specs::TermForms::index_term))]
-pub fn index_term<O: Out, W: Defining<O>>(
+pub fn index_term<O: Outside, W: Defining<O>>(
     s: &mut State,
     out: &mut O,
     inside: &W,
@@ -30,7 +30,7 @@ pub fn index_term<O: Out, W: Defining<O>>(
 ) -> Result<Built, Stop>
     requires ready { W.is_ready inside.now }
     requires defines { W.can_define inside.now }
-    ensures did { Does (λ t. t) result (state_seen s.new (O.taken out.new)) (forms.index_term (level (W.code inside.now) (W.depth inside.now)) at (part array.now) (part index.now) (state_seen s.old (O.taken out.old))) }
+    ensures did { Does (λ t. t) result (state_seen s.new (O.told out.new)) (forms.index_term (level (W.code inside.now) (W.depth inside.now)) at (part array.now) (part index.now) (state_seen s.old (O.told out.old))) }
 {
     if index.moving {
         element_term(s, out, inside, at, array, index)
@@ -41,7 +41,7 @@ pub fn index_term<O: Out, W: Defining<O>>(
 
 /// `a[i]`, whose index holds incremental variables. The cells are charged at the array.
 #[tactic(auto, unfolding(comet_meaning::specs::TermForms::element_term))]
-fn element_term<O: Out, W: Defining<O>>(
+fn element_term<O: Outside, W: Defining<O>>(
     s: &mut State,
     out: &mut O,
     inside: &W,
@@ -50,7 +50,7 @@ fn element_term<O: Out, W: Defining<O>>(
     index: &Typed,
 ) -> Result<Built, Stop>
     requires defines { W.can_define inside.now }
-    ensures did { Does (λ t. t) result (state_seen s.new (O.taken out.new)) (forms.element_term (level (W.code inside.now) (W.depth inside.now)) at (part array.now) (part index.now) (state_seen s.old (O.taken out.old))) }
+    ensures did { Does (λ t. t) result (state_seen s.new (O.told out.new)) (forms.element_term (level (W.code inside.now) (W.depth inside.now)) at (part array.now) (part index.now) (state_seen s.old (O.told out.old))) }
 {
     let place = array.place;
     let cells = term_cells(s, out, inside, array)?;
@@ -60,7 +60,7 @@ fn element_term<O: Out, W: Defining<O>>(
 
 /// `a[i]`, whose index is a number: the cell, and `OutOfRange` outside the array.
 #[tactic(auto, unfolding(comet_meaning::specs::TermForms::picked_term))]
-fn picked_term<O: Out, W: Defining<O>>(
+fn picked_term<O: Outside, W: Defining<O>>(
     s: &mut State,
     out: &mut O,
     inside: &W,
@@ -70,7 +70,7 @@ fn picked_term<O: Out, W: Defining<O>>(
 ) -> Result<Built, Stop>
     requires ready { W.is_ready inside.now }
     requires defines { W.can_define inside.now }
-    ensures did { Does (λ t. t) result (state_seen s.new (O.taken out.new)) (forms.picked_term (level (W.code inside.now) (W.depth inside.now)) at (part array.now) (part index.now) (state_seen s.old (O.taken out.old))) }
+    ensures did { Does (λ t. t) result (state_seen s.new (O.told out.new)) (forms.picked_term (level (W.code inside.now) (W.depth inside.now)) at (part array.now) (part index.now) (state_seen s.old (O.told out.old))) }
 {
     let cells = term_cells(s, out, inside, array)?;
     let index = number_of(s, out, inside, index);
@@ -79,7 +79,7 @@ fn picked_term<O: Out, W: Defining<O>>(
 
 /// The same of `a[i,j]`.
 #[tactic(auto, unfolding(comet_meaning::specs::TermForms::cell_term))]
-pub fn cell_term<O: Out, W: Defining<O>>(
+pub fn cell_term<O: Outside, W: Defining<O>>(
     s: &mut State,
     out: &mut O,
     inside: &W,
@@ -90,7 +90,7 @@ pub fn cell_term<O: Out, W: Defining<O>>(
 ) -> Result<Built, Stop>
     requires ready { W.is_ready inside.now }
     requires defines { W.can_define inside.now }
-    ensures did { Does (λ t. t) result (state_seen s.new (O.taken out.new)) (forms.cell_term (level (W.code inside.now) (W.depth inside.now)) at (part grid.now) (part row.now) (part column.now) (state_seen s.old (O.taken out.old))) }
+    ensures did { Does (λ t. t) result (state_seen s.new (O.told out.new)) (forms.cell_term (level (W.code inside.now) (W.depth inside.now)) at (part grid.now) (part row.now) (part column.now) (state_seen s.old (O.told out.old))) }
 {
     if is_one_moving(row, column) {
         grid_term(s, out, inside, at, grid, row, column)
@@ -108,7 +108,7 @@ fn is_one_moving(row: &Typed, column: &Typed) -> bool
 
 /// `a[i,j]`, one of whose indices holds incremental variables. The cells are charged at the array.
 #[tactic(auto, unfolding(comet_meaning::specs::TermForms::grid_term))]
-fn grid_term<O: Out, W: Defining<O>>(
+fn grid_term<O: Outside, W: Defining<O>>(
     s: &mut State,
     out: &mut O,
     inside: &W,
@@ -118,7 +118,7 @@ fn grid_term<O: Out, W: Defining<O>>(
     column: &Typed,
 ) -> Result<Built, Stop>
     requires defines { W.can_define inside.now }
-    ensures did { Does (λ t. t) result (state_seen s.new (O.taken out.new)) (forms.grid_term (level (W.code inside.now) (W.depth inside.now)) at (part grid.now) (part row.now) (part column.now) (state_seen s.old (O.taken out.old))) }
+    ensures did { Does (λ t. t) result (state_seen s.new (O.told out.new)) (forms.grid_term (level (W.code inside.now) (W.depth inside.now)) at (part grid.now) (part row.now) (part column.now) (state_seen s.old (O.told out.old))) }
 {
     let place = grid.place;
     let cells = term_cells(s, out, inside, grid)?;
@@ -129,7 +129,7 @@ fn grid_term<O: Out, W: Defining<O>>(
 
 /// `a[i,j]`, whose indices are numbers: the cell, and `OutOfRange` outside the array.
 #[tactic(auto, unfolding(comet_meaning::specs::TermForms::picked_cell))]
-fn picked_cell<O: Out, W: Defining<O>>(
+fn picked_cell<O: Outside, W: Defining<O>>(
     s: &mut State,
     out: &mut O,
     inside: &W,
@@ -140,7 +140,7 @@ fn picked_cell<O: Out, W: Defining<O>>(
 ) -> Result<Built, Stop>
     requires ready { W.is_ready inside.now }
     requires defines { W.can_define inside.now }
-    ensures did { Does (λ t. t) result (state_seen s.new (O.taken out.new)) (forms.picked_cell (level (W.code inside.now) (W.depth inside.now)) at (part grid.now) (part row.now) (part column.now) (state_seen s.old (O.taken out.old))) }
+    ensures did { Does (λ t. t) result (state_seen s.new (O.told out.new)) (forms.picked_cell (level (W.code inside.now) (W.depth inside.now)) at (part grid.now) (part row.now) (part column.now) (state_seen s.old (O.told out.old))) }
 {
     let cells = term_cells(s, out, inside, grid)?;
     let row = number_of(s, out, inside, row)?;
@@ -150,14 +150,14 @@ fn picked_cell<O: Out, W: Defining<O>>(
 
 /// `[..]`: the terms in a row.
 #[tactic(auto, unfolding(comet_meaning::specs::TermForms::list_term))]
-pub fn list_term<O: Out, W: Defining<O>>(
+pub fn list_term<O: Outside, W: Defining<O>>(
     s: &mut State,
     out: &mut O,
     inside: &W,
     cells: &[Typed],
 ) -> Result<InTerm, Stop>
     requires defines { W.can_define inside.now }
-    ensures did { Does in_term_seen result (state_seen s.new (O.taken out.new)) (forms.list_term (level (W.code inside.now) (W.depth inside.now)) (row cells.now) (state_seen s.old (O.taken out.old))) }
+    ensures did { Does in_term_seen result (state_seen s.new (O.told out.new)) (forms.list_term (level (W.code inside.now) (W.depth inside.now)) (row cells.now) (state_seen s.old (O.told out.old))) }
 {
     as_row(terms_of(s, out, inside, cells))
 }

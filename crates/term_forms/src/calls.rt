@@ -9,17 +9,17 @@ ghost use Rattle.run_steps.specs.Views.{part, row};
 ghost use Rattle.term_forms.specs.Steps.{plain_call};
 
 use crate::nodes::{call_with, count_with};
-use crate::parts::{term_cells, terms_of};
+use crate::parts::terms_of;
 use cbl_base::Place;
 use checked_tree::{Builtin, Typed};
-use expression_forms::parts::single_term;
+use expression_forms::parts::{single_term, term_cells};
 use run_solvers::Built;
-use run_state::{Out, State};
+use run_state::{Outside, State};
 use run_steps::inside::Defining;
 use run_values::Stop;
 
 /// A call of a function of the language.
-pub fn builtin_term<O: Out, W: Defining<O>>(
+pub fn builtin_term<O: Outside, W: Defining<O>>(
     s: &mut State,
     out: &mut O,
     inside: &W,
@@ -28,7 +28,7 @@ pub fn builtin_term<O: Out, W: Defining<O>>(
     arguments: &[Typed],
 ) -> Result<Built, Stop>
     requires defines { W.can_define inside.now }
-    ensures did { Does (λ t. t) result (state_seen s.new (O.taken out.new)) (forms.builtin_term (level (W.code inside.now) (W.depth inside.now)) at function (row arguments.now) (state_seen s.old (O.taken out.old))) }
+    ensures did { Does (λ t. t) result (state_seen s.new (O.told out.new)) (forms.builtin_term (level (W.code inside.now) (W.depth inside.now)) at function (row arguments.now) (state_seen s.old (O.told out.old))) }
 {
     match function {
         Builtin::Count => count_call(s, out, inside, at, arguments),
@@ -37,7 +37,7 @@ pub fn builtin_term<O: Out, W: Defining<O>>(
 }
 
 /// A call of `count`, with any number of arguments.
-fn count_call<O: Out, W: Defining<O>>(
+fn count_call<O: Outside, W: Defining<O>>(
     s: &mut State,
     out: &mut O,
     inside: &W,
@@ -45,7 +45,7 @@ fn count_call<O: Out, W: Defining<O>>(
     arguments: &[Typed],
 ) -> Result<Built, Stop>
     requires defines { W.can_define inside.now }
-    ensures did { Does (λ t. t) result (state_seen s.new (O.taken out.new)) (forms.builtin_term (level (W.code inside.now) (W.depth inside.now)) at Count (row arguments.now) (state_seen s.old (O.taken out.old))) }
+    ensures did { Does (λ t. t) result (state_seen s.new (O.told out.new)) (forms.builtin_term (level (W.code inside.now) (W.depth inside.now)) at Count (row arguments.now) (state_seen s.old (O.told out.old))) }
 {
     if arguments.len() != 2 {
         return plain_term(s, out, inside, at, Builtin::Count, arguments);
@@ -55,7 +55,7 @@ fn count_call<O: Out, W: Defining<O>>(
 
 /// `count(a, e)`: a unit for the call, and then the cells, at the array.
 #[tactic(auto, unfolding(comet_meaning::specs::TermForms::count_term))]
-fn count_term<O: Out, W: Defining<O>>(
+fn count_term<O: Outside, W: Defining<O>>(
     s: &mut State,
     out: &mut O,
     inside: &W,
@@ -64,7 +64,7 @@ fn count_term<O: Out, W: Defining<O>>(
     number: &Typed,
 ) -> Result<Built, Stop>
     requires defines { W.can_define inside.now }
-    ensures did { Does (λ t. t) result (state_seen s.new (O.taken out.new)) (forms.count_term (level (W.code inside.now) (W.depth inside.now)) at (part array.now) (part number.now) (state_seen s.old (O.taken out.old))) }
+    ensures did { Does (λ t. t) result (state_seen s.new (O.told out.new)) (forms.count_term (level (W.code inside.now) (W.depth inside.now)) at (part array.now) (part number.now) (state_seen s.old (O.told out.old))) }
 {
     let place = array.place;
     let cells = term_cells(s, out, inside, array)?;
@@ -73,7 +73,7 @@ fn count_term<O: Out, W: Defining<O>>(
 }
 
 /// A function of the language whose arguments are all single terms: a unit for the call, and then its operation.
-fn plain_term<O: Out, W: Defining<O>>(
+fn plain_term<O: Outside, W: Defining<O>>(
     s: &mut State,
     out: &mut O,
     inside: &W,
@@ -82,7 +82,7 @@ fn plain_term<O: Out, W: Defining<O>>(
     arguments: &[Typed],
 ) -> Result<Built, Stop>
     requires defines { W.can_define inside.now }
-    ensures did { Does (λ t. t) result (state_seen s.new (O.taken out.new)) (plain_call (level (W.code inside.now) (W.depth inside.now)) at function (row arguments.now) (state_seen s.old (O.taken out.old))) }
+    ensures did { Does (λ t. t) result (state_seen s.new (O.told out.new)) (plain_call (level (W.code inside.now) (W.depth inside.now)) at function (row arguments.now) (state_seen s.old (O.told out.old))) }
 {
     let terms = terms_of(s, out, inside, arguments);
     call_with(s, at, function, terms)

@@ -9,6 +9,7 @@ ghost use Rattle.comet_meaning.specs.Terms.{Several, Single, term_at, term_row};
 ghost use Rattle.comet_meaning.specs.Values.{size_of};
 ghost use Rattle.model_view.specs.Building.{constant};
 ghost use Rattle.run_state.specs.InTerms.{in_term_seen, term_cells_seen};
+ghost use Rattle.run_outside.specs.Told.{Told};
 ghost use Rattle.run_state.specs.Views.{state_seen};
 ghost use Rattle.run_steps.specs.Does.{Does};
 ghost use Rattle.run_steps.specs.Following.{Follows};
@@ -269,7 +270,7 @@ fn element_of(
     cells: TermCells,
     index: Built,
 ) -> Result<Built, Stop>
-    ensures did { (printed : List ℕ) → Does (λ t. t) result (state_seen s.new printed) (element_node at place (term_cells_seen cells) index (state_seen s.old printed)) }
+    ensures did { (told : Told) → Does (λ t. t) result (state_seen s.new told) (element_node at place (term_cells_seen cells) index (state_seen s.old told)) }
 {
     let count = cells.terms.len();
     s.charge(count as u64, place)?;
@@ -286,7 +287,7 @@ pub fn element_with(
     cells: TermCells,
     index: Result<Built, Stop>,
 ) -> Result<Built, Stop>
-    ensures did { (printed : List ℕ) → Follows (λ t. t) (λ t. t) index result (state_seen s.old printed) (state_seen s.new printed) (element_node at place (term_cells_seen cells)) }
+    ensures did { (told : Told) → Follows (λ t. t) (λ t. t) index result (state_seen s.old told) (state_seen s.new told) (element_node at place (term_cells_seen cells)) }
 {
     match index {
         Err(stop) => Err(stop),
@@ -303,7 +304,7 @@ fn grid_of(
     row: Built,
     column: Built,
 ) -> Result<Built, Stop>
-    ensures did { (printed : List ℕ) → Does (λ t. t) result (state_seen s.new printed) (grid_node at place (term_cells_seen cells) row column (state_seen s.old printed)) }
+    ensures did { (told : Told) → Does (λ t. t) result (state_seen s.new told) (grid_node at place (term_cells_seen cells) row column (state_seen s.old told)) }
 {
     let count = cells.terms.len();
     s.charge(count as u64, place)?;
@@ -322,7 +323,7 @@ pub fn grid_with(
     row: Built,
     column: Result<Built, Stop>,
 ) -> Result<Built, Stop>
-    ensures did { (printed : List ℕ) → Follows (λ t. t) (λ t. t) column result (state_seen s.old printed) (state_seen s.new printed) (grid_node at place (term_cells_seen cells) row) }
+    ensures did { (told : Told) → Follows (λ t. t) (λ t. t) column result (state_seen s.old told) (state_seen s.new told) (grid_node at place (term_cells_seen cells) row) }
 {
     match column {
         Err(stop) => Err(stop),
@@ -392,7 +393,7 @@ fn count_of(
     cells: TermCells,
     number: Built,
 ) -> Result<Built, Stop>
-    ensures did { (printed : List ℕ) → Does (λ t. t) result (state_seen s.new printed) (count_node at place (term_cells_seen cells) number (state_seen s.old printed)) }
+    ensures did { (told : Told) → Does (λ t. t) result (state_seen s.new told) (count_node at place (term_cells_seen cells) number (state_seen s.old told)) }
 {
     s.charge(1, at)?;
     let count = cells.terms.len();
@@ -409,7 +410,7 @@ pub fn count_with(
     cells: TermCells,
     number: Result<Built, Stop>,
 ) -> Result<Built, Stop>
-    ensures did { (printed : List ℕ) → Follows (λ t. t) (λ t. t) number result (state_seen s.old printed) (state_seen s.new printed) (count_node at place (term_cells_seen cells)) }
+    ensures did { (told : Told) → Follows (λ t. t) (λ t. t) number result (state_seen s.old told) (state_seen s.new told) (count_node at place (term_cells_seen cells)) }
 {
     match number {
         Err(stop) => Err(stop),
@@ -449,7 +450,7 @@ fn charged_function(
     function: Builtin,
     terms: Vec<Built>,
 ) -> Result<Built, Stop>
-    ensures did { (printed : List ℕ) → Does (λ t. t) result (state_seen s.new printed) (called_node at function terms.items (state_seen s.old printed)) }
+    ensures did { (told : Told) → Does (λ t. t) result (state_seen s.new told) (called_node at function terms.items (state_seen s.old told)) }
 {
     s.charge(1, at)?;
     function_of(at, function, terms)
@@ -462,7 +463,7 @@ pub fn call_with(
     function: Builtin,
     arguments: Result<Vec<Built>, Stop>,
 ) -> Result<Built, Stop>
-    ensures did { (printed : List ℕ) → Follows (λ terms. terms.items) (λ t. t) arguments result (state_seen s.old printed) (state_seen s.new printed) (called_node at function) }
+    ensures did { (told : Told) → Follows (λ terms. terms.items) (λ t. t) arguments result (state_seen s.old told) (state_seen s.new told) (called_node at function) }
 {
     match arguments {
         Err(stop) => Err(stop),

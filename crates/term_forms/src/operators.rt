@@ -12,13 +12,13 @@ use checked_tree::{Link, Typed};
 use comet_syntax::tree::{ChainOperator, Comparison, UnaryOperator};
 use expression_forms::parts::single_term;
 use run_solvers::Built;
-use run_state::{Out, State};
+use run_state::{Outside, State};
 use run_steps::inside::Defining;
 use run_values::Stop;
 
 /// `-e` and `!e`
 #[tactic(auto, unfolding(comet_meaning::specs::TermForms::unary_term))]
-pub fn unary_term<O: Out, W: Defining<O>>(
+pub fn unary_term<O: Outside, W: Defining<O>>(
     s: &mut State,
     out: &mut O,
     inside: &W,
@@ -27,7 +27,7 @@ pub fn unary_term<O: Out, W: Defining<O>>(
     operand: &Typed,
 ) -> Result<Built, Stop>
     requires defines { W.can_define inside.now }
-    ensures did { Does (λ t. t) result (state_seen s.new (O.taken out.new)) (forms.unary_term (level (W.code inside.now) (W.depth inside.now)) at operator (part operand.now) (state_seen s.old (O.taken out.old))) }
+    ensures did { Does (λ t. t) result (state_seen s.new (O.told out.new)) (forms.unary_term (level (W.code inside.now) (W.depth inside.now)) at operator (part operand.now) (state_seen s.old (O.told out.old))) }
 {
     let operand = single_term(s, out, inside, operand);
     unary_of(s.alloc, at, operator, operand)
@@ -35,7 +35,7 @@ pub fn unary_term<O: Out, W: Defining<O>>(
 
 /// `a == b` and its like.
 #[tactic(auto, unfolding(comet_meaning::specs::TermForms::compare_term))]
-pub fn compare_term<O: Out, W: Defining<O>>(
+pub fn compare_term<O: Outside, W: Defining<O>>(
     s: &mut State,
     out: &mut O,
     inside: &W,
@@ -45,7 +45,7 @@ pub fn compare_term<O: Out, W: Defining<O>>(
     right: &Typed,
 ) -> Result<Built, Stop>
     requires defines { W.can_define inside.now }
-    ensures did { Does (λ t. t) result (state_seen s.new (O.taken out.new)) (forms.compare_term (level (W.code inside.now) (W.depth inside.now)) at comparison (part left.now) (part right.now) (state_seen s.old (O.taken out.old))) }
+    ensures did { Does (λ t. t) result (state_seen s.new (O.told out.new)) (forms.compare_term (level (W.code inside.now) (W.depth inside.now)) at comparison (part left.now) (part right.now) (state_seen s.old (O.told out.old))) }
 {
     let left = single_term(s, out, inside, left)?;
     let right = single_term(s, out, inside, right);
@@ -54,7 +54,7 @@ pub fn compare_term<O: Out, W: Defining<O>>(
 
 /// Operands joined by operators.
 #[tactic(auto, unfolding(comet_meaning::specs::TermForms::chain_term))]
-pub fn chain_term<O: Out, W: Defining<O>>(
+pub fn chain_term<O: Outside, W: Defining<O>>(
     s: &mut State,
     out: &mut O,
     inside: &W,
@@ -62,7 +62,7 @@ pub fn chain_term<O: Out, W: Defining<O>>(
     links: &[Link],
 ) -> Result<Built, Stop>
     requires defines { W.can_define inside.now }
-    ensures did { Does (λ t. t) result (state_seen s.new (O.taken out.new)) (forms.chain_term (level (W.code inside.now) (W.depth inside.now)) (part first.now) (links_seen links.now) (state_seen s.old (O.taken out.old))) }
+    ensures did { Does (λ t. t) result (state_seen s.new (O.told out.new)) (forms.chain_term (level (W.code inside.now) (W.depth inside.now)) (part first.now) (links_seen links.now) (state_seen s.old (O.told out.old))) }
 {
     let term = single_term(s, out, inside, first)?;
     links_term(s, out, inside, links, term)
@@ -70,7 +70,7 @@ pub fn chain_term<O: Out, W: Defining<O>>(
 
 /// A chain behind its first operand, which has this term: one operation where its operators are `&&` or `||`, and else an
 /// operation for each.
-fn links_term<O: Out, W: Defining<O>>(
+fn links_term<O: Outside, W: Defining<O>>(
     s: &mut State,
     out: &mut O,
     inside: &W,
@@ -78,7 +78,7 @@ fn links_term<O: Out, W: Defining<O>>(
     first: Built,
 ) -> Result<Built, Stop>
     requires defines { W.can_define inside.now }
-    ensures did { Does (λ t. t) result (state_seen s.new (O.taken out.new)) (forms.links_term (level (W.code inside.now) (W.depth inside.now)) (links_seen links.now) first (state_seen s.old (O.taken out.old))) }
+    ensures did { Does (λ t. t) result (state_seen s.new (O.told out.new)) (forms.links_term (level (W.code inside.now) (W.depth inside.now)) (links_seen links.now) first (state_seen s.old (O.told out.old))) }
 {
     match links.first() {
         None => joined_term(s, out, inside, links, first),
@@ -95,7 +95,7 @@ fn links_term<O: Out, W: Defining<O>>(
 }
 
 /// The operands behind the first, each joined to what stands before it.
-fn joined_term<O: Out, W: Defining<O>>(
+fn joined_term<O: Outside, W: Defining<O>>(
     s: &mut State,
     out: &mut O,
     inside: &W,
@@ -103,7 +103,7 @@ fn joined_term<O: Out, W: Defining<O>>(
     first: Built,
 ) -> Result<Built, Stop>
     requires defines { W.can_define inside.now }
-    ensures did { Does (λ t. t) result (state_seen s.new (O.taken out.new)) (forms.joined_form (level (W.code inside.now) (W.depth inside.now)) (links_seen links.now) first (state_seen s.old (O.taken out.old))) }
+    ensures did { Does (λ t. t) result (state_seen s.new (O.told out.new)) (forms.joined_form (level (W.code inside.now) (W.depth inside.now)) (links_seen links.now) first (state_seen s.old (O.told out.old))) }
 {
     let mut term = first;
     for link in links {
@@ -114,7 +114,7 @@ fn joined_term<O: Out, W: Defining<O>>(
 
 /// One more operand.
 #[tactic(auto, unfolding(comet_meaning::specs::TermForms::linked_term))]
-fn linked_term<O: Out, W: Defining<O>>(
+fn linked_term<O: Outside, W: Defining<O>>(
     s: &mut State,
     out: &mut O,
     inside: &W,
@@ -122,7 +122,7 @@ fn linked_term<O: Out, W: Defining<O>>(
     so_far: Built,
 ) -> Result<Built, Stop>
     requires defines { W.can_define inside.now }
-    ensures did { Does (λ t. t) result (state_seen s.new (O.taken out.new)) (forms.linked_term (level (W.code inside.now) (W.depth inside.now)) link.now.place link.now.operator (part link.now.operand) so_far (state_seen s.old (O.taken out.old))) }
+    ensures did { Does (λ t. t) result (state_seen s.new (O.told out.new)) (forms.linked_term (level (W.code inside.now) (W.depth inside.now)) link.now.place link.now.operator (part link.now.operand) so_far (state_seen s.old (O.told out.old))) }
 {
     let operand = single_term(s, out, inside, &link.operand);
     join_with(s.alloc, link.place, link.operator, so_far, operand)
@@ -130,7 +130,7 @@ fn linked_term<O: Out, W: Defining<O>>(
 
 /// One operation of all operands, at a place.
 #[tactic(auto, unfolding(comet_meaning::specs::TermForms::junction_form))]
-fn junction_term<O: Out, W: Defining<O>>(
+fn junction_term<O: Outside, W: Defining<O>>(
     s: &mut State,
     out: &mut O,
     inside: &W,
@@ -140,14 +140,14 @@ fn junction_term<O: Out, W: Defining<O>>(
     first: Built,
 ) -> Result<Built, Stop>
     requires defines { W.can_define inside.now }
-    ensures did { Does (λ t. t) result (state_seen s.new (O.taken out.new)) (forms.junction_form (level (W.code inside.now) (W.depth inside.now)) at operator (links_seen links.now) first (state_seen s.old (O.taken out.old))) }
+    ensures did { Does (λ t. t) result (state_seen s.new (O.told out.new)) (forms.junction_form (level (W.code inside.now) (W.depth inside.now)) at operator (links_seen links.now) first (state_seen s.old (O.told out.old))) }
 {
     let operands = operands_of(s, out, inside, links, first);
     join_all(at, operator, operands)
 }
 
 /// The terms of all operands, the first of which is known.
-fn operands_of<O: Out, W: Defining<O>>(
+fn operands_of<O: Outside, W: Defining<O>>(
     s: &mut State,
     out: &mut O,
     inside: &W,
@@ -155,7 +155,7 @@ fn operands_of<O: Out, W: Defining<O>>(
     first: Built,
 ) -> Result<Vec<Built>, Stop>
     requires defines { W.can_define inside.now }
-    ensures did { Does (λ terms. terms.items) result (state_seen s.new (O.taken out.new)) (forms.operands_form (level (W.code inside.now) (W.depth inside.now)) (links_seen links.now) (first ∷ []) (state_seen s.old (O.taken out.old))) }
+    ensures did { Does (λ terms. terms.items) result (state_seen s.new (O.told out.new)) (forms.operands_form (level (W.code inside.now) (W.depth inside.now)) (links_seen links.now) (first ∷ []) (state_seen s.old (O.told out.old))) }
 {
     let mut terms = Vec::new(s.alloc);
     terms.push(first)?;

@@ -2,7 +2,6 @@
 ghost use Rattle.std.specs.Prelude.{◌≡◌, ℕ, List, [], ◌∷◌, ◌++◌};
 ghost use Rattle.comet_meaning.specs.Parts as parts;
 ghost use Rattle.comet_meaning.specs.Program.{level};
-ghost use Rattle.run_state.specs.InTerms.{term_cells_seen};
 ghost use Rattle.run_state.specs.Views.{state_seen};
 ghost use Rattle.run_steps.specs.Does.{Does};
 ghost use Rattle.run_steps.specs.Views.{part, row};
@@ -10,35 +9,19 @@ ghost use Rattle.run_steps.specs.Views.{part, row};
 use checked_tree::Typed;
 use expression_forms::parts::single_term;
 use run_solvers::Built;
-use run_state::{Out, State, TermCells};
+use run_state::{Outside, State};
 use run_steps::inside::Defining;
-use run_steps::operands::as_several;
 use run_values::Stop;
 
-/// What a part stands for, as an array of terms.
-#[tactic(auto, unfolding(comet_meaning::specs::Parts::terms))]
-pub fn term_cells<O: Out, W: Defining<O>>(
-    s: &mut State,
-    out: &mut O,
-    inside: &W,
-    e: &Typed,
-) -> Result<TermCells, Stop>
-    requires defines { W.can_define inside.now }
-    ensures did { Does term_cells_seen result (state_seen s.new (O.taken out.new)) (parts.terms (level (W.code inside.now) (W.depth inside.now)) (part e.now) (state_seen s.old (O.taken out.old))) }
-{
-    let term = inside.define(s, out, e);
-    as_several(s.alloc, term)
-}
-
 /// The terms of parts, from the left.
-pub fn terms_of<O: Out, W: Defining<O>>(
+pub fn terms_of<O: Outside, W: Defining<O>>(
     s: &mut State,
     out: &mut O,
     inside: &W,
     es: &[Typed],
 ) -> Result<Vec<Built>, Stop>
     requires defines { W.can_define inside.now }
-    ensures did { Does (λ terms. terms.items) result (state_seen s.new (O.taken out.new)) (parts.each_term (level (W.code inside.now) (W.depth inside.now)) (row es.now) [] (state_seen s.old (O.taken out.old))) }
+    ensures did { Does (λ terms. terms.items) result (state_seen s.new (O.told out.new)) (parts.each_term (level (W.code inside.now) (W.depth inside.now)) (row es.now) [] (state_seen s.old (O.told out.old))) }
 {
     let mut terms = Vec::new(s.alloc);
     for e in es {

@@ -20,14 +20,14 @@ use cbl_base::Place;
 use checked_tree::{Form, Kind};
 use expression_forms::expressions::evaluate_form;
 use run_solvers::Built;
-use run_state::{InTerm, Out, State};
+use run_state::{InTerm, Outside, State};
 use run_steps::code::Code;
 use run_steps::inside::Defining;
 use run_steps::operands::{as_standing, name_term};
 use run_values::Stop;
 
 /// What an expression without incremental variables stands for: its value now.
-pub fn constant_term<O: Out, W: Defining<O>>(
+pub fn constant_term<O: Outside, W: Defining<O>>(
     s: &mut State,
     out: &mut O,
     inside: &W,
@@ -39,7 +39,7 @@ pub fn constant_term<O: Out, W: Defining<O>>(
     requires ready { W.is_ready inside.now }
     requires defines { W.can_define inside.now }
     requires same_code { W.code inside.now ≡ code_seen code.now }
-    ensures did { Does in_term_seen result (state_seen s.new (O.taken out.new)) (constant_form (W.code inside.now) (level (W.code inside.now) (W.depth inside.now)) at kind (shape_of form.now) (state_seen s.old (O.taken out.old))) }
+    ensures did { Does in_term_seen result (state_seen s.new (O.told out.new)) (constant_form (W.code inside.now) (level (W.code inside.now) (W.depth inside.now)) at kind (shape_of form.now) (state_seen s.old (O.told out.old))) }
 {
     let value = evaluate_form(s, out, inside, code, at, kind, form);
     as_standing(s, value)
@@ -47,7 +47,7 @@ pub fn constant_term<O: Out, W: Defining<O>>(
 
 /// What an expression with incremental variables at a place stands for, by its form.
 #[tactic(auto, unfolding(checked_tree::specs::Shape::shape_of, comet_meaning::specs::TermForms::moving_term))]
-pub fn moving_term<O: Out, W: Defining<O>>(
+pub fn moving_term<O: Outside, W: Defining<O>>(
     s: &mut State,
     out: &mut O,
     inside: &W,
@@ -56,7 +56,7 @@ pub fn moving_term<O: Out, W: Defining<O>>(
 ) -> Result<InTerm, Stop>
     requires ready { W.is_ready inside.now }
     requires defines { W.can_define inside.now }
-    ensures did { Does in_term_seen result (state_seen s.new (O.taken out.new)) (forms.moving_term (level (W.code inside.now) (W.depth inside.now)) at (shape_of form.now) (state_seen s.old (O.taken out.old))) }
+    ensures did { Does in_term_seen result (state_seen s.new (O.told out.new)) (forms.moving_term (level (W.code inside.now) (W.depth inside.now)) at (shape_of form.now) (state_seen s.old (O.told out.old))) }
 {
     match form {
         Form::Name(slot) => name_term(s, *slot),

@@ -5,8 +5,10 @@
 //! no call changes, that a box of one is one, and that `UserNode` is a `NumberNode` with that rule.
 #![tactic(auto)]
 
+mod local;
 mod node;
 mod user;
 
+pub use local::LocalConstraint;
 pub use node::UserNode;
 pub use user::UserConstraint;

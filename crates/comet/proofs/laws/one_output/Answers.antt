@@ -3,4 +3,4 @@ use Rattle.comet.proofs.OneOutput.{one_asked}
 use Rattle.comet.proofs.laws.one_output.Goals as goal
 
 pub returns : goal.returns
-returns c = λ words held cause other printed others r s. one_asked (asked words) held cause other printed others r s
+returns c = λ users words held cause other printed others r s. one_asked users (asked words) held cause other printed others r s

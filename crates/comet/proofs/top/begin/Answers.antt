@@ -4,4 +4,4 @@ use Rattle.comet.proofs.top.begin.Goals as goal
 
 pub returns : goal.returns
 unfolding start_with
-returns c = c.new.ensures
+returns g c = c.new.ensures

@@ -1,23 +1,28 @@
-use Rattle.std.proofs.Common.{◌≡◌, ◌∙◌, ap, subst}
+-- What is run begins with the users' constraints that were handed in; where there is no memory for these, nothing is written.
+use Rattle.std.proofs.Common.{◌≡◌, ◌∙◌, refl, ap, subst}
+use Rattle.std.specs.Prelude.{[]}
+use Rattle.cbl_io.specs.Appended.{Appends, AppendsFront}
 use Rattle.checked_tree.specs.Tasks.{program_of}
 use Rattle.comet_meaning.specs.Program.{run}
-use Rattle.run_state.specs.Views.{state_seen}
-use Rattle.stmt_run.specs.Ending.{EndsAs}
+use Rattle.run_outside.specs.HandedIn.{users_seen}
+use Rattle.run_standing.specs.Seen.{standing_seen}
 use Rattle.comet.specs.Output.{start_with}
-use Rattle.comet.proofs.Ending.{front_of_front, prints_front}
-use Rattle.comet.proofs.Pieces.{whole_front}
+use Rattle.comet.specs.Status.{cause_of}
+use Rattle.comet.proofs.Pieces.{appends_nothing}
 use Rattle.comet.proofs.top.run_to.Goals as goal
+
+pub returns-in-Ok-clause-exact : goal.returns-in-Ok-clause-exact
+returns-in-Ok-clause-exact g c = λ decides.
+    let begun : standing_seen c.begin.result [] ≡ start_with (users_seen g.U.LocalConstraint.user_name g.U.LocalConstraint.user_rule c.args.users.items) c.args.seed c.args.fuel c.args.text.items =
+    c.begin.ensures ∙ ap (λ us. start_with us c.args.seed c.args.fuel c.args.text.items) c.in-Ok.ensures in
+    subst (λ s. (c.run_from.result.cause ≡ cause_of (run (program_of c.args.program.now) s).end) × Appends (g.O.Sink.bytes c.args.out.now) (g.O.Sink.bytes c.run_from.new.out) (run (program_of c.args.program.now) s).printed) begun
+    (c.run_from.ensures.exact decides)
 
 pub returns-in-Ok-clause-front : goal.returns-in-Ok-clause-front
 returns-in-Ok-clause-front g c =
-    let first : state_seen c.begin.result c.new.result.items ≡ start_with c.args.seed c.args.fuel c.args.text.items =
-    ap (λ bytes. state_seen c.begin.result bytes) c.new.ensures.items ∙ c.begin.ensures in
-    let meant = subst (λ s. EndsAs c.run-ended.result.end c.run-ended.result.fuel c.run-ended.new.out.bytes.items (run (program_of c.args.program.now) s)) first c.run-ended.ensures.meant in
-    front_of_front _ _ c.as_slice.result.now _ (rw c.as_slice.ensures.value (prints_front _ _ _ _ meant)) (whole_front _ _ _ c.in-Ok.ensures.ok)
+    let begun : standing_seen c.begin.result [] ≡ start_with (users_seen g.U.LocalConstraint.user_name g.U.LocalConstraint.user_rule c.args.users.items) c.args.seed c.args.fuel c.args.text.items =
+    c.begin.ensures ∙ ap (λ us. start_with us c.args.seed c.args.fuel c.args.text.items) c.in-Ok.ensures in
+    subst (λ s. AppendsFront (g.O.Sink.bytes c.args.out.now) (g.O.Sink.bytes c.run_from.new.out) (run (program_of c.args.program.now) s).printed) begun c.run_from.ensures.front
 
-pub returns-clause-front : goal.returns-clause-front
-returns-clause-front g c =
-    let first : state_seen c.begin.result c.new.result.items ≡ start_with c.args.seed c.args.fuel c.args.text.items =
-    ap (λ bytes. state_seen c.begin.result bytes) c.new.ensures.items ∙ c.begin.ensures in
-    let meant = subst (λ s. EndsAs c.run-ended.result.end c.run-ended.result.fuel c.run-ended.new.out.bytes.items (run (program_of c.args.program.now) s)) first c.run-ended.ensures.meant in
-    front_of_front _ _ c.as_slice.result.now _ (rw c.as_slice.ensures.value (prints_front _ _ _ _ meant)) c.in-Err.ensures.err
+pub returns-in-Err-clause-front : goal.returns-in-Err-clause-front
+returns-in-Err-clause-front g c = ([], _, refl, appends_nothing _)

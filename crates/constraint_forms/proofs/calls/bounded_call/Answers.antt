@@ -6,7 +6,7 @@ use Rattle.constraint_forms.proofs.CallLaws.{two_are, two_arent}
 use Rattle.constraint_forms.proofs.calls.bounded_call.Goals as goal
 
 pub returns-then-arguments-ne2 : goal.returns-then-arguments-ne2
-returns-then-arguments-ne2 g c = record { did = two_arent _ _ _ c.if-arguments-ne2.true ∙ (ap (λ t. Went t (state_seen c.args.s.now (g.O.Out.taken c.args.out.now))) (sym c.constant.ensures)) }
+returns-then-arguments-ne2 g c = record { did = two_arent _ _ _ c.if-arguments-ne2.true ∙ (ap (λ t. Went t (state_seen c.args.s.now (g.O.Outside.told c.args.out.now))) (sym c.constant.ensures)) }
 
 pub returns : goal.returns
 returns g c = record { did = subst (Does _ _ _) (sym (two_are _ _ _ _ _ c.if-arguments-ne2.false c.index-arguments-0.is c.index-arguments-1.is)) c.bounded_term.ensures.did }

@@ -27,4 +27,4 @@ pub returns-in-Sequence : goal.returns-in-Sequence
 returns-in-Sequence g c = record { did = rw c.in-Sequence.is (subst (Does _ _ _) (sym (sequence_as _ _ _ _)) c.sequence_call.ensures.did) }
 
 pub returns-in_default : goal.returns-in_default
-returns-in_default g c = record { did = call_of_others _ _ _ _ _ c.in_default.not-AllDifferent c.in_default.not-AtMost c.in_default.not-AtLeast c.in_default.not-Exactly c.in_default.not-Knapsack c.in_default.not-MultiKnapsack c.in_default.not-Sequence ∙ (ap (λ t. Went t (state_seen c.args.s.now (g.O.Out.taken c.args.out.now))) (sym c.constant.ensures)) }
+returns-in_default g c = record { did = call_of_others _ _ _ _ _ c.in_default.not-AllDifferent c.in_default.not-AtMost c.in_default.not-AtLeast c.in_default.not-Exactly c.in_default.not-Knapsack c.in_default.not-MultiKnapsack c.in_default.not-Sequence ∙ (ap (λ t. Went t (state_seen c.args.s.now (g.O.Outside.told c.args.out.now))) (sym c.constant.ensures)) }

@@ -27,32 +27,32 @@ returns-in-Aggregate g c = record { did = rw (c.in-Aggregate.is, form_aggregate 
 
 pub returns-in-Builtin : goal.returns-in-Builtin
 unfolding constraint_form
-returns-in-Builtin g c = record { did = rw (c.in-Builtin.is, form_builtin _ _) (c.as_in_term-in-Builtin.ensures.did _ _ (rw c.deref-in-Builtin.ensures.value at c.constraint_call.ensures.did)) }
+returns-in-Builtin g c = record { did = rw (c.in-Builtin.is, form_builtin _ _) (rw c.deref-in-Builtin.ensures.value at c.function_form.ensures.did) }
 
 pub returns-in-Index : goal.returns-in-Index
 unfolding constraint_form
-returns-in-Index g c = record { did = rw (c.in-Index.is, form_index _ _) (ap (λ t. Went t (state_seen c.args.s.now (g.O.Out.taken c.args.out.now))) (sym c.zero-in-Index.ensures)) }
+returns-in-Index g c = record { did = rw (c.in-Index.is, form_index _ _) (ap (λ t. Went t (state_seen c.args.s.now (g.O.Outside.told c.args.out.now))) (sym c.zero-in-Index.ensures)) }
 
 pub returns-in-Cell : goal.returns-in-Cell
 unfolding constraint_form
-returns-in-Cell g c = record { did = rw (c.in-Cell.is, form_cell _ _ _) (ap (λ t. Went t (state_seen c.args.s.now (g.O.Out.taken c.args.out.now))) (sym c.zero-in-Cell.ensures)) }
+returns-in-Cell g c = record { did = rw (c.in-Cell.is, form_cell _ _ _) (ap (λ t. Went t (state_seen c.args.s.now (g.O.Outside.told c.args.out.now))) (sym c.zero-in-Cell.ensures)) }
 
 pub returns-in-List : goal.returns-in-List
 unfolding constraint_form
-returns-in-List g c = record { did = rw (c.in-List.is, form_list _) (ap (λ t. Went t (state_seen c.args.s.now (g.O.Out.taken c.args.out.now))) (sym c.zero-in-List.ensures)) }
+returns-in-List g c = record { did = rw (c.in-List.is, form_list _) (ap (λ t. Went t (state_seen c.args.s.now (g.O.Outside.told c.args.out.now))) (sym c.zero-in-List.ensures)) }
 
 pub returns-in-Set : goal.returns-in-Set
 unfolding constraint_form
-returns-in-Set g c = record { did = rw (c.in-Set.is, form_set _) (ap (λ t. Went t (state_seen c.args.s.now (g.O.Out.taken c.args.out.now))) (sym c.zero-in-Set.ensures)) }
+returns-in-Set g c = record { did = rw (c.in-Set.is, form_set _) (ap (λ t. Went t (state_seen c.args.s.now (g.O.Outside.told c.args.out.now))) (sym c.zero-in-Set.ensures)) }
 
 pub returns-in-Call : goal.returns-in-Call
 unfolding constraint_form
-returns-in-Call g c = record { did = rw (c.in-Call.is, form_call _ _) (ap (λ t. Went t (state_seen c.args.s.now (g.O.Out.taken c.args.out.now))) (sym c.zero-in-Call.ensures)) }
+returns-in-Call g c = record { did = rw (c.in-Call.is, form_call _ _) (ap (λ t. Went t (state_seen c.args.s.now (g.O.Outside.told c.args.out.now))) (sym c.zero-in-Call.ensures)) }
 
 pub returns-in-Method : goal.returns-in-Method
 unfolding constraint_form
-returns-in-Method g c = record { did = rw (c.in-Method.is, form_method _ _ _) (ap (λ t. Went t (state_seen c.args.s.now (g.O.Out.taken c.args.out.now))) (sym c.zero-in-Method.ensures)) }
+returns-in-Method g c = record { did = rw (c.in-Method.is, form_method _ _ _) (ap (λ t. Went t (state_seen c.args.s.now (g.O.Outside.told c.args.out.now))) (sym c.zero-in-Method.ensures)) }
 
 pub returns-in-Name : goal.returns-in-Name
 unfolding constraint_form
-returns-in-Name g c = record { did = rw (c.in-Name.is, form_name _) (ap (λ t. Went t (state_seen c.args.s.now (g.O.Out.taken c.args.out.now))) (sym c.zero-in-Name.ensures)) }
+returns-in-Name g c = record { did = rw (c.in-Name.is, form_name _) (ap (λ t. Went t (state_seen c.args.s.now (g.O.Outside.told c.args.out.now))) (sym c.zero-in-Name.ensures)) }

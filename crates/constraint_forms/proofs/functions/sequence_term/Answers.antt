@@ -24,4 +24,4 @@ returns-in_err-most g c = record { did = after _ _ _ _ c.in_ok-cells.ensures.did
 
 pub returns : goal.returns
 unfolding sequence_form
-returns g c = let f : FitsSigned w64 c.in_ok-most.most = search rules in record { did = after _ _ _ _ c.in_ok-cells.ensures.did (after _ _ _ _ c.in_ok-members.ensures.did (after _ _ _ _ c.in_ok-most.ensures.did (rw (to_z-of_z w64 c.in_ok-most.most f) at (c.sequence_with.ensures.did (g.O.Out.taken c.number_of-window.new.out) _ c.number_of-window.ensures.did)))) }
+returns g c = let f : FitsSigned w64 c.in_ok-most.most = search rules in record { did = after _ _ _ _ c.in_ok-cells.ensures.did (after _ _ _ _ c.in_ok-members.ensures.did (after _ _ _ _ c.in_ok-most.ensures.did (rw (to_z-of_z w64 c.in_ok-most.most f) at (c.sequence_with.ensures.did (g.O.Outside.told c.number_of-window.new.out) _ c.number_of-window.ensures.did)))) }

@@ -14,10 +14,10 @@ use Rattle.run_steps.proofs.Filling.{along_end, along_none, below, fits_next, re
 use Rattle.declaration_forms.proofs.array_declarations.+fill.Goals as goal
 
 pub fill_at-returns-in_err-put_named : goal.fill_at-returns-in_err-put_named
-fill_at-returns-in_err-put_named g t c = let p = err_from_is_err_and c.from_residual.result c.from_residual.ensures.1 in record { did = λ is. rw (p.1, p.2) (stopped_then _ _ _ _ (goes_put_named _ _) refl (λ _. goes_each_cell _ _ _ _ (λ js xs. goes_next_cell _ (goes_level _ _) _ _ js xs)) (simp (to_z-of_z w64 c.args.index c.ranges.index) at (c.in_err-put_named.ensures (g.O.Out.taken c.args.out.now)))) }
+fill_at-returns-in_err-put_named g t c = let p = err_from_is_err_and c.from_residual.result c.from_residual.ensures.1 in record { did = λ is. rw (p.1, p.2) (stopped_then _ _ _ _ (goes_put_named _ _) refl (λ _. goes_each_cell _ _ _ _ (λ js xs. goes_next_cell _ (goes_level _ _) _ _ js xs)) (simp (to_z-of_z w64 c.args.index c.ranges.index) at (c.in_err-put_named.ensures (g.O.Outside.told c.args.out.now)))) }
 
 pub fill_at-returns : goal.fill_at-returns
-fill_at-returns g t c = record { did = λ is. rw (simp (to_z-of_z w64 c.args.index c.ranges.index) at (c.in_ok-put_named.ensures (g.O.Out.taken c.args.out.now))) (c.fill.ensures.did (is ++ c.args.index ∷ [])) }
+fill_at-returns g t c = record { did = λ is. rw (simp (to_z-of_z w64 c.args.index c.ranges.index) at (c.in_ok-put_named.ensures (g.O.Outside.told c.args.out.now))) (c.fill.ensures.did (is ++ c.args.index ∷ [])) }
 
 pub fill-returns-in-None : goal.fill-returns-in-None
 fill-returns-in-None g t c = record { did = λ is. rw (cells_of_none _ is _ _ (rw c.in-None.is at c.first.ensures.value)) (c.push_cell.ensures.did is) }

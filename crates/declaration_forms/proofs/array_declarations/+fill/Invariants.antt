@@ -21,7 +21,7 @@ decreases-fill_along g l = 3 * length l.later.now + 14
 -- the indices that are left, from here, give what all give
 abbrev pub invariant-fill_along-indices : goal.invariant-fill_along-indices
 invariant-fill_along-indices g l =
-    (is : List ℤ) → AlongLeft (next_cell (level (g.W.Within.code l.inside) (g.W.Within.depth l.inside)) l.at (option_map seen (option_copied l.value))) l.extent.slot (map extent_seen l.later) is l.index l.extent.bounds.up l.filled.items (state_seen l.s (g.O.Out.taken l.out)) (along (next_cell (level (g.W.Within.code l.inside) (g.W.Within.depth l.inside)) l.at (option_map seen (option_copied l.value))) (extent_seen l.extent) (map extent_seen l.later) is l.fn.numbers.items (state_seen l.fn.s (g.O.Out.taken l.fn.out)))
+    (is : List ℤ) → AlongLeft (next_cell (level (g.W.Within.code l.inside) (g.W.Within.depth l.inside)) l.at (option_map seen (option_copied l.value))) l.extent.slot (map extent_seen l.later) is l.index l.extent.bounds.up l.filled.items (state_seen l.s (g.O.Outside.told l.out)) (along (next_cell (level (g.W.Within.code l.inside) (g.W.Within.depth l.inside)) l.at (option_map seen (option_copied l.value))) (extent_seen l.extent) (map extent_seen l.later) is l.fn.numbers.items (state_seen l.fn.s (g.O.Outside.told l.fn.out)))
 
 abbrev pub decreases-fill_along-indices : goal.decreases-fill_along-indices
 decreases-fill_along-indices g l = nat_abs (l.extent.bounds.up -ℤ l.index)

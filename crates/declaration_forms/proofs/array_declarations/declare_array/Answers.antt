@@ -18,4 +18,4 @@ returns-in_err-count g c = let p = err_from_is_err_and c.from_residual-in_err-co
 
 pub returns : goal.returns
 unfolding array_form
-returns g c = record { did = rw (c.in_ok-extents.ensures.did, ← c.as_slice-sides.ensures.value, c.in_ok-count.ensures.did (state_seen c.extents_of.new.s (g.O.Out.taken c.extents_of.new.out))) (c.make_array.ensures.did _ _ c.first_numbers-numbers.ensures.did) }
+returns g c = record { did = rw (c.in_ok-extents.ensures.did, ← c.as_slice-sides.ensures.value, c.in_ok-count.ensures.did (state_seen c.extents_of.new.s (g.O.Outside.told c.extents_of.new.out))) (c.make_array.ensures.did _ _ c.first_numbers-numbers.ensures.did) }

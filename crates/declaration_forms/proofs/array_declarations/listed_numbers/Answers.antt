@@ -3,4 +3,4 @@ use Rattle.declaration_forms.proofs.array_declarations.listed_numbers.Goals as g
 
 pub returns : goal.returns
 unfolding listed_form
-returns g c = record { did = c.take_list.ensures.did _ _ c.value_of-list.ensures.did }
+returns g c = record { did = c.take_list.ensures.did _ c.value_of-list.ensures.did }

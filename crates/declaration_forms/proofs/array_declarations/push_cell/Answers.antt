@@ -13,4 +13,4 @@ returns-in_err-charge g c = let p = err_from_is_err_and c.from_residual.result c
 
 pub returns : goal.returns
 unfolding next_cell
-returns g c = record { did = λ is. rw (c.in_ok-charge.ensures.did (g.O.Out.taken c.args.out.now)) (c.push_number.ensures.did _ _ c.start_number.ensures.did) }
+returns g c = record { did = λ is. rw (c.in_ok-charge.ensures.did (g.O.Outside.told c.args.out.now)) (c.push_number.ensures.did _ _ c.start_number.ensures.did) }

@@ -6,7 +6,7 @@ use Rattle.declaration_forms.proofs.declarations.beginning_of.Goals as goal
 
 pub returns-in-None : goal.returns-in-None
 unfolding beginning_form
-returns-in-None g c = record { did = rw c.in-None.is (ap (λ b. Went b (state_seen c.args.s.now (g.O.Out.taken c.args.out.now))) (sym c.begins_with.ensures)) }
+returns-in-None g c = record { did = rw c.in-None.is (ap (λ b. Went b (state_seen c.args.s.now (g.O.Outside.told c.args.out.now))) (sym c.begins_with.ensures)) }
 
 pub returns-in-Some : goal.returns-in-Some
 unfolding beginning_form

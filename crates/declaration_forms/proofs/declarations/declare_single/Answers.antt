@@ -14,4 +14,4 @@ returns-in_err-domain g c = let p = err_from_is_err_and c.from_residual.result c
 
 pub returns : goal.returns
 unfolding single_form
-returns g c = record { did = rw c.in_ok-domain.ensures.did (c.begin_variable.ensures.did _ _ (rw c.variable_kind-kind.ensures at c.beginning_of-beginning.ensures.did)) }
+returns g c = record { did = rw c.in_ok-domain.ensures.did (c.begin_variable.ensures.did _ (rw c.variable_kind-kind.ensures at c.beginning_of-beginning.ensures.did)) }

@@ -1,10 +1,11 @@
 use Rattle.comet_meaning.specs.Declarations.{object_form}
 use Rattle.declaration_forms.proofs.ObjectLaws.{object_of_others}
+use Rattle.run_state.specs.Views.{state_seen}
 use Rattle.declaration_forms.proofs.objects.declare_object.Goals as goal
 
 pub returns-in-Solver : goal.returns-in-Solver
 unfolding object_form
-returns-in-Solver g c = record { did = rw c.in-Solver.is (c.put_made.ensures.did _ _ (c.solver_made-made.ensures.did _)) }
+returns-in-Solver g c = record { did = rw c.in-Solver.is (c.put_made.ensures.did _ _ (c.solver_made-made.ensures.did (state_seen c.args.s.now (g.O.Outside.told c.args.out.now)))) }
 
 pub returns-in-Input : goal.returns-in-Input
 unfolding object_form

@@ -7,4 +7,4 @@ pub returns-then-arguments-ne1 : goal.returns-then-arguments-ne1
 returns-then-arguments-ne1 g c = record { did = made_in_others _ _ _ _ c.if-arguments-ne1.true }
 
 pub returns : goal.returns
-returns g c = record { did = subst (Does _ _ _) (sym (made_in_one _ _ _ _ _ c.if-arguments-ne1.false c.index-arguments-0.is)) (c.solution_made.ensures.did _ _ c.value_of-solver.ensures.did) }
+returns g c = record { did = subst (Does _ _ _) (sym (made_in_one _ _ _ _ _ c.if-arguments-ne1.false c.index-arguments-0.is)) (c.solution_made.ensures.did _ c.value_of-solver.ensures.did) }

@@ -27,13 +27,13 @@ goes_cells : (code : Code) (depth : ℕ) (at : Place) (v : Varying) (d : VarDecl
 goes_cells code depth at v d numbers ds is xs = goes_each_cell _ ds is xs (λ js ys. goes_variable_cell _ (goes_level code depth) at v d numbers js ys)
 
 pub make_at-returns-in_err-put_named : goal.make_at-returns-in_err-put_named
-make_at-returns-in_err-put_named g t c = let p = err_from_is_err_and c.from_residual.result c.from_residual.ensures.1 in record { did = rw (p.1, p.2) (stopped_then _ _ _ _ (goes_put_named _ _) refl (λ _. goes_cells (g.W.Within.code c.args.inside.now) (g.W.Within.depth c.args.inside.now) c.args.making.now.at (variable_of c.args.variable.now) c.args.making.now.decl (option_map (λ numbers. numbers.items) c.args.making.now.list) (map extent_seen c.args.later.now) (c.args.indices.now ++ c.args.index ∷ []) c.args.cells.items) (simp (to_z-of_z w64 c.args.index c.ranges.index) at (c.in_err-put_named.ensures (g.O.Out.taken c.args.out.now)))) }
+make_at-returns-in_err-put_named g t c = let p = err_from_is_err_and c.from_residual.result c.from_residual.ensures.1 in record { did = rw (p.1, p.2) (stopped_then _ _ _ _ (goes_put_named _ _) refl (λ _. goes_cells (g.W.Within.code c.args.inside.now) (g.W.Within.depth c.args.inside.now) c.args.making.now.at (variable_of c.args.variable.now) c.args.making.now.decl (option_map (λ numbers. numbers.items) c.args.making.now.list) (map extent_seen c.args.later.now) (c.args.indices.now ++ c.args.index ∷ []) c.args.cells.items) (simp (to_z-of_z w64 c.args.index c.ranges.index) at (c.in_err-put_named.ensures (g.O.Outside.told c.args.out.now)))) }
 
 pub make_at-returns-in_err-inner : goal.make_at-returns-in_err-inner
-make_at-returns-in_err-inner g t c = record { did = after _ _ _ _ (simp (to_z-of_z w64 c.args.index c.ranges.index) at (c.in_ok-put_named.ensures (g.O.Out.taken c.args.out.now))) (exit _ _ _ _ _ c.from_residual-in_err-inner.ensures.1 (memory_ends _ _ _ c.in_err-inner.ensures.memory ((goes_cells (g.W.Within.code c.args.inside.now) (g.W.Within.depth c.args.inside.now) c.args.making.now.at (variable_of c.args.variable.now) c.args.making.now.decl (option_map (λ numbers. numbers.items) c.args.making.now.list) (map extent_seen c.args.later.now) (c.args.indices.now ++ c.args.index ∷ []) c.args.cells.items).from (state_seen c.put_named.new.s (g.O.Out.taken c.args.out.now))).printed)) }
+make_at-returns-in_err-inner g t c = record { did = after _ _ _ _ (simp (to_z-of_z w64 c.args.index c.ranges.index) at (c.in_ok-put_named.ensures (g.O.Outside.told c.args.out.now))) (exit _ _ _ _ _ c.from_residual-in_err-inner.ensures.1 (memory_ends _ _ _ c.in_err-inner.ensures.memory ((goes_cells (g.W.Within.code c.args.inside.now) (g.W.Within.depth c.args.inside.now) c.args.making.now.at (variable_of c.args.variable.now) c.args.making.now.decl (option_map (λ numbers. numbers.items) c.args.making.now.list) (map extent_seen c.args.later.now) (c.args.indices.now ++ c.args.index ∷ []) c.args.cells.items).from (state_seen c.put_named.new.s (g.O.Outside.told c.args.out.now))).printed)) }
 
 pub make_at-returns : goal.make_at-returns
-make_at-returns g t c = record { did = rw (simp (to_z-of_z w64 c.args.index c.ranges.index) at (c.in_ok-put_named.ensures (g.O.Out.taken c.args.out.now))) (rw (c.deref.ensures.value, c.in_ok-inner.ensures.more, to_z-of_z w64 c.args.index c.ranges.index) at c.make.ensures.did) }
+make_at-returns g t c = record { did = rw (simp (to_z-of_z w64 c.args.index c.ranges.index) at (c.in_ok-put_named.ensures (g.O.Outside.told c.args.out.now))) (rw (c.deref.ensures.value, c.in_ok-inner.ensures.more, to_z-of_z w64 c.args.index c.ranges.index) at c.make.ensures.did) }
 
 pub make-returns-in-None : goal.make-returns-in-None
 make-returns-in-None g t c = record { did = rw (cells_of_none _ _ _ _ (rw c.in-None.is at c.first.ensures.value)) c.push_cell.ensures.did }

@@ -20,7 +20,7 @@ decreases-make_along g l = 3 * length l.later.now + 14
 -- the indices that are left, from here, give what all give
 abbrev pub invariant-make_along-sides : goal.invariant-make_along-sides
 invariant-make_along-sides g l =
-    AlongLeft (variable_cell (level (g.W.Within.code l.inside) (g.W.Within.depth l.inside)) l.making.at (variable_of l.variable) l.making.decl (option_map (λ numbers. numbers.items) l.making.list)) l.extent.slot (map extent_seen l.later) l.indices l.index l.extent.bounds.up l.made.items (state_seen l.s (g.O.Out.taken l.out)) (along (variable_cell (level (g.W.Within.code l.inside) (g.W.Within.depth l.inside)) l.making.at (variable_of l.variable) l.making.decl (option_map (λ numbers. numbers.items) l.making.list)) (extent_seen l.extent) (map extent_seen l.later) l.indices l.fn.cells.items (state_seen l.fn.s (g.O.Out.taken l.fn.out)))
+    AlongLeft (variable_cell (level (g.W.Within.code l.inside) (g.W.Within.depth l.inside)) l.making.at (variable_of l.variable) l.making.decl (option_map (λ numbers. numbers.items) l.making.list)) l.extent.slot (map extent_seen l.later) l.indices l.index l.extent.bounds.up l.made.items (state_seen l.s (g.O.Outside.told l.out)) (along (variable_cell (level (g.W.Within.code l.inside) (g.W.Within.depth l.inside)) l.making.at (variable_of l.variable) l.making.decl (option_map (λ numbers. numbers.items) l.making.list)) (extent_seen l.extent) (map extent_seen l.later) l.indices l.fn.cells.items (state_seen l.fn.s (g.O.Outside.told l.fn.out)))
 
 abbrev pub decreases-make_along-sides : goal.decreases-make_along-sides
 decreases-make_along-sides g l = nat_abs (l.extent.bounds.up -ℤ l.index)

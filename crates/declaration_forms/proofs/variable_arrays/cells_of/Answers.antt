@@ -18,13 +18,13 @@ begun : (l : Level) (at : Place) (v : Varying) (d : VarDecl) (ds : List Dimensio
 begun l at v d ds s e = ap (λ x. cells_form l at v d ds (option_map start_of x) s) e
 
 pub returns-in-None : goal.returns-in-None
-returns-in-None g c = record { did = subst (Does _ _ _) (sym (begun (level (g.W.Within.code c.args.inside.now) (g.W.Within.depth c.args.inside.now)) c.args.at (variable_of c.args.variable.now) c.args.decl (map extent_seen c.args.extents.now) (state_seen c.args.s.now (g.O.Out.taken c.args.out.now)) c.in-None.is)) c.started_cells.ensures.did }
+returns-in-None g c = record { did = subst (Does _ _ _) (sym (begun (level (g.W.Within.code c.args.inside.now) (g.W.Within.depth c.args.inside.now)) c.args.at (variable_of c.args.variable.now) c.args.decl (map extent_seen c.args.extents.now) (state_seen c.args.s.now (g.O.Outside.told c.args.out.now)) c.in-None.is)) c.started_cells.ensures.did }
 
 pub returns-in-List : goal.returns-in-List
-returns-in-List g c = record { did = subst (Does _ _ _) (sym (begun (level (g.W.Within.code c.args.inside.now) (g.W.Within.depth c.args.inside.now)) c.args.at (variable_of c.args.variable.now) c.args.decl (map extent_seen c.args.extents.now) (state_seen c.args.s.now (g.O.Out.taken c.args.out.now)) c.in-Some.is)) (rw c.in-List.is c.listed_cells.ensures.did) }
+returns-in-List g c = record { did = subst (Does _ _ _) (sym (begun (level (g.W.Within.code c.args.inside.now) (g.W.Within.depth c.args.inside.now)) c.args.at (variable_of c.args.variable.now) c.args.decl (map extent_seen c.args.extents.now) (state_seen c.args.s.now (g.O.Outside.told c.args.out.now)) c.in-Some.is)) (rw c.in-List.is c.listed_cells.ensures.did) }
 
 pub returns-in-Each : goal.returns-in-Each
-returns-in-Each g c = record { did = subst (Does _ _ _) (sym (begun (level (g.W.Within.code c.args.inside.now) (g.W.Within.depth c.args.inside.now)) c.args.at (variable_of c.args.variable.now) c.args.decl (map extent_seen c.args.extents.now) (state_seen c.args.s.now (g.O.Out.taken c.args.out.now)) c.in-Some.is)) (rw c.in-Each.is c.started_cells-in-Each.ensures.did) }
+returns-in-Each g c = record { did = subst (Does _ _ _) (sym (begun (level (g.W.Within.code c.args.inside.now) (g.W.Within.depth c.args.inside.now)) c.args.at (variable_of c.args.variable.now) c.args.decl (map extent_seen c.args.extents.now) (state_seen c.args.s.now (g.O.Outside.told c.args.out.now)) c.in-Some.is)) (rw c.in-Each.is c.started_cells-in-Each.ensures.did) }
 
 pub returns-in-Define : goal.returns-in-Define
-returns-in-Define g c = record { did = subst (Does _ _ _) (sym (begun (level (g.W.Within.code c.args.inside.now) (g.W.Within.depth c.args.inside.now)) c.args.at (variable_of c.args.variable.now) c.args.decl (map extent_seen c.args.extents.now) (state_seen c.args.s.now (g.O.Out.taken c.args.out.now)) c.in-Some.is)) (rw c.in-Define.is c.started_cells-in-Define.ensures.did) }
+returns-in-Define g c = record { did = subst (Does _ _ _) (sym (begun (level (g.W.Within.code c.args.inside.now) (g.W.Within.depth c.args.inside.now)) c.args.at (variable_of c.args.variable.now) c.args.decl (map extent_seen c.args.extents.now) (state_seen c.args.s.now (g.O.Outside.told c.args.out.now)) c.in-Some.is)) (rw c.in-Define.is c.started_cells-in-Define.ensures.did) }

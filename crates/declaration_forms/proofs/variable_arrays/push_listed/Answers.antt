@@ -19,4 +19,4 @@ unfolding listed_cell
 returns g c =
     let f : FitsSigned w64 c.number_at-number.result = search rules in
     let n : c.len.result ≡ length c.args.cells.items = omega (arith, c.len.ensures, c.args.cells.ok.0) in
-    record { did = rw (c.in_ok-charge.ensures.did (g.O.Out.taken c.args.out.now)) (rw (c.begins_with-beginning.ensures, c.variable_kind.ensures, to_z-of_z w64 c.number_at-number.result f, c.number_at-number.ensures, n) at (c.push_variable.ensures.did (g.O.Out.taken c.args.out.now) (Went (beginning_seen c.begins_with-beginning.result) _) refl)) }
+    record { did = rw (c.in_ok-charge.ensures.did (g.O.Outside.told c.args.out.now)) (rw (c.begins_with-beginning.ensures, c.variable_kind.ensures, to_z-of_z w64 c.number_at-number.result f, c.number_at-number.ensures, n) at (c.push_variable.ensures.did (Went (beginning_seen c.begins_with-beginning.result) _) refl)) }

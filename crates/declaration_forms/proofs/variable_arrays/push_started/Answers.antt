@@ -15,4 +15,4 @@ returns-in_err-charge g c = let p = err_from_is_err_and c.from_residual.result c
 
 pub returns : goal.returns
 unfolding next_cell
-returns g c = record { did = rw (c.in_ok-charge.ensures.did (g.O.Out.taken c.args.out.now)) (c.push_variable.ensures.did _ _ (rw c.variable_kind-kind.ensures at c.beginning_of-beginning.ensures.did)) }
+returns g c = record { did = rw (c.in_ok-charge.ensures.did (g.O.Outside.told c.args.out.now)) (c.push_variable.ensures.did _ (rw c.variable_kind-kind.ensures at c.beginning_of-beginning.ensures.did)) }

@@ -15,7 +15,7 @@ use Rattle.event_forms.proofs.queue.react.Goals as goal
 
 pub returns-in_err-reaction : goal.returns-in_err-reaction
 returns-in_err-reaction g c =
-    let s = state_seen c.args.s.now (g.O.Out.taken c.args.out.now) in
+    let s = state_seen c.args.s.now (g.O.Outside.told c.args.out.now) in
     let l = level (g.W.Within.code c.args.inside.now) (g.W.Within.depth c.args.inside.now) in
     let e = event_seen c.args.event in
     let r = slice_index_or s.search.reactions c.args.event.closure no_reaction in

@@ -15,13 +15,13 @@ pub events-init : goal.events-init
 events-init g c = record { left = refl }
 
 pub returns-in-None : goal.returns-in-None
-returns-in-None g c = record { did = turn_ends c.events.invariant (takes_event _ _) _ _ (no_event (level (g.W.Within.code c.args.inside.now) (g.W.Within.depth c.args.inside.now)) (state_seen c.events.s (g.O.Out.taken c.events.out)) (search_seen c.next_event.new.self) (rw c.in-None.is at c.next_event.ensures.first) c.next_event.ensures.left) }
+returns-in-None g c = record { did = turn_ends c.events.invariant (takes_event _ _) _ _ (no_event (level (g.W.Within.code c.args.inside.now) (g.W.Within.depth c.args.inside.now)) (state_seen c.events.s (g.O.Outside.told c.events.out)) (search_seen c.next_event.new.self) (rw c.in-None.is at c.next_event.ensures.first) c.next_event.ensures.left) }
 
 pub returns-in_err-react-in-Some : goal.returns-in_err-react-in-Some
-returns-in_err-react-in-Some g c = record { did = exit _ _ _ _ _ c.from_residual.ensures.1 (turn_stops c.events.invariant (takes_event _ _) (goes_next_event _ (goes_level _ _)) _ _ (event_ends (level (g.W.Within.code c.args.inside.now) (g.W.Within.depth c.args.inside.now)) (state_seen c.events.s (g.O.Out.taken c.events.out)) _ (search_seen c.next_event.new.self) (event_seen c.in-Some.event) _ (rw c.in-Some.is at c.next_event.ensures.first) c.next_event.ensures.left c.in_err-react-in-Some.ensures.did)) }
+returns-in_err-react-in-Some g c = record { did = exit _ _ _ _ _ c.from_residual.ensures.1 (turn_stops c.events.invariant (takes_event _ _) (goes_next_event _ (goes_level _ _)) _ _ (event_ends (level (g.W.Within.code c.args.inside.now) (g.W.Within.depth c.args.inside.now)) (state_seen c.events.s (g.O.Outside.told c.events.out)) _ (search_seen c.next_event.new.self) (event_seen c.in-Some.event) _ (rw c.in-Some.is at c.next_event.ensures.first) c.next_event.ensures.left c.in_err-react-in-Some.ensures.did)) }
 
 pub events-preserved : goal.events-preserved
-events-preserved g c = turn_goes_on c.events.invariant (takes_event _ _) _ (event_went (level (g.W.Within.code c.args.inside.now) (g.W.Within.depth c.args.inside.now)) (state_seen c.events.s (g.O.Out.taken c.events.out)) _ (search_seen c.next_event.new.self) (event_seen c.in-Some.event) (rw c.in-Some.is at c.next_event.ensures.first) c.next_event.ensures.left c.in_ok-react-in-Some.ensures.did)
+events-preserved g c = turn_goes_on c.events.invariant (takes_event _ _) _ (event_went (level (g.W.Within.code c.args.inside.now) (g.W.Within.depth c.args.inside.now)) (state_seen c.events.s (g.O.Outside.told c.events.out)) _ (search_seen c.next_event.new.self) (event_seen c.in-Some.event) (rw c.in-Some.is at c.next_event.ensures.first) c.next_event.ensures.left c.in_ok-react-in-Some.ensures.did)
 
 pub events-smaller : goal.events-smaller
-events-smaller g c = turn_spends c.events.invariant (takes_event _ _) _ (event_went (level (g.W.Within.code c.args.inside.now) (g.W.Within.depth c.args.inside.now)) (state_seen c.events.s (g.O.Out.taken c.events.out)) _ (search_seen c.next_event.new.self) (event_seen c.in-Some.event) (rw c.in-Some.is at c.next_event.ensures.first) c.next_event.ensures.left c.in_ok-react-in-Some.ensures.did)
+events-smaller g c = turn_spends c.events.invariant (takes_event _ _) _ (event_went (level (g.W.Within.code c.args.inside.now) (g.W.Within.depth c.args.inside.now)) (state_seen c.events.s (g.O.Outside.told c.events.out)) _ (search_seen c.next_event.new.self) (event_seen c.in-Some.event) (rw c.in-Some.is at c.next_event.ensures.first) c.next_event.ensures.left c.in_ok-react-in-Some.ensures.did)

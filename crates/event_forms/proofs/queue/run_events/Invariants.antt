@@ -8,7 +8,7 @@ use Rattle.event_forms.proofs.queue.run_events.Given as goal
 -- the events that are left, from here, are the run of the queue from the start
 abbrev pub invariant-events : goal.invariant-events
 invariant-events g l =
-    TurnsLeft l.fn.at (next_event (level (g.W.Within.code l.inside) (g.W.Within.depth l.inside))) (state_seen l.s (g.O.Out.taken l.out)) (repeated l.fn.at (next_event (level (g.W.Within.code l.inside) (g.W.Within.depth l.inside))) (state_seen l.fn.s (g.O.Out.taken l.fn.out)))
+    TurnsLeft l.fn.at (next_event (level (g.W.Within.code l.inside) (g.W.Within.depth l.inside))) (state_seen l.s (g.O.Outside.told l.out)) (repeated l.fn.at (next_event (level (g.W.Within.code l.inside) (g.W.Within.depth l.inside))) (state_seen l.fn.s (g.O.Outside.told l.fn.out)))
 
 abbrev pub decreases-events : goal.decreases-events
 decreases-events g l = l.s.fuel

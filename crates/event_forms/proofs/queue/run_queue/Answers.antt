@@ -6,7 +6,7 @@ use Rattle.run_state.specs.Views.{state_seen}
 use Rattle.event_forms.proofs.queue.run_queue.Goals as goal
 
 pub returns-then-is_running : goal.returns-then-is_running
-returns-then-is_running g c = record { did = queue_idle (level (g.W.Within.code c.args.inside.now) (g.W.Within.depth c.args.inside.now)) c.args.at (state_seen c.args.s.now (g.O.Out.taken c.args.out.now)) (sym c.is_running.ensures ∙ c.if-is_running.true) }
+returns-then-is_running g c = record { did = queue_idle (level (g.W.Within.code c.args.inside.now) (g.W.Within.depth c.args.inside.now)) c.args.at (state_seen c.args.s.now (g.O.Outside.told c.args.out.now)) (sym c.is_running.ensures ∙ c.if-is_running.true) }
 
 pub returns : goal.returns
-returns g c = record { did = rw (queue_runs (level (g.W.Within.code c.args.inside.now) (g.W.Within.depth c.args.inside.now)) c.args.at (state_seen c.args.s.now (g.O.Out.taken c.args.out.now)) (sym c.is_running.ensures ∙ c.if-is_running.false)) c.run_all.ensures.did }
+returns g c = record { did = rw (queue_runs (level (g.W.Within.code c.args.inside.now) (g.W.Within.depth c.args.inside.now)) c.args.at (state_seen c.args.s.now (g.O.Outside.told c.args.out.now)) (sym c.is_running.ensures ∙ c.if-is_running.false)) c.run_all.ensures.did }

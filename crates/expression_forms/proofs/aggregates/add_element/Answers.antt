@@ -17,4 +17,4 @@ unfolding element_form
 returns-in_err-passes g c = record { did = call_exit _ _ _ _ _ _ c.from_residual.ensures.1 c.in_err-passes.ensures.did (λ t. goes_if t (goes_then (goes_value _ (goes_level _ _) _) (λ v. goes_with_element c.args.at c.args.aggregate c.args.key (map element_seen c.args.elements.now.items) v)) goes_give) }
 
 pub returns : goal.returns
-returns g c = record { did = subst (Does _ _ _) (sym (element_adds _ _ _ _ _ _ _ _ c.in_ok-passes.ensures.did c.if-not-branch.false c.in_ok-value.ensures.did)) (act_does _ _ _ _ (rw (to_z-of_z w64 c.args.key c.ranges.key) at (c.push_element.ensures.did (state_seen c.value_of.new.s (g.O.Out.taken c.value_of.new.out)))) ((goes_with_element c.args.at c.args.aggregate c.args.key (map element_seen c.args.elements.now.items) (value_seen c.in_ok-value.value)).from _).printed) }
+returns g c = record { did = subst (Does _ _ _) (sym (element_adds _ _ _ _ _ _ _ _ c.in_ok-passes.ensures.did c.if-not-branch.false c.in_ok-value.ensures.did)) (act_does _ _ _ _ (rw (to_z-of_z w64 c.args.key c.ranges.key) at (c.push_element.ensures.did (state_seen c.value_of.new.s (g.O.Outside.told c.value_of.new.out)))) ((goes_with_element c.args.at c.args.aggregate c.args.key (map element_seen c.args.elements.now.items) (value_seen c.in_ok-value.value)).from _).printed) }

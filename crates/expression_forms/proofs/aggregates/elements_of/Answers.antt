@@ -12,25 +12,25 @@ use Rattle.run_state.specs.Views.{state_seen}
 use Rattle.expression_forms.proofs.aggregates.elements_of.Goals as goal
 
 pub returns-then-generators-eq0 : goal.returns-then-generators-eq0
-returns-then-generators-eq0 g c = record { did = rw c.new-elements.ensures.items (no_elements (g.W.Within.code c.args.inside.now) (g.W.Within.depth c.args.inside.now) c.args.at c.args.aggregate (part_or_none c.args.condition.now) (part c.args.body.now) c.args.generators.now (state_seen c.args.s.now (g.O.Out.taken c.args.out.now)) c.if-generators-eq0.true) }
+returns-then-generators-eq0 g c = record { did = rw c.new-elements.ensures.items (no_elements (g.W.Within.code c.args.inside.now) (g.W.Within.depth c.args.inside.now) c.args.at c.args.aggregate (part_or_none c.args.condition.now) (part c.args.body.now) c.args.generators.now (state_seen c.args.s.now (g.O.Outside.told c.args.out.now)) c.if-generators-eq0.true) }
 
 pub returns-in_err-domain : goal.returns-in_err-domain
-returns-in_err-domain g c = record { did = exit _ _ _ _ _ c.from_residual.ensures.1 (elements_end (g.W.Within.code c.args.inside.now) (g.W.Within.depth c.args.inside.now) c.args.at c.args.aggregate (part_or_none c.args.condition.now) (part c.args.body.now) c.args.generators.now c.index-generators-0.result (omega (arith, c.if-generators-eq0.false)) c.index-generators-0.is (state_seen c.args.s.now (g.O.Out.taken c.args.out.now)) _ _ c.in_err-domain.ensures.did) }
+returns-in_err-domain g c = record { did = exit _ _ _ _ _ c.from_residual.ensures.1 (elements_end (g.W.Within.code c.args.inside.now) (g.W.Within.depth c.args.inside.now) c.args.at c.args.aggregate (part_or_none c.args.condition.now) (part c.args.body.now) c.args.generators.now c.index-generators-0.result (omega (arith, c.if-generators-eq0.false)) c.index-generators-0.is (state_seen c.args.s.now (g.O.Outside.told c.args.out.now)) _ _ c.in_err-domain.ensures.did) }
 
 pub loop-tuples-init : goal.loop-tuples-init
-loop-tuples-init g c = record { left = rw (c.new-elements.ensures.items, c.new.ensures.items, c.pending_of.ensures) (elements_open (g.W.Within.code c.args.inside.now) (g.W.Within.depth c.args.inside.now) c.args.at c.args.aggregate (part_or_none c.args.condition.now) (part c.args.body.now) c.args.generators.now c.index-generators-0.result (omega (arith, c.if-generators-eq0.false)) c.index-generators-0.is (state_seen c.args.s.now (g.O.Out.taken c.args.out.now)) c.in_ok-domain.ensures.did); inside = rw c.new.ensures.items (omega (arith, c.if-generators-eq0.false)) }
+loop-tuples-init g c = record { left = rw (c.new-elements.ensures.items, c.new.ensures.items, c.pending_of.ensures) (elements_open (g.W.Within.code c.args.inside.now) (g.W.Within.depth c.args.inside.now) c.args.at c.args.aggregate (part_or_none c.args.condition.now) (part c.args.body.now) c.args.generators.now c.index-generators-0.result (omega (arith, c.if-generators-eq0.false)) c.index-generators-0.is (state_seen c.args.s.now (g.O.Outside.told c.args.out.now)) c.in_ok-domain.ensures.did); inside = rw c.new.ensures.items (omega (arith, c.if-generators-eq0.false)) }
 
 pub returns-in_err-key : goal.returns-in_err-key
-returns-in_err-key g c = record { did = exit _ _ _ _ _ c.from_residual-in_err-key.ensures.1 (c.in_err-key.ensures.did (gathers (g.W.Within.code c.args.inside.now) (g.W.Within.depth c.args.inside.now) c.args.at c.args.aggregate (part_or_none c.args.condition.now) (part c.args.body.now) (map element_seen c.loop-tuples.elements.items) (all_elements (g.W.Within.code c.args.inside.now) (g.W.Within.depth c.args.inside.now) c.args.at c.args.aggregate (part_or_none c.args.condition.now) (part c.args.body.now) c.args.generators.now (state_seen c.args.s.now (g.O.Out.taken c.args.out.now)))) c.loop-tuples.invariant.left) }
+returns-in_err-key g c = record { did = exit _ _ _ _ _ c.from_residual-in_err-key.ensures.1 (c.in_err-key.ensures.did (gathers (g.W.Within.code c.args.inside.now) (g.W.Within.depth c.args.inside.now) c.args.at c.args.aggregate (part_or_none c.args.condition.now) (part c.args.body.now) (map element_seen c.loop-tuples.elements.items) (all_elements (g.W.Within.code c.args.inside.now) (g.W.Within.depth c.args.inside.now) c.args.at c.args.aggregate (part_or_none c.args.condition.now) (part c.args.body.now) c.args.generators.now (state_seen c.args.s.now (g.O.Outside.told c.args.out.now)))) c.loop-tuples.invariant.left) }
 
 pub loop-tuples-smaller : goal.loop-tuples-smaller
 loop-tuples-smaller g c = let falls : c.next_tuple.new.s.fuel < c.loop-tuples.s.fuel = rw c.in-Some.is at c.in_ok-key.ensures.falls in omega (arith, falls, went_fuel _ (goes_element _ (goes_level _ _) _ _ _ _ _ _) c.in_ok-add_element.ensures.did)
 
 pub loop-tuples-preserved : goal.loop-tuples-preserved
-loop-tuples-preserved g c = let f : FitsSigned w64 c.in-Some.key = search rules in record { left = element_added (g.W.Within.code c.args.inside.now) (g.W.Within.depth c.args.inside.now) c.args.at c.args.aggregate (part_or_none c.args.condition.now) (part c.args.body.now) c.args.generators.now (map element_seen c.loop-tuples.elements.items) (all_elements (g.W.Within.code c.args.inside.now) (g.W.Within.depth c.args.inside.now) c.args.at c.args.aggregate (part_or_none c.args.condition.now) (part c.args.body.now) c.args.generators.now (state_seen c.args.s.now (g.O.Out.taken c.args.out.now))) _ _ c.in-Some.key _ (rw c.in-Some.is at (c.in_ok-key.ensures.did (gathers (g.W.Within.code c.args.inside.now) (g.W.Within.depth c.args.inside.now) c.args.at c.args.aggregate (part_or_none c.args.condition.now) (part c.args.body.now) (map element_seen c.loop-tuples.elements.items) (all_elements (g.W.Within.code c.args.inside.now) (g.W.Within.depth c.args.inside.now) c.args.at c.args.aggregate (part_or_none c.args.condition.now) (part c.args.body.now) c.args.generators.now (state_seen c.args.s.now (g.O.Out.taken c.args.out.now)))) c.loop-tuples.invariant.left)) (rw (to_z-of_z w64 c.in-Some.key f) at c.in_ok-add_element.ensures.did); inside = c.in_ok-key.ensures.inside }
+loop-tuples-preserved g c = let f : FitsSigned w64 c.in-Some.key = search rules in record { left = element_added (g.W.Within.code c.args.inside.now) (g.W.Within.depth c.args.inside.now) c.args.at c.args.aggregate (part_or_none c.args.condition.now) (part c.args.body.now) c.args.generators.now (map element_seen c.loop-tuples.elements.items) (all_elements (g.W.Within.code c.args.inside.now) (g.W.Within.depth c.args.inside.now) c.args.at c.args.aggregate (part_or_none c.args.condition.now) (part c.args.body.now) c.args.generators.now (state_seen c.args.s.now (g.O.Outside.told c.args.out.now))) _ _ c.in-Some.key _ (rw c.in-Some.is at (c.in_ok-key.ensures.did (gathers (g.W.Within.code c.args.inside.now) (g.W.Within.depth c.args.inside.now) c.args.at c.args.aggregate (part_or_none c.args.condition.now) (part c.args.body.now) (map element_seen c.loop-tuples.elements.items) (all_elements (g.W.Within.code c.args.inside.now) (g.W.Within.depth c.args.inside.now) c.args.at c.args.aggregate (part_or_none c.args.condition.now) (part c.args.body.now) c.args.generators.now (state_seen c.args.s.now (g.O.Outside.told c.args.out.now)))) c.loop-tuples.invariant.left)) (rw (to_z-of_z w64 c.in-Some.key f) at c.in_ok-add_element.ensures.did); inside = c.in_ok-key.ensures.inside }
 
 pub returns-in_err-add_element : goal.returns-in_err-add_element
-returns-in_err-add_element g c = let f : FitsSigned w64 c.in-Some.key = search rules in record { did = exit _ _ _ _ _ c.from_residual-in_err-add_element.ensures.1 (element_ends (g.W.Within.code c.args.inside.now) (g.W.Within.depth c.args.inside.now) c.args.at c.args.aggregate (part_or_none c.args.condition.now) (part c.args.body.now) c.args.generators.now (map element_seen c.loop-tuples.elements.items) (all_elements (g.W.Within.code c.args.inside.now) (g.W.Within.depth c.args.inside.now) c.args.at c.args.aggregate (part_or_none c.args.condition.now) (part c.args.body.now) c.args.generators.now (state_seen c.args.s.now (g.O.Out.taken c.args.out.now))) _ _ c.in-Some.key _ (rw c.in-Some.is at (c.in_ok-key.ensures.did (gathers (g.W.Within.code c.args.inside.now) (g.W.Within.depth c.args.inside.now) c.args.at c.args.aggregate (part_or_none c.args.condition.now) (part c.args.body.now) (map element_seen c.loop-tuples.elements.items) (all_elements (g.W.Within.code c.args.inside.now) (g.W.Within.depth c.args.inside.now) c.args.at c.args.aggregate (part_or_none c.args.condition.now) (part c.args.body.now) c.args.generators.now (state_seen c.args.s.now (g.O.Out.taken c.args.out.now)))) c.loop-tuples.invariant.left)) _ _ (rw (to_z-of_z w64 c.in-Some.key f) at c.in_err-add_element.ensures.did)) }
+returns-in_err-add_element g c = let f : FitsSigned w64 c.in-Some.key = search rules in record { did = exit _ _ _ _ _ c.from_residual-in_err-add_element.ensures.1 (element_ends (g.W.Within.code c.args.inside.now) (g.W.Within.depth c.args.inside.now) c.args.at c.args.aggregate (part_or_none c.args.condition.now) (part c.args.body.now) c.args.generators.now (map element_seen c.loop-tuples.elements.items) (all_elements (g.W.Within.code c.args.inside.now) (g.W.Within.depth c.args.inside.now) c.args.at c.args.aggregate (part_or_none c.args.condition.now) (part c.args.body.now) c.args.generators.now (state_seen c.args.s.now (g.O.Outside.told c.args.out.now))) _ _ c.in-Some.key _ (rw c.in-Some.is at (c.in_ok-key.ensures.did (gathers (g.W.Within.code c.args.inside.now) (g.W.Within.depth c.args.inside.now) c.args.at c.args.aggregate (part_or_none c.args.condition.now) (part c.args.body.now) (map element_seen c.loop-tuples.elements.items) (all_elements (g.W.Within.code c.args.inside.now) (g.W.Within.depth c.args.inside.now) c.args.at c.args.aggregate (part_or_none c.args.condition.now) (part c.args.body.now) c.args.generators.now (state_seen c.args.s.now (g.O.Outside.told c.args.out.now)))) c.loop-tuples.invariant.left)) _ _ (rw (to_z-of_z w64 c.in-Some.key f) at c.in_err-add_element.ensures.did)) }
 
 pub returns : goal.returns
-returns g c = record { did = advances_none _ _ (gathers (g.W.Within.code c.args.inside.now) (g.W.Within.depth c.args.inside.now) c.args.at c.args.aggregate (part_or_none c.args.condition.now) (part c.args.body.now) (map element_seen c.loop-tuples.elements.items) (all_elements (g.W.Within.code c.args.inside.now) (g.W.Within.depth c.args.inside.now) c.args.at c.args.aggregate (part_or_none c.args.condition.now) (part c.args.body.now) c.args.generators.now (state_seen c.args.s.now (g.O.Out.taken c.args.out.now)))) _ c.in_ok-key.field-0 _ _ (c.in_ok-key.ensures.did (gathers (g.W.Within.code c.args.inside.now) (g.W.Within.depth c.args.inside.now) c.args.at c.args.aggregate (part_or_none c.args.condition.now) (part c.args.body.now) (map element_seen c.loop-tuples.elements.items) (all_elements (g.W.Within.code c.args.inside.now) (g.W.Within.depth c.args.inside.now) c.args.at c.args.aggregate (part_or_none c.args.condition.now) (part c.args.body.now) c.args.generators.now (state_seen c.args.s.now (g.O.Out.taken c.args.out.now)))) c.loop-tuples.invariant.left) c.in_default.not-Some }
+returns g c = record { did = advances_none _ _ (gathers (g.W.Within.code c.args.inside.now) (g.W.Within.depth c.args.inside.now) c.args.at c.args.aggregate (part_or_none c.args.condition.now) (part c.args.body.now) (map element_seen c.loop-tuples.elements.items) (all_elements (g.W.Within.code c.args.inside.now) (g.W.Within.depth c.args.inside.now) c.args.at c.args.aggregate (part_or_none c.args.condition.now) (part c.args.body.now) c.args.generators.now (state_seen c.args.s.now (g.O.Outside.told c.args.out.now)))) _ c.in_ok-key.field-0 _ _ (c.in_ok-key.ensures.did (gathers (g.W.Within.code c.args.inside.now) (g.W.Within.depth c.args.inside.now) c.args.at c.args.aggregate (part_or_none c.args.condition.now) (part c.args.body.now) (map element_seen c.loop-tuples.elements.items) (all_elements (g.W.Within.code c.args.inside.now) (g.W.Within.depth c.args.inside.now) c.args.at c.args.aggregate (part_or_none c.args.condition.now) (part c.args.body.now) c.args.generators.now (state_seen c.args.s.now (g.O.Outside.told c.args.out.now)))) c.loop-tuples.invariant.left) c.in_default.not-Some }

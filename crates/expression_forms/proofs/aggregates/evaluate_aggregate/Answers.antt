@@ -15,4 +15,4 @@ pub returns-in_err-elements : goal.returns-in_err-elements
 returns-in_err-elements g c = record { did = exit _ _ _ _ _ c.from_residual-in_err-elements.ensures.1 (aggregate_ends _ _ _ _ _ _ _ _ _ c.in_err-elements.ensures.did) }
 
 pub returns : goal.returns
-returns g c = record { did = subst (Does _ _ _) (sym (aggregate_went _ _ _ _ _ _ _ c.in_ok-elements.ensures.did _ c.in_ok-frame.ensures.same)) (act_does _ _ _ _ (rw c.deref.ensures.value at (c.aggregate_value.ensures.did (record (state_seen c.elements_of.new.s (g.O.Out.taken c.elements_of.new.out)) { frame = map value_seen c.in_ok-frame.frame.items }))) ((goes_aggregate_value c.args.at c.args.aggregate (map element_seen c.in_ok-elements.elements.items)).from _).printed) }
+returns g c = record { did = subst (Does _ _ _) (sym (aggregate_went _ _ _ _ _ _ _ c.in_ok-elements.ensures.did _ c.in_ok-frame.ensures.same)) (act_does _ _ _ _ (rw c.deref.ensures.value at (c.aggregate_value.ensures.did (record (state_seen c.elements_of.new.s (g.O.Outside.told c.elements_of.new.out)) { frame = map value_seen c.in_ok-frame.frame.items }))) ((goes_aggregate_value c.args.at c.args.aggregate (map element_seen c.in_ok-elements.elements.items)).from _).printed) }

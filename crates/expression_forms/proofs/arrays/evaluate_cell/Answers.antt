@@ -19,4 +19,4 @@ returns-in_err-row g c = record { did = after _ _ _ _ c.in_ok-grid.ensures.did (
 
 pub returns : goal.returns
 unfolding cell_form
-returns g c = let f : FitsSigned w64 c.in_ok-row.row = search rules in record { did = after _ _ _ _ c.in_ok-grid.ensures.did (after _ _ _ _ c.in_ok-row.ensures.did (rw (to_z-of_z w64 c.in_ok-row.row f) at (c.index_grid.ensures.did (g.O.Out.taken c.number_of-column.new.out) _ c.number_of-column.ensures.did))) }
+returns g c = let f : FitsSigned w64 c.in_ok-row.row = search rules in record { did = after _ _ _ _ c.in_ok-grid.ensures.did (after _ _ _ _ c.in_ok-row.ensures.did (rw (to_z-of_z w64 c.in_ok-row.row f) at (c.index_grid.ensures.did (g.O.Outside.told c.number_of-column.new.out) _ c.number_of-column.ensures.did))) }

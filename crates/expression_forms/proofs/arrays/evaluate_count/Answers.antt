@@ -12,4 +12,4 @@ returns-in_err-array g c = record { did = call_exit _ _ _ _ _ _ c.from_residual.
 
 pub returns : goal.returns
 unfolding count_form
-returns g c = record { did = after _ _ _ _ c.in_ok-array.ensures.did (c.count_in_array.ensures.did _ _ c.number_of-number.ensures.did) }
+returns g c = record { did = after _ _ _ _ c.in_ok-array.ensures.did (c.count_in_array.ensures.did _ c.number_of-number.ensures.did) }

@@ -9,7 +9,7 @@ use Rattle.run_values.specs.Views.{value_seen}
 use Rattle.expression_forms.proofs.expressions.called_value_of.Goals as goal
 
 pub returns-in-Some : goal.returns-in-Some
-returns-in-Some g c = let f : FitsSigned w64 c.in-Some.number = search rules in record { did = rw (to_z-of_z w64 c.in-Some.number f) (c.in-Some.ensures.given (g.O.Out.taken c.args.out.now)) }
+returns-in-Some g c = let f : FitsSigned w64 c.in-Some.number = search rules in record { did = rw (to_z-of_z w64 c.in-Some.number f) (c.in-Some.ensures.given (g.O.Outside.told c.args.out.now)) }
 
 pub returns-in-None : goal.returns-in-None
-returns-in-None g c = record { did = subst (λ s. Does value_seen c.evaluated_value_of.result (state_seen c.evaluated_value_of.new.s (g.O.Out.taken c.evaluated_value_of.new.out)) (value (level (g.W.Within.code c.args.inside.now) (g.W.Within.depth c.args.inside.now)) (part c.args.e.now) s)) (c.in-None.ensures.given (g.O.Out.taken c.args.out.now)) c.evaluated_value_of.ensures.did }
+returns-in-None g c = record { did = subst (λ s. Does value_seen c.evaluated_value_of.result (state_seen c.evaluated_value_of.new.s (g.O.Outside.told c.evaluated_value_of.new.out)) (value (level (g.W.Within.code c.args.inside.now) (g.W.Within.depth c.args.inside.now)) (part c.args.e.now) s)) (c.in-None.ensures.given (g.O.Outside.told c.args.out.now)) c.evaluated_value_of.ensures.did }

@@ -3,4 +3,4 @@ use Rattle.expression_forms.proofs.expressions.evaluated_value_of.Goals as goal
 
 pub returns : goal.returns
 unfolding value
-returns g c = record { did = c.read_part.ensures.did _ _ c.evaluate-value.ensures.did }
+returns g c = record { did = c.read_part.ensures.did _ c.evaluate-value.ensures.did }

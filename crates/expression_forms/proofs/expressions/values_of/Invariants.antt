@@ -8,4 +8,4 @@ use Rattle.run_values.specs.Views.{value_seen}
 use Rattle.expression_forms.proofs.expressions.values_of.Given as goal
 
 abbrev pub invariant-loop-e : goal.invariant-loop-e
-invariant-loop-e g l = ValuesLeft (level (g.W.Within.code l.inside) (g.W.Within.depth l.inside)) part l.es l.e-index (map value_seen l.values.items) (state_seen l.s (g.O.Out.taken l.out)) (values (level (g.W.Within.code l.inside) (g.W.Within.depth l.inside)) (row l.es) [] (state_seen l.fn.s (g.O.Out.taken l.fn.out)))
+invariant-loop-e g l = ValuesLeft (level (g.W.Within.code l.inside) (g.W.Within.depth l.inside)) part l.es l.e-index (map value_seen l.values.items) (state_seen l.s (g.O.Outside.told l.out)) (values (level (g.W.Within.code l.inside) (g.W.Within.depth l.inside)) (row l.es) [] (state_seen l.fn.s (g.O.Outside.told l.fn.out)))

@@ -9,4 +9,4 @@ use Rattle.expression_forms.proofs.methods.asked_values.Given as goal
 
 -- the arguments that are left, from here, give what all give
 abbrev pub invariant-loop-e : goal.invariant-loop-e
-invariant-loop-e g l = AskedLeft (level (g.W.Within.code l.inside) (g.W.Within.depth l.inside)) part l.es l.e-index l.left (map value_seen l.values.items) (state_seen l.s (g.O.Out.taken l.out)) (asked_values (level (g.W.Within.code l.inside) (g.W.Within.depth l.inside)) l.fn.count (row l.es) [] (state_seen l.fn.s (g.O.Out.taken l.fn.out)))
+invariant-loop-e g l = AskedLeft (level (g.W.Within.code l.inside) (g.W.Within.depth l.inside)) part l.es l.e-index l.left (map value_seen l.values.items) (state_seen l.s (g.O.Outside.told l.out)) (asked_values (level (g.W.Within.code l.inside) (g.W.Within.depth l.inside)) l.fn.count (row l.es) [] (state_seen l.fn.s (g.O.Outside.told l.fn.out)))

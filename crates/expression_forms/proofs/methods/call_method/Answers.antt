@@ -11,4 +11,4 @@ returns-in_err-value g c = record { did = call_exit _ _ _ _ _ _ c.from_residual.
 
 pub returns : goal.returns
 unfolding called_form
-returns g c = record { did = after _ _ _ _ c.in_ok-value.ensures.did (c.call_on.ensures.did _ _ (rw c.variables_asked.ensures at c.asked_values-values.ensures.did)) }
+returns g c = record { did = after _ _ _ _ c.in_ok-value.ensures.did (c.call_on.ensures.did _ (rw c.variables_asked.ensures at c.asked_values-values.ensures.did)) }

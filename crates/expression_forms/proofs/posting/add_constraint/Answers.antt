@@ -1,21 +1,12 @@
-use Rattle.comet_meaning.specs.Posting.{post_constraint}
-use Rattle.comet_meaning.proofs.GoingExpressions.{goes_weight}
-use Rattle.comet_meaning.proofs.GoingOn.{goes_then, goes_charge}
-use Rattle.comet_meaning.proofs.GoingParts.{goes_constraint}
-use Rattle.comet_meaning.proofs.GoingStatements.{goes_level}
-use Rattle.comet_meaning.proofs.GoingSystems.{goes_post}
-use Rattle.run_steps.proofs.Exits.{after, call_exit}
+use Rattle.std.proofs.Common.{◌∙◌, ap, sym, subst}
+use Rattle.std.specs.Prelude.{option_map}
 use Rattle.run_values.specs.Views.{value_seen}
+use Rattle.run_steps.specs.Does.{Does}
+use Rattle.expression_forms.proofs.PostLaws.{nameless_post, named_post}
 use Rattle.expression_forms.proofs.posting.add_constraint.Goals as goal
 
-pub returns-in_err-value : goal.returns-in_err-value
-unfolding post_constraint
-returns-in_err-value g c = record { did = call_exit _ _ _ _ _ _ c.from_residual.ensures.1 c.in_err-value.ensures.did (λ v. goes_then (goes_constraint _ (goes_level _ _) _) (λ t. goes_then (goes_weight _ (goes_level _ _) _) (λ z. goes_then (goes_charge 1 _) (λ _. goes_post _ t z v)))) }
+pub returns-in-None : goal.returns-in-None
+returns-in-None g c = record { did = subst (Does value_seen _ _) (sym (nameless_post _ _ _ _ _ _ (sym c.user_name.ensures ∙ ap (option_map (λ name. name.now)) c.in-None.is))) c.add_one.ensures.did }
 
-pub returns-in_err-term : goal.returns-in_err-term
-unfolding post_constraint
-returns-in_err-term g c = record { did = after _ _ _ _ c.in_ok-value.ensures.did (call_exit _ _ _ _ _ _ c.from_residual-in_err-term.ensures.1 c.in_err-term.ensures.did (λ t. goes_then (goes_weight _ (goes_level _ _) _) (λ z. goes_then (goes_charge 1 _) (λ _. goes_post _ t z (value_seen c.in_ok-value.value))))) }
-
-pub returns : goal.returns
-unfolding post_constraint
-returns g c = record { did = after _ _ _ _ c.in_ok-value.ensures.did (after _ _ _ _ c.in_ok-term.ensures.did (c.post_with.ensures.did _ _ c.weight_of-weight.ensures.did)) }
+pub returns-in-Some : goal.returns-in-Some
+returns-in-Some g c = record { did = subst (Does value_seen _ _) (sym (named_post _ _ _ _ _ _ _ (sym c.user_name.ensures ∙ ap (option_map (λ name. name.now)) c.in-Some.is))) c.add_named.ensures.did }

@@ -18,4 +18,4 @@ returns-in_err-term g c = record { did = after _ _ _ _ c.in_ok-value.ensures.did
 
 pub returns : goal.returns
 unfolding post_part
-returns g c = record { did = after _ _ _ _ c.in_ok-value.ensures.did (after _ _ _ _ c.in_ok-term.ensures.did (c.post_with.ensures.did _ _ c.weight_of-weight.ensures.did)) }
+returns g c = record { did = after _ _ _ _ c.in_ok-value.ensures.did (after _ _ _ _ c.in_ok-term.ensures.did (c.post_with.ensures.did _ c.weight_of-weight.ensures.did)) }

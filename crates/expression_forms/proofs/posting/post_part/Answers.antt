@@ -11,4 +11,4 @@ pub returns-then-arguments-eq0 : goal.returns-then-arguments-eq0
 returns-then-arguments-eq0 g c = record { did = no_part _ _ _ _ _ c.if-arguments-eq0.true }
 
 pub returns : goal.returns
-returns g c = record { did = subst (Does _ _ _) (sym (ap (λ es. post_part (level (g.W.Within.code c.args.inside.now) (g.W.Within.depth c.args.inside.now)) c.args.at (part c.args.object.now) es (state_seen c.args.s.now (g.O.Out.taken c.args.out.now))) (row_split _ _ c.if-arguments-eq0.false c.index-arguments-0.is))) c.add_part.ensures.did }
+returns g c = record { did = subst (Does _ _ _) (sym (ap (λ es. post_part (level (g.W.Within.code c.args.inside.now) (g.W.Within.depth c.args.inside.now)) c.args.at (part c.args.object.now) es (state_seen c.args.s.now (g.O.Outside.told c.args.out.now))) (row_split _ _ c.if-arguments-eq0.false c.index-arguments-0.is))) c.add_part.ensures.did }

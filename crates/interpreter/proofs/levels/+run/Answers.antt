@@ -43,4 +43,4 @@ pub execute-returns-in_err-charge : goal.execute-returns-in_err-charge
 execute-returns-in_err-charge g t c = let p = err_from_is_err_and c.from_residual.result c.from_residual.ensures.1 in record { did = rw (p.1, p.2, stmt_as _ _ _ _ c.if-room-eq0.false) (stopped_then _ _ _ _ (goes_charge _ _) refl (λ _. goes_meaning_of_form _ (goes_level _ _) _ _) (c.in_err-charge.ensures.did _)) }
 
 pub execute-returns : goal.execute-returns
-execute-returns g t c = record { did = rw (stmt_as _ _ _ _ c.if-room-eq0.false, c.in_ok-charge.ensures.did (g.O.Out.taken c.args.out.now)) c.execute_act.ensures.did }
+execute-returns g t c = record { did = rw (stmt_as _ _ _ _ c.if-room-eq0.false, c.in_ok-charge.ensures.did (g.O.Outside.told c.args.out.now)) c.execute_act.ensures.did }

@@ -4,4 +4,4 @@ use Rattle.run_state.specs.Views.{state_seen}
 use Rattle.run_objects.proofs.objects.make_system.Goals as goal
 
 pub returns-clause-did : goal.returns-clause-did
-returns-clause-did c = λ printed. rw c.solver.ensures at (c.new_system.ensures.did (state_seen c.args.s.now printed) refl)
+returns-clause-did g c = λ s. rw c.solver.ensures at (c.new_system.ensures.did s)

@@ -4,6 +4,6 @@ use Rattle.run_state.specs.Views.{state_seen}
 use Rattle.run_objects.proofs.systems.delta_of_assigned.Goals as goal
 
 pub returns-clause-did : goal.returns-clause-did
-returns-clause-did c = λ printed.
+returns-clause-did g c = λ s.
     let same : to_z w64 (of_z w64 c.number.result) ≡ c.number.result = search rules in
-    rw c.number.ensures at (rw same at (c.assign_delta.ensures.did (state_seen c.args.s.now printed) refl))
+    rw c.number.ensures at (rw same at (c.assign_delta.ensures.did s))

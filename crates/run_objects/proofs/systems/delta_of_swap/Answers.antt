@@ -4,4 +4,4 @@ use Rattle.run_state.specs.Views.{state_seen}
 use Rattle.run_objects.proofs.systems.delta_of_swap.Goals as goal
 
 pub returns-clause-did : goal.returns-clause-did
-returns-clause-did c = λ printed. c.swap_delta.ensures.did (state_seen c.args.s.now printed) refl
+returns-clause-did g c = λ s. c.swap_delta.ensures.did s

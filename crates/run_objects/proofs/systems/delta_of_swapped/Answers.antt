@@ -1,10 +1,10 @@
 -- Of what is no variable nothing is given.
 use Rattle.run_objects.proofs.SystemLaws.{swapped_nothing}
-use Rattle.run_state.specs.Views.{state_seen}
+use Rattle.run_outside.specs.Told.{beside}
 use Rattle.run_objects.proofs.systems.delta_of_swapped.Goals as goal
 
 pub returns-in-Variable-clause-did : goal.returns-in-Variable-clause-did
-returns-in-Variable-clause-did c = λ printed. rw c.in-Variable.is (c.delta_of_swap_with.ensures.did printed)
+returns-in-Variable-clause-did g c = λ s. rw c.in-Variable.is (c.delta_of_swap_with.ensures.did s)
 
 pub returns-in_default-clause-did : goal.returns-in_default-clause-did
-returns-in_default-clause-did c = λ printed. swapped_nothing c.args.at _ _ _ (state_seen c.args.s.now printed) c.in_default.not-Variable
+returns-in_default-clause-did g c = λ s. swapped_nothing c.args.at _ _ _ (beside (g.O.Outside.told c.args.out.now) s) c.in_default.not-Variable

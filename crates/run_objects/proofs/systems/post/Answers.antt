@@ -4,11 +4,11 @@ use Rattle.run_state.specs.Views.{state_seen}
 use Rattle.run_objects.proofs.systems.post.Goals as goal
 
 pub returns-in-Ok-clause-did : goal.returns-in-Ok-clause-did
-returns-in-Ok-clause-did c = λ printed.
+returns-in-Ok-clause-did g c = λ s.
     let same : to_z w64 (of_z w64 c.args.weight) ≡ c.args.weight = search rules in
-    rw same at (c.in-Ok.ensures.did (state_seen c.args.s.now printed) refl)
+    rw same at (c.in-Ok.ensures.did s)
 
 pub returns-in-Err-clause-did : goal.returns-in-Err-clause-did
-returns-in-Err-clause-did c = λ printed.
+returns-in-Err-clause-did g c = λ s.
     let same : to_z w64 (of_z w64 c.args.weight) ≡ c.args.weight = search rules in
-    rw same at (c.in-Err.ensures.did (state_seen c.args.s.now printed) refl)
+    rw same at (c.in-Err.ensures.did s)

@@ -4,4 +4,4 @@ use Rattle.run_state.specs.Views.{state_seen}
 use Rattle.run_objects.proofs.systems.whole_value.Goals as goal
 
 pub returns-clause-did : goal.returns-clause-did
-returns-clause-did c = λ printed. c.whole_value.ensures.did (state_seen c.args.s.now printed) refl
+returns-clause-did g c = λ s. c.whole_value.ensures.did s

@@ -6,11 +6,11 @@ use Rattle.run_objects.proofs.NoticeLaws.{noticed_so, noticed_stopped}
 use Rattle.run_objects.proofs.variables.assign.Goals as goal
 
 pub returns-in-Ok-clause-did : goal.returns-in-Ok-clause-did
-returns-in-Ok-clause-did c = λ printed.
+returns-in-Ok-clause-did g c =
     let same : to_z w64 (of_z w64 c.args.number) ≡ c.args.number = search rules in
-    noticed_so c.args.variable.solver (assign c.args.at c.args.variable c.args.number) (state_seen c.args.s.now printed) _ _ _ (rw same at (c.in-Ok.ensures.did (state_seen c.args.s.now printed) refl)) (c.notice.ensures.did printed c.args.variable.solver _ (c.deref.ensures.value ∙ c.in-Ok.ensures.told))
+    noticed_so c.args.variable.solver (assign c.args.at c.args.variable c.args.number) (state_seen c.args.s.now (g.O.Outside.told c.args.out.now)) _ _ _ (rw same at (c.in-Ok.ensures.did (state_seen c.args.s.now (g.O.Outside.told c.args.out.now)))) (c.notice.ensures.did (g.O.Outside.told c.assign.new.self) c.args.variable.solver _ (c.deref.ensures.value ∙ c.in-Ok.ensures.told))
 
 pub returns-in-Err-clause-did : goal.returns-in-Err-clause-did
-returns-in-Err-clause-did c = λ printed.
+returns-in-Err-clause-did g c =
     let same : to_z w64 (of_z w64 c.args.number) ≡ c.args.number = search rules in
-    noticed_stopped c.args.variable.solver (assign c.args.at c.args.variable c.args.number) (state_seen c.args.s.now printed) c.in-Err.stop _ (rw same at (c.in-Err.ensures.did (state_seen c.args.s.now printed) refl))
+    noticed_stopped c.args.variable.solver (assign c.args.at c.args.variable c.args.number) (state_seen c.args.s.now (g.O.Outside.told c.args.out.now)) c.in-Err.stop _ (rw same at (c.in-Err.ensures.did (state_seen c.args.s.now (g.O.Outside.told c.args.out.now))))

@@ -6,9 +6,9 @@ use Rattle.run_objects.proofs.NoticeLaws.{noticed_so, noticed_stopped}
 use Rattle.run_objects.proofs.variables.commit_waiting.Goals as goal
 
 pub returns-in-Ok-clause-did : goal.returns-in-Ok-clause-did
-returns-in-Ok-clause-did c = λ printed.
-    rw (← c.solver.ensures) (noticed_so c.solver.result (commit_waiting c.solver.result) (state_seen c.args.s.now printed) _ _ _ (c.in-Ok.ensures.did (state_seen c.args.s.now printed) refl) (c.notice.ensures.did printed c.solver.result _ (c.deref.ensures.value ∙ c.in-Ok.ensures.told)))
+returns-in-Ok-clause-did g c =
+    rw (← c.solver.ensures) (noticed_so c.solver.result (commit_waiting c.solver.result) (state_seen c.args.s.now (g.O.Outside.told c.args.out.now)) _ _ _ (c.in-Ok.ensures.did (state_seen c.args.s.now (g.O.Outside.told c.args.out.now))) (c.notice.ensures.did (g.O.Outside.told c.commit_waiting.new.self) c.solver.result _ (c.deref.ensures.value ∙ c.in-Ok.ensures.told)))
 
 pub returns-in-Err-clause-did : goal.returns-in-Err-clause-did
-returns-in-Err-clause-did c = λ printed.
-    rw (← c.solver.ensures) (noticed_stopped c.solver.result (commit_waiting c.solver.result) (state_seen c.args.s.now printed) c.in-Err.stop _ (c.in-Err.ensures.did (state_seen c.args.s.now printed) refl))
+returns-in-Err-clause-did g c =
+    rw (← c.solver.ensures) (noticed_stopped c.solver.result (commit_waiting c.solver.result) (state_seen c.args.s.now (g.O.Outside.told c.args.out.now)) c.in-Err.stop _ (c.in-Err.ensures.did (state_seen c.args.s.now (g.O.Outside.told c.args.out.now))))

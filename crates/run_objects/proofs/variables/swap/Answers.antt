@@ -6,9 +6,9 @@ use Rattle.run_objects.proofs.NoticeLaws.{noticed_so, noticed_stopped}
 use Rattle.run_objects.proofs.variables.swap.Goals as goal
 
 pub returns-in-Ok-clause-did : goal.returns-in-Ok-clause-did
-returns-in-Ok-clause-did c = λ printed.
-    noticed_so c.args.x.solver (swap c.args.at c.args.x c.args.y) (state_seen c.args.s.now printed) _ _ _ (c.in-Ok.ensures.did (state_seen c.args.s.now printed) refl) (c.notice.ensures.did printed c.args.x.solver _ (c.deref.ensures.value ∙ c.in-Ok.ensures.told))
+returns-in-Ok-clause-did g c =
+    noticed_so c.args.x.solver (swap c.args.at c.args.x c.args.y) (state_seen c.args.s.now (g.O.Outside.told c.args.out.now)) _ _ _ (c.in-Ok.ensures.did (state_seen c.args.s.now (g.O.Outside.told c.args.out.now))) (c.notice.ensures.did (g.O.Outside.told c.swap.new.self) c.args.x.solver _ (c.deref.ensures.value ∙ c.in-Ok.ensures.told))
 
 pub returns-in-Err-clause-did : goal.returns-in-Err-clause-did
-returns-in-Err-clause-did c = λ printed.
-    noticed_stopped c.args.x.solver (swap c.args.at c.args.x c.args.y) (state_seen c.args.s.now printed) c.in-Err.stop _ (c.in-Err.ensures.did (state_seen c.args.s.now printed) refl)
+returns-in-Err-clause-did g c =
+    noticed_stopped c.args.x.solver (swap c.args.at c.args.x c.args.y) (state_seen c.args.s.now (g.O.Outside.told c.args.out.now)) c.in-Err.stop _ (c.in-Err.ensures.did (state_seen c.args.s.now (g.O.Outside.told c.args.out.now)))

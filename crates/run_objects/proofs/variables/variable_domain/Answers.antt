@@ -6,8 +6,8 @@ use Rattle.run_objects.proofs.variables.variable_domain.Goals as goal
 
 pub returns-in-Ok-clause-did : goal.returns-in-Ok-clause-did
 unfolding domain_of
-returns-in-Ok-clause-did c = λ printed. c.in-Ok.ensures.did (state_seen c.args.s.now printed) refl
+returns-in-Ok-clause-did g c = λ s. c.in-Ok.ensures.did s
 
 pub returns-in-Err-clause-did : goal.returns-in-Err-clause-did
 unfolding domain_of
-returns-in-Err-clause-did c = λ printed. c.in-Err.ensures.did (state_seen c.args.s.now printed) refl
+returns-in-Err-clause-did g c = λ s. c.in-Err.ensures.did s

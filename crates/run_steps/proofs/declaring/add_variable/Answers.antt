@@ -7,13 +7,14 @@ use Rattle.run_values.specs.Views.{bounds_seen}
 use Rattle.run_steps.proofs.AggregateLaws.{memory_ends}
 use Rattle.run_steps.proofs.Exits.{act_does, act_exit, after, exit}
 use Rattle.run_steps.proofs.Goes.{goes_added_variable}
+use Rattle.run_steps.proofs.Stops.{stays}
 use Rattle.run_steps.proofs.declaring.add_variable.Goals as goal
 
 pub returns-in_err-name : goal.returns-in_err-name
-returns-in_err-name c = record { did = λ printed. exit _ _ _ _ _ c.from_residual.ensures.1 (memory_ends _ _ _ c.in_err-name.ensures.memory ((goes_added_variable c.args.at (variable_of c.args.variable.now) (bounds_seen c.args.domain) (beginning_seen c.args.beginning)).from (state_seen c.args.s.now printed)).printed) }
+returns-in_err-name g c = record { did = let printed = (g.O.Outside.told c.args.out.now) in exit _ _ _ _ _ c.from_residual.ensures.1 (memory_ends _ _ _ c.in_err-name.ensures.memory ((goes_added_variable c.args.at (variable_of c.args.variable.now) (bounds_seen c.args.domain) (beginning_seen c.args.beginning)).from (state_seen c.args.s.now printed)).printed) }
 
 pub returns-in_err-made : goal.returns-in_err-made
-returns-in_err-made c = record { did = λ printed. act_exit _ _ _ _ _ _ c.from_residual-in_err-made.ensures.1 (rw (c.in_ok-name.ensures.name, c.declared-decl.ensures) at (c.in_err-made.ensures.did printed)) ((goes_variable_in _ _ _ _ _).from _).printed (λ x. goes_put _ _) }
+returns-in_err-made g c = record { did = let printed = (g.O.Outside.told c.args.out.now) in act_exit _ _ _ _ _ _ c.from_residual-in_err-made.ensures.1 (rw (c.in_ok-name.ensures.name, c.declared-decl.ensures) at (c.in_err-made.ensures.did)) (stays (state_seen c.args.s.now (g.O.Outside.told c.args.out.now)) (state_seen c.variable_in.new.s (g.O.Outside.told c.variable_in.new.out)) (goes_variable_in _ _ _ _ _) c.variable_in.ensures.printed) (λ x. goes_put _ _) }
 
 pub returns : goal.returns
-returns c = record { did = λ printed. after _ _ _ _ (rw (c.in_ok-name.ensures.name, c.declared-decl.ensures) at (c.in_ok-made.ensures.did printed)) (act_does _ _ _ _ (c.put.ensures.did printed) ((goes_put _ _).from _).printed) }
+returns g c = record { did = let printed = (g.O.Outside.told c.args.out.now) in after _ _ _ _ (rw (c.in_ok-name.ensures.name, c.declared-decl.ensures) at (c.in_ok-made.ensures.did)) (act_does _ _ _ _ (c.put.ensures.did (g.O.Outside.told c.variable_in.new.out)) ((goes_put _ _).from _).printed) }

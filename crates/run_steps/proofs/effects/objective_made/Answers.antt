@@ -7,7 +7,7 @@ use Rattle.run_steps.proofs.Behind.{err_passes, ok_acts}
 use Rattle.run_steps.proofs.effects.objective_made.Goals as goal
 
 pub returns-in-Err : goal.returns-in-Err
-returns-in-Err c = record { did = λ printed. err_passes (λ (t : Term). t) c.args.term c.in-Err.stop _ (make_objective c.args.at) c.in-Err.is (λ t. goes_make_objective _ t) }
+returns-in-Err g c = record { did = λ s. err_passes (λ (t : Term). t) c.args.term c.in-Err.stop _ (make_objective c.args.at) c.in-Err.is (λ t. goes_make_objective _ t) }
 
 pub returns-in-Ok : goal.returns-in-Ok
-returns-in-Ok c = record { did = λ printed. ok_acts (λ (t : Term). t) value_seen c.args.term c.in-Ok.term _ _ _ (make_objective c.args.at) c.in-Ok.is (λ t. goes_make_objective _ t) refl (c.make_objective.ensures.did printed) }
+returns-in-Ok g c = record { did = λ s. ok_acts (λ (t : Term). t) value_seen c.args.term c.in-Ok.term _ _ _ (make_objective c.args.at) c.in-Ok.is (λ t. goes_make_objective _ t) c.make_objective.ensures.printed (c.make_objective.ensures.did s) }

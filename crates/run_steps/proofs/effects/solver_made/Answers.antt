@@ -4,4 +4,4 @@ use Rattle.run_steps.proofs.Stops.{does}
 use Rattle.run_steps.proofs.effects.solver_made.Goals as goal
 
 pub returns : goal.returns
-returns c = record { did = λ printed. does _ _ _ _ goes_make_solver refl (c.make_solver.ensures.did printed) }
+returns g c = record { did = λ s. does _ _ _ _ goes_make_solver c.make_solver.ensures.printed (c.make_solver.ensures.did s) }

@@ -8,7 +8,7 @@ use Rattle.run_steps.proofs.Behind.{err_passes, ok_does}
 use Rattle.run_steps.proofs.effects.step_part.Goals as goal
 
 pub returns-in-Err : goal.returns-in-Err
-returns-in-Err c = record { did = λ printed. err_passes target_seen c.args.target c.in-Err.stop _ (stepped_target c.args.at c.args.step) c.in-Err.is (λ t. goes_then (goes_old_value t) (λ old. goes_changed c.args.at t (stepped c.args.step (number_of old)))) }
+returns-in-Err g c = record { did = let printed = (g.O.Outside.told c.args.out.now) in err_passes target_seen c.args.target c.in-Err.stop _ (stepped_target c.args.at c.args.step) c.in-Err.is (λ t. goes_then (goes_old_value t) (λ old. goes_changed c.args.at t (stepped c.args.step (number_of old)))) }
 
 pub returns-in-Ok : goal.returns-in-Ok
-returns-in-Ok c = record { did = λ printed. ok_does target_seen _ c.args.target c.in-Ok.target _ _ _ (stepped_target c.args.at c.args.step) c.in-Ok.is (c.step_at.ensures.did printed) }
+returns-in-Ok g c = record { did = let printed = (g.O.Outside.told c.args.out.now) in ok_does target_seen _ c.args.target c.in-Ok.target _ _ _ (stepped_target c.args.at c.args.step) c.in-Ok.is (c.step_at.ensures.did) }

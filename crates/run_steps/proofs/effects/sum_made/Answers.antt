@@ -7,7 +7,7 @@ use Rattle.run_steps.proofs.Behind.{err_passes, ok_acts}
 use Rattle.run_steps.proofs.effects.sum_made.Goals as goal
 
 pub returns-in-Err : goal.returns-in-Err
-returns-in-Err c = record { did = λ printed. err_passes value_seen c.args.solver c.in-Err.stop _ (λ v. make_sum c.args.at (solver_of v)) c.in-Err.is (λ v. goes_make_sum _ _) }
+returns-in-Err g c = record { did = λ s. err_passes value_seen c.args.solver c.in-Err.stop _ (λ v. make_sum c.args.at (solver_of v)) c.in-Err.is (λ v. goes_make_sum _ _) }
 
 pub returns-in-Ok : goal.returns-in-Ok
-returns-in-Ok c = record { did = λ printed. ok_acts value_seen value_seen c.args.solver c.in-Ok.solver _ _ _ (λ v. make_sum c.args.at (solver_of v)) c.in-Ok.is (λ v. goes_make_sum _ _) refl (c.make_sum.ensures.did printed) }
+returns-in-Ok g c = record { did = λ s. ok_acts value_seen value_seen c.args.solver c.in-Ok.solver _ _ _ (λ v. make_sum c.args.at (solver_of v)) c.in-Ok.is (λ v. goes_make_sum _ _) c.make_sum.ensures.printed (c.make_sum.ensures.did s) }

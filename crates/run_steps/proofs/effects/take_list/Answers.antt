@@ -6,7 +6,7 @@ use Rattle.run_steps.proofs.Steps.{goes_listed_of}
 use Rattle.run_steps.proofs.effects.take_list.Goals as goal
 
 pub returns-in-Err : goal.returns-in-Err
-returns-in-Err c = record { did = λ printed. err_passes value_seen c.args.list c.in-Err.stop _ (listed c.args.at c.args.place c.args.count) c.in-Err.is (λ v. goes_listed_of _ _ _ v) }
+returns-in-Err g c = record { did = let printed = (g.O.Outside.told c.args.out.now) in err_passes value_seen c.args.list c.in-Err.stop _ (listed c.args.at c.args.place c.args.count) c.in-Err.is (λ v. goes_listed_of _ _ _ v) }
 
 pub returns-in-Ok : goal.returns-in-Ok
-returns-in-Ok c = record { did = λ printed. ok_acts value_seen (λ numbers. numbers.items) c.args.list c.in-Ok.list _ _ _ (listed c.args.at c.args.place c.args.count) c.in-Ok.is (λ v. goes_listed_of _ _ _ v) refl (c.listed.ensures.did printed) }
+returns-in-Ok g c = record { did = let printed = (g.O.Outside.told c.args.out.now) in ok_acts value_seen (λ numbers. numbers.items) c.args.list c.in-Ok.list _ _ _ (listed c.args.at c.args.place c.args.count) c.in-Ok.is (λ v. goes_listed_of _ _ _ v) refl (c.listed.ensures.did) }

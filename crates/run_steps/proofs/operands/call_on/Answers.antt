@@ -7,13 +7,15 @@ use Rattle.run_values.specs.Views.{value_seen}
 use Rattle.run_steps.specs.Operands.{called_method}
 use Rattle.run_steps.proofs.Behind.{err_passes, ok_does}
 use Rattle.run_steps.proofs.Exits.{act_does, act_exit, after}
+use Rattle.run_steps.proofs.Stops.{stays}
+use Rattle.run_state.specs.Views.{state_seen}
 use Rattle.run_steps.proofs.operands.call_on.Goals as goal
 
 pub returns-in-Err : goal.returns-in-Err
-returns-in-Err c = record { did = λ printed. err_passes _ c.args.arguments c.in-Err.stop _ (called_method c.args.at c.args.method (whole (seen c.args.object.now)) (value_seen c.args.value.now)) c.in-Err.is (λ vs. goes_then (goes_charge 1 _) (λ _. goes_method_value c.args.at c.args.method (whole (seen c.args.object.now)) (value_seen c.args.value.now) vs)) }
+returns-in-Err g c = record { did = let printed = (g.O.Outside.told c.args.out.now) in err_passes _ c.args.arguments c.in-Err.stop _ (called_method c.args.at c.args.method (whole (seen c.args.object.now)) (value_seen c.args.value.now)) c.in-Err.is (λ vs. goes_then (goes_charge 1 _) (λ _. goes_method_value c.args.at c.args.method (whole (seen c.args.object.now)) (value_seen c.args.value.now) vs)) }
 
 pub returns-in_err-charge-in-Ok : goal.returns-in_err-charge-in-Ok
-returns-in_err-charge-in-Ok c = record { did = λ printed. ok_does _ value_seen c.args.arguments c.in-Ok.values _ _ _ (called_method c.args.at c.args.method (whole (seen c.args.object.now)) (value_seen c.args.value.now)) c.in-Ok.is (act_exit value_seen _ _ _ (λ _. method_value c.args.at c.args.method (whole (seen c.args.object.now)) (value_seen c.args.value.now) (map value_seen c.in-Ok.values.items)) _ c.from_residual.ensures.1 (c.in_err-charge-in-Ok.ensures.did printed) ((goes_charge 1 c.args.at).from _).printed (λ _. goes_method_value c.args.at c.args.method (whole (seen c.args.object.now)) (value_seen c.args.value.now) (map value_seen c.in-Ok.values.items))) }
+returns-in_err-charge-in-Ok g c = record { did = let printed = (g.O.Outside.told c.args.out.now) in ok_does _ value_seen c.args.arguments c.in-Ok.values _ _ _ (called_method c.args.at c.args.method (whole (seen c.args.object.now)) (value_seen c.args.value.now)) c.in-Ok.is (act_exit value_seen _ _ _ (λ _. method_value c.args.at c.args.method (whole (seen c.args.object.now)) (value_seen c.args.value.now) (map value_seen c.in-Ok.values.items)) _ c.from_residual.ensures.1 (c.in_err-charge-in-Ok.ensures.did printed) ((goes_charge 1 c.args.at).from _).printed (λ _. goes_method_value c.args.at c.args.method (whole (seen c.args.object.now)) (value_seen c.args.value.now) (map value_seen c.in-Ok.values.items))) }
 
 pub returns-in_ok-charge-in-Ok : goal.returns-in_ok-charge-in-Ok
-returns-in_ok-charge-in-Ok c = record { did = λ printed. ok_does _ value_seen c.args.arguments c.in-Ok.values _ _ _ (called_method c.args.at c.args.method (whole (seen c.args.object.now)) (value_seen c.args.value.now)) c.in-Ok.is (after value_seen _ _ (λ _. method_value c.args.at c.args.method (whole (seen c.args.object.now)) (value_seen c.args.value.now) (map value_seen c.in-Ok.values.items)) (c.in_ok-charge-in-Ok.ensures.did printed) (act_does value_seen _ _ _ (rw c.deref.ensures.value at (c.method.ensures.did printed)) ((goes_method_value c.args.at c.args.method (whole (seen c.args.object.now)) (value_seen c.args.value.now) (map value_seen c.in-Ok.values.items)).from _).printed)) }
+returns-in_ok-charge-in-Ok g c = record { did = let printed = (g.O.Outside.told c.args.out.now) in ok_does _ value_seen c.args.arguments c.in-Ok.values _ _ _ (called_method c.args.at c.args.method (whole (seen c.args.object.now)) (value_seen c.args.value.now)) c.in-Ok.is (after value_seen _ _ (λ _. method_value c.args.at c.args.method (whole (seen c.args.object.now)) (value_seen c.args.value.now) (map value_seen c.in-Ok.values.items)) (c.in_ok-charge-in-Ok.ensures.did printed) (act_does value_seen _ _ _ (rw c.deref.ensures.value at (c.method.ensures.did)) (stays (state_seen c.charge.new.self (g.O.Outside.told c.args.out.now)) (state_seen c.method.new.s (g.O.Outside.told c.method.new.out)) (goes_method_value c.args.at c.args.method (whole (seen c.args.object.now)) (value_seen c.args.value.now) (map value_seen c.in-Ok.values.items)) c.method.ensures.printed))) }

@@ -7,7 +7,7 @@ use Rattle.run_steps.proofs.Behind.{err_passes, ok_acts}
 use Rattle.run_steps.proofs.operands.read_part.Goals as goal
 
 pub returns-in-Err : goal.returns-in-Err
-returns-in-Err c = record { did = λ printed. err_passes value_seen c.args.value c.in-Err.stop _ (read (read_place (part c.args.e.now))) c.in-Err.is (λ v. goes_read _ v) }
+returns-in-Err g c = record { did = let printed = (g.O.Outside.told c.args.out.now) in err_passes value_seen c.args.value c.in-Err.stop _ (read (read_place (part c.args.e.now))) c.in-Err.is (λ v. goes_read _ v) }
 
 pub returns-in-Ok : goal.returns-in-Ok
-returns-in-Ok c = record { did = λ printed. ok_acts value_seen value_seen c.args.value c.in-Ok.value _ _ _ (read (read_place (part c.args.e.now))) c.in-Ok.is (λ v. goes_read _ v) refl (rw c.read_place.ensures at (c.read.ensures.did printed)) }
+returns-in-Ok g c = record { did = let printed = (g.O.Outside.told c.args.out.now) in ok_acts value_seen value_seen c.args.value c.in-Ok.value _ _ _ (read (read_place (part c.args.e.now))) c.in-Ok.is (λ v. goes_read _ v) refl (rw c.read_place.ensures at (c.read.ensures.did)) }

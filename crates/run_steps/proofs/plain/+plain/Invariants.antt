@@ -22,4 +22,4 @@ abbrev pub decreases-chain_within : goal.decreases-chain_within
 decreases-chain_within l = 3 * l.chains
 
 abbrev pub invariant-chain_within-loop-link : goal.invariant-chain_within-loop-link
-invariant-chain_within-loop-link l = (code : Code) (printed : List ℕ) → LinksLeft (level code l.room) shape_of_link l.links l.link-index (Number l.number) (state_seen l.s printed) (chain_form (level code l.room) (part l.first) (links_seen l.links) (state_seen l.s printed))
+invariant-chain_within-loop-link l = (code : Code) (printed : _) → LinksLeft (level code l.room) shape_of_link l.links l.link-index (Number l.number) (state_seen l.s printed) (chain_form (level code l.room) (part l.first) (links_seen l.links) (state_seen l.s printed))

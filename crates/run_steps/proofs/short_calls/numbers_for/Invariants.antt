@@ -10,4 +10,4 @@ use Rattle.run_values.specs.Views.{value_seen}
 use Rattle.run_steps.proofs.short_calls.numbers_for.Given as goal
 
 abbrev pub invariant-loop-argument : goal.invariant-loop-argument
-invariant-loop-argument l = record { left : (code : Code) (printed : List ℕ) → ArgumentsLeft (level code l.room) part l.parameters l.arguments l.argument-index (map value_seen l.values.items) (state_seen l.s printed) (arguments_form (level code l.room) l.parameters (row l.arguments) [] (state_seen l.s printed)); known : length l.values.items ≡ l.argument-index; plain : AreNumbers (map value_seen l.values.items) }
+invariant-loop-argument l = record { left : (code : Code) (printed : _) → ArgumentsLeft (level code l.room) part l.parameters l.arguments l.argument-index (map value_seen l.values.items) (state_seen l.s printed) (arguments_form (level code l.room) l.parameters (row l.arguments) [] (state_seen l.s printed)); known : length l.values.items ≡ l.argument-index; plain : AreNumbers (map value_seen l.values.items) }

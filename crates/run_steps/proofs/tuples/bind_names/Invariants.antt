@@ -6,4 +6,4 @@ use Rattle.run_state.specs.Views.{state_seen}
 use Rattle.run_steps.proofs.tuples.bind_names.Given as goal
 
 abbrev pub invariant-loop-entered : goal.invariant-loop-entered
-invariant-loop-entered l = record { left : (printed : List ℕ) → NamesLeft bound_seen l.below l.entered-index (state_seen l.s printed) (bind (names_seen l.below) (state_seen l.fn.s printed)); fuel : l.s.fuel ≡ l.fn.s.fuel }
+invariant-loop-entered l = record { left : (printed : _) → NamesLeft bound_seen l.below l.entered-index (state_seen l.s printed) (bind (names_seen l.below) (state_seen l.fn.s printed)); fuel : l.s.fuel ≡ l.fn.s.fuel }

@@ -11,17 +11,17 @@ use Rattle.search_forms.proofs.listing.candidates_of.Goals as goal
 
 pub returns-then-count-eq0-clause-did : goal.returns-then-count-eq0-clause-did
 returns-then-count-eq0-clause-did g c =
-    no_generator (level (g.W.Within.code c.args.inside.now) (g.W.Within.depth c.args.inside.now)) c.args.at c.args.generators.now (state_seen c.args.s.now (g.O.Out.taken c.args.out.now)) c.if-count-eq0.true
-    ∙ ap (λ (cs : List Candidate). Went cs (state_seen c.args.s.now (g.O.Out.taken c.args.out.now))) (sym c.new-found.ensures.none)
+    no_generator (level (g.W.Within.code c.args.inside.now) (g.W.Within.depth c.args.inside.now)) c.args.at c.args.generators.now (state_seen c.args.s.now (g.O.Outside.told c.args.out.now)) c.if-count-eq0.true
+    ∙ ap (λ (cs : List Candidate). Went cs (state_seen c.args.s.now (g.O.Outside.told c.args.out.now))) (sym c.new-found.ensures.none)
 
 pub returns-in_err-list_last-clause-did : goal.returns-in_err-list_last-clause-did
-returns-in_err-list_last-clause-did g c = exit _ _ _ _ _ c.from_residual.ensures.1 (subst (Ends _ _) (sym (one_generator (level (g.W.Within.code c.args.inside.now) (g.W.Within.depth c.args.inside.now)) c.args.at c.args.generators.now c.index-generators-count.result (state_seen c.args.s.now (g.O.Out.taken c.args.out.now)) c.if-count-eq1.true c.index-generators-count.is)) (rw c.new-found.ensures.none at c.in_err-list_last.ensures.did))
+returns-in_err-list_last-clause-did g c = exit _ _ _ _ _ c.from_residual.ensures.1 (subst (Ends _ _) (sym (one_generator (level (g.W.Within.code c.args.inside.now) (g.W.Within.depth c.args.inside.now)) c.args.at c.args.generators.now c.index-generators-count.result (state_seen c.args.s.now (g.O.Outside.told c.args.out.now)) c.if-count-eq1.true c.index-generators-count.is)) (rw c.new-found.ensures.none at c.in_err-list_last.ensures.did))
 
 pub returns-then-count-eq1-clause-did : goal.returns-then-count-eq1-clause-did
-returns-then-count-eq1-clause-did g c = one_generator (level (g.W.Within.code c.args.inside.now) (g.W.Within.depth c.args.inside.now)) c.args.at c.args.generators.now c.index-generators-count.result (state_seen c.args.s.now (g.O.Out.taken c.args.out.now)) c.if-count-eq1.true c.index-generators-count.is ∙ rw c.new-found.ensures.none at c.in_ok-list_last.ensures.did
+returns-then-count-eq1-clause-did g c = one_generator (level (g.W.Within.code c.args.inside.now) (g.W.Within.depth c.args.inside.now)) c.args.at c.args.generators.now c.index-generators-count.result (state_seen c.args.s.now (g.O.Outside.told c.args.out.now)) c.if-count-eq1.true c.index-generators-count.is ∙ rw c.new-found.ensures.none at c.in_ok-list_last.ensures.did
 
 pub returns-in_err-list_behind-clause-did : goal.returns-in_err-list_behind-clause-did
-returns-in_err-list_behind-clause-did g c = exit _ _ _ _ _ c.from_residual-in_err-list_behind.ensures.1 (subst (Ends _ _) (sym (several_generators (level (g.W.Within.code c.args.inside.now) (g.W.Within.depth c.args.inside.now)) c.args.at c.args.generators.now c.index-generators-count.result (state_seen c.args.s.now (g.O.Out.taken c.args.out.now)) (omega (arith, c.if-count-eq0.false, c.if-count-eq1.false)) c.index-generators-count.is)) (rw c.new-found.ensures.none at c.in_err-list_behind.ensures.did))
+returns-in_err-list_behind-clause-did g c = exit _ _ _ _ _ c.from_residual-in_err-list_behind.ensures.1 (subst (Ends _ _) (sym (several_generators (level (g.W.Within.code c.args.inside.now) (g.W.Within.depth c.args.inside.now)) c.args.at c.args.generators.now c.index-generators-count.result (state_seen c.args.s.now (g.O.Outside.told c.args.out.now)) (omega (arith, c.if-count-eq0.false, c.if-count-eq1.false)) c.index-generators-count.is)) (rw c.new-found.ensures.none at c.in_err-list_behind.ensures.did))
 
 pub returns-clause-did : goal.returns-clause-did
-returns-clause-did g c = several_generators (level (g.W.Within.code c.args.inside.now) (g.W.Within.depth c.args.inside.now)) c.args.at c.args.generators.now c.index-generators-count.result (state_seen c.args.s.now (g.O.Out.taken c.args.out.now)) (omega (arith, c.if-count-eq0.false, c.if-count-eq1.false)) c.index-generators-count.is ∙ rw c.new-found.ensures.none at c.in_ok-list_behind.ensures.did
+returns-clause-did g c = several_generators (level (g.W.Within.code c.args.inside.now) (g.W.Within.depth c.args.inside.now)) c.args.at c.args.generators.now c.index-generators-count.result (state_seen c.args.s.now (g.O.Outside.told c.args.out.now)) (omega (arith, c.if-count-eq0.false, c.if-count-eq1.false)) c.index-generators-count.is ∙ rw c.new-found.ensures.none at c.in_ok-list_behind.ensures.did

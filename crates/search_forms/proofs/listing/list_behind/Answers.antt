@@ -13,11 +13,11 @@ use Rattle.search_forms.proofs.ListingLaws.{list_added, list_ends, lists_end, li
 use Rattle.search_forms.proofs.listing.list_behind.Goals as goal
 
 pub returns-in_err-domain-clause-did : goal.returns-in_err-domain-clause-did
-returns-in_err-domain-clause-did g c = exit _ _ _ _ _ c.from_residual.ensures.1 (lists_end (level (g.W.Within.code c.args.inside.now) (g.W.Within.depth c.args.inside.now)) (goes_level _ _) c.args.at c.args.front.now (shape_of_generator c.args.last.now) (candidates_seen c.args.found.now) (state_seen c.args.s.now (g.O.Out.taken c.args.out.now)) c.index-front-0.result c.requires.some c.index-front-0.is _ _ c.in_err-domain.ensures.did)
+returns-in_err-domain-clause-did g c = exit _ _ _ _ _ c.from_residual.ensures.1 (lists_end (level (g.W.Within.code c.args.inside.now) (g.W.Within.depth c.args.inside.now)) (goes_level _ _) c.args.at c.args.front.now (shape_of_generator c.args.last.now) (candidates_seen c.args.found.now) (state_seen c.args.s.now (g.O.Outside.told c.args.out.now)) c.index-front-0.result c.requires.some c.index-front-0.is _ _ c.in_err-domain.ensures.did)
 
 pub tuples-init : goal.tuples-init
 tuples-init g c = record {
-  left = rw (c.new.ensures.items, c.pending_of.ensures) (lists_open (level (g.W.Within.code c.args.inside.now) (g.W.Within.depth c.args.inside.now)) (goes_level _ _) c.args.at c.args.front.now (shape_of_generator c.args.last.now) (candidates_seen c.args.found.now) (state_seen c.args.s.now (g.O.Out.taken c.args.out.now)) c.index-front-0.result c.requires.some c.index-front-0.is _ (place_is c.args.front.now c.index-front-front.result c.requires.some c.index-front-front.is ∙ ap (λ (x : Generator). x.place) c.index-front-front.is) c.in_ok-domain.ensures.did);
+  left = rw (c.new.ensures.items, c.pending_of.ensures) (lists_open (level (g.W.Within.code c.args.inside.now) (g.W.Within.depth c.args.inside.now)) (goes_level _ _) c.args.at c.args.front.now (shape_of_generator c.args.last.now) (candidates_seen c.args.found.now) (state_seen c.args.s.now (g.O.Outside.told c.args.out.now)) c.index-front-0.result c.requires.some c.index-front-0.is _ (place_is c.args.front.now c.index-front-front.result c.requires.some c.index-front-front.is ∙ ap (λ (x : Generator). x.place) c.index-front-front.is) c.in_ok-domain.ensures.did);
   inside = rw c.new.ensures.items c.requires.some;
   rows = c.requires.rows;
 }

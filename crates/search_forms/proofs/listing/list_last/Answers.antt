@@ -12,13 +12,13 @@ use Rattle.search_forms.proofs.LastLaws.{domain_ends, goes_values, known_ends, l
 use Rattle.search_forms.proofs.listing.list_last.Goals as goal
 
 pub returns-in_err-domain-clause-did : goal.returns-in_err-domain-clause-did
-returns-in_err-domain-clause-did g c = exit _ _ _ _ _ c.from_residual.ensures.1 (domain_ends (level (g.W.Within.code c.args.inside.now) (g.W.Within.depth c.args.inside.now)) (goes_level _ _) c.args.at (map shape_of_generator c.args.front.now) c.args.last.now (candidates_seen c.args.found.now) (state_seen c.args.s.now (g.O.Out.taken c.args.out.now)) _ _ c.in_err-domain.ensures.did)
+returns-in_err-domain-clause-did g c = exit _ _ _ _ _ c.from_residual.ensures.1 (domain_ends (level (g.W.Within.code c.args.inside.now) (g.W.Within.depth c.args.inside.now)) (goes_level _ _) c.args.at (map shape_of_generator c.args.front.now) c.args.last.now (candidates_seen c.args.found.now) (state_seen c.args.s.now (g.O.Outside.told c.args.out.now)) _ _ c.in_err-domain.ensures.did)
 
 pub returns-in_err-known-clause-did : goal.returns-in_err-known-clause-did
-returns-in_err-known-clause-did g c = exit _ _ _ _ _ c.from_residual-in_err-known.ensures.1 (known_ends (level (g.W.Within.code c.args.inside.now) (g.W.Within.depth c.args.inside.now)) (goes_level _ _) c.args.at (map shape_of_generator c.args.front.now) c.args.last.now (candidates_seen c.args.found.now) (state_seen c.args.s.now (g.O.Out.taken c.args.out.now)) c.in_ok-domain.ensures.did _ c.in_err-known.ensures.memory)
+returns-in_err-known-clause-did g c = exit _ _ _ _ _ c.from_residual-in_err-known.ensures.1 (known_ends (level (g.W.Within.code c.args.inside.now) (g.W.Within.depth c.args.inside.now)) (goes_level _ _) c.args.at (map shape_of_generator c.args.front.now) c.args.last.now (candidates_seen c.args.found.now) (state_seen c.args.s.now (g.O.Outside.told c.args.out.now)) c.in_ok-domain.ensures.did _ c.in_err-known.ensures.memory)
 
 pub returns-clause-did : goal.returns-clause-did
 returns-clause-did g c =
     let known : List ℤ = c.in_ok-known.known.items in
-    let n = last_went (level (g.W.Within.code c.args.inside.now) (g.W.Within.depth c.args.inside.now)) (goes_level _ _) c.args.at (map shape_of_generator c.args.front.now) c.args.last.now (candidates_seen c.args.found.now) (state_seen c.args.s.now (g.O.Out.taken c.args.out.now)) c.in_ok-domain.ensures.did (c.in_ok-known.ensures.did (g.O.Out.taken c.value_of.new.out)) in
-    subst (Does _ _ _) (sym n) (act_does _ _ _ _ (rw c.deref.ensures.value at (c.add_values.ensures.did (state_seen c.value_of.new.s (g.O.Out.taken c.value_of.new.out)))) ((goes_values c.args.at known (value_seen c.in_ok-domain.domain) (candidates_seen c.args.found.now)).from _).printed)
+    let n = last_went (level (g.W.Within.code c.args.inside.now) (g.W.Within.depth c.args.inside.now)) (goes_level _ _) c.args.at (map shape_of_generator c.args.front.now) c.args.last.now (candidates_seen c.args.found.now) (state_seen c.args.s.now (g.O.Outside.told c.args.out.now)) c.in_ok-domain.ensures.did (c.in_ok-known.ensures.did (g.O.Outside.told c.value_of.new.out)) in
+    subst (Does _ _ _) (sym n) (act_does _ _ _ _ (rw c.deref.ensures.value at (c.add_values.ensures.did (state_seen c.value_of.new.s (g.O.Outside.told c.value_of.new.out)))) ((goes_values c.args.at known (value_seen c.in_ok-domain.domain) (candidates_seen c.args.found.now)).from _).printed)

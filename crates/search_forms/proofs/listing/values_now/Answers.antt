@@ -3,6 +3,7 @@ use Rattle.std.proofs.Common.{◌∙◌, ap, rules, ◌++◌, ◌∷◌, [], ℤ
 use Rattle.std.proofs.lemmas.Int.{to_z-of_z}
 use Rattle.run_state.specs.Views.{state_seen}
 use Rattle.search_forms.proofs.LastLaws.{value_more, values_known, values_many}
+use Rattle.run_outside.specs.Told.{nothing_told}
 use Rattle.search_forms.proofs.listing.values_now.Goals as goal
 
 pub loop-generator-preserved : goal.loop-generator-preserved
@@ -19,4 +20,4 @@ pub returns-clause-did : goal.returns-clause-did
 returns-clause-did c = λ printed. values_known (state_seen c.args.s.now printed) c.args.generators.now c.loop-generator.generator-index c.loop-generator.values.items c.loop-generator-test.false (c.loop-generator.invariant.known printed)
 
 pub returns-clause-many : goal.returns-clause-many
-returns-clause-many c = values_many (state_seen c.args.s.now []) c.args.generators.now c.loop-generator.generator-index c.loop-generator.values.items c.loop-generator-test.false (c.loop-generator.invariant.known [])
+returns-clause-many c = values_many (state_seen c.args.s.now nothing_told) c.args.generators.now c.loop-generator.generator-index c.loop-generator.values.items c.loop-generator-test.false (c.loop-generator.invariant.known nothing_told)

@@ -10,4 +10,4 @@ use Rattle.search_forms.proofs.scanning.bind_values.Given as goal
 
 -- the names from here on still get their values
 abbrev pub invariant-loop-generator : goal.invariant-loop-generator
-invariant-loop-generator l = record { left : (printed : List ℕ) → NamesLeft pair_bound (zip l.generators l.values) (length l.yielded) (state_seen l.s printed) (bind (named (map shape_of_generator l.generators) l.values) (state_seen l.fn.s printed)); fuel : l.s.fuel ≡ l.fn.s.fuel }
+invariant-loop-generator l = record { left : (printed : _) → NamesLeft pair_bound (zip l.generators l.values) (length l.yielded) (state_seen l.s printed) (bind (named (map shape_of_generator l.generators) l.values) (state_seen l.fn.s printed)); fuel : l.s.fuel ≡ l.fn.s.fuel }

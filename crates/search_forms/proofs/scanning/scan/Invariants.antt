@@ -10,4 +10,4 @@ use Rattle.search_forms.proofs.scanning.scan.Given as goal
 
 -- the candidates from here on are still to be scanned
 abbrev pub invariant-loop-number : goal.invariant-loop-number
-invariant-loop-number g l = Scanning (level (g.W.Within.code l.inside) (g.W.Within.depth l.inside)) l.at (map shape_of_generator l.generators) (condition_of l.asked) (key_of l.asked) l.asked.extreme (candidates_seen l.candidates) l.number l.part l.fn.s.fuel l.s.fuel (state_seen l.s (g.O.Out.taken l.out)) (scanned (level (g.W.Within.code l.inside) (g.W.Within.depth l.inside)) l.at (map shape_of_generator l.generators) (condition_of l.asked) (key_of l.asked) 0 (candidates_seen l.candidates) [] (state_seen l.fn.s (g.O.Out.taken l.fn.out)))
+invariant-loop-number g l = Scanning (level (g.W.Within.code l.inside) (g.W.Within.depth l.inside)) l.at (map shape_of_generator l.generators) (condition_of l.asked) (key_of l.asked) l.asked.extreme (candidates_seen l.candidates) l.number l.part l.fn.s.fuel l.s.fuel (state_seen l.s (g.O.Outside.told l.out)) (scanned (level (g.W.Within.code l.inside) (g.W.Within.depth l.inside)) l.at (map shape_of_generator l.generators) (condition_of l.asked) (key_of l.asked) 0 (candidates_seen l.candidates) [] (state_seen l.fn.s (g.O.Outside.told l.fn.out)))

@@ -1,4 +1,4 @@
 use Rattle.solver_tests.proofs.solver.commit.Given as goal
 
 abbrev pub ghosts-commit_by : goal.ghosts-commit_by
-ghosts-commit_by a = record { name = a.blank.name; parts = a.blank.parts }
+ghosts-commit_by g a = record { name = a.blank.name; parts = a.blank.parts }

@@ -1,4 +1,4 @@
 use Rattle.solver_tests.proofs.solver.restore.Given as goal
 
 abbrev pub ghosts-restore_by : goal.ghosts-restore_by
-ghosts-restore_by a = record { name = a.blank.name; parts = a.blank.parts }
+ghosts-restore_by g a = record { name = a.blank.name; parts = a.blank.parts }

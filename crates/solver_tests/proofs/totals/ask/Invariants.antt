@@ -1,4 +1,4 @@
 use Rattle.solver_tests.proofs.totals.ask.Given as goal
 
 abbrev pub ghosts-ask_by : goal.ghosts-ask_by
-ghosts-ask_by a = record { name = a.blank.name; parts = a.blank.parts }
+ghosts-ask_by g a = record { name = a.blank.name; parts = a.blank.parts }

@@ -15,7 +15,7 @@ use Rattle.statement_forms.proofs.loops.repeat.Given as goal
 -- the turns that are left, from here, are the loop from the start
 abbrev pub invariant-turns : goal.invariant-turns
 invariant-turns g l =
-    TurnsLeft l.at (turn_form (level (g.W.Within.code l.inside) (g.W.Within.depth l.inside)) l.at (optional (λ (e : Bor Typed). part e.now) l.test) (step_of (level (g.W.Within.code l.inside) (g.W.Within.depth l.inside)) l.at (option_map deed_of (option_copied l.step))) (work_of l.body)) (state_seen l.s (g.O.Out.taken l.out)) (repeated l.at (turn_form (level (g.W.Within.code l.inside) (g.W.Within.depth l.inside)) l.at (optional (λ (e : Bor Typed). part e.now) l.test) (step_of (level (g.W.Within.code l.inside) (g.W.Within.depth l.inside)) l.at (option_map deed_of (option_copied l.step))) (work_of l.body)) (state_seen l.fn.s (g.O.Out.taken l.fn.out)))
+    TurnsLeft l.at (turn_form (level (g.W.Within.code l.inside) (g.W.Within.depth l.inside)) l.at (optional (λ (e : Bor Typed). part e.now) l.test) (step_of (level (g.W.Within.code l.inside) (g.W.Within.depth l.inside)) l.at (option_map deed_of (option_copied l.step))) (work_of l.body)) (state_seen l.s (g.O.Outside.told l.out)) (repeated l.at (turn_form (level (g.W.Within.code l.inside) (g.W.Within.depth l.inside)) l.at (optional (λ (e : Bor Typed). part e.now) l.test) (step_of (level (g.W.Within.code l.inside) (g.W.Within.depth l.inside)) l.at (option_map deed_of (option_copied l.step))) (work_of l.body)) (state_seen l.fn.s (g.O.Outside.told l.fn.out)))
 
 abbrev pub decreases-turns : goal.decreases-turns
 decreases-turns g l = l.s.fuel

@@ -13,12 +13,12 @@ returns-in_err-charge g c = let p = err_from_is_err_and c.from_residual.result c
 
 pub returns-in_err-test : goal.returns-in_err-test
 unfolding turn_form
-returns-in_err-test g c = let p = err_from_is_err_and c.from_residual-in_err-test.result c.from_residual-in_err-test.ensures.1 in record { did = rw (p.1, p.2, c.in_ok-charge.ensures.did (g.O.Out.taken c.args.out.now)) (ended_then _ _ _ _ (λ t. goes_if t (goes_then ((goes_level _ _).stmt _) (λ flow. goes_behind_body (goes_step _ (goes_level _ _) _ _) flow)) goes_give) c.in_err-test.ensures.did) }
+returns-in_err-test g c = let p = err_from_is_err_and c.from_residual-in_err-test.result c.from_residual-in_err-test.ensures.1 in record { did = rw (p.1, p.2, c.in_ok-charge.ensures.did (g.O.Outside.told c.args.out.now)) (ended_then _ _ _ _ (λ t. goes_if t (goes_then ((goes_level _ _).stmt _) (λ flow. goes_behind_body (goes_step _ (goes_level _ _) _ _) flow)) goes_give) c.in_err-test.ensures.did) }
 
 pub returns-in_err-flow : goal.returns-in_err-flow
 unfolding turn_form
-returns-in_err-flow g c = let p = err_from_is_err_and c.from_residual-in_err-flow.result c.from_residual-in_err-flow.ensures.1 in record { did = rw (p.1, p.2, c.in_ok-charge.ensures.did (g.O.Out.taken c.args.out.now), c.in_ok-test.ensures.did, c.if-test.true) (ended_then _ _ _ _ (λ flow. goes_behind_body (goes_step _ (goes_level _ _) _ _) flow) c.in_err-flow.ensures.did) }
+returns-in_err-flow g c = let p = err_from_is_err_and c.from_residual-in_err-flow.result c.from_residual-in_err-flow.ensures.1 in record { did = rw (p.1, p.2, c.in_ok-charge.ensures.did (g.O.Outside.told c.args.out.now), c.in_ok-test.ensures.did, c.if-test.true) (ended_then _ _ _ _ (λ flow. goes_behind_body (goes_step _ (goes_level _ _) _ _) flow) c.in_err-flow.ensures.did) }
 
 pub returns-else-test : goal.returns-else-test
 unfolding turn_form
-returns-else-test g c = record { did = rw (c.in_ok-charge.ensures.did (g.O.Out.taken c.args.out.now), c.in_ok-test.ensures.did, c.if-test.false) refl }
+returns-else-test g c = record { did = rw (c.in_ok-charge.ensures.did (g.O.Outside.told c.args.out.now), c.in_ok-test.ensures.did, c.if-test.false) refl }

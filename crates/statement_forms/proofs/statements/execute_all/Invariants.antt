@@ -9,4 +9,4 @@ use Rattle.statement_forms.proofs.statements.execute_all.Given as goal
 -- the statements that are left, from here, are all from the start
 abbrev pub invariant-loop-task : goal.invariant-loop-task
 invariant-loop-task g l =
-    TasksLeft (level (g.W.Within.code l.inside) (g.W.Within.depth l.inside)) work_of l.tasks l.task-index (state_seen l.s (g.O.Out.taken l.out)) (tasks_form (level (g.W.Within.code l.inside) (g.W.Within.depth l.inside)) (map work_of l.tasks) (state_seen l.fn.s (g.O.Out.taken l.fn.out)))
+    TasksLeft (level (g.W.Within.code l.inside) (g.W.Within.depth l.inside)) work_of l.tasks l.task-index (state_seen l.s (g.O.Outside.told l.out)) (tasks_form (level (g.W.Within.code l.inside) (g.W.Within.depth l.inside)) (map work_of l.tasks) (state_seen l.fn.s (g.O.Outside.told l.fn.out)))

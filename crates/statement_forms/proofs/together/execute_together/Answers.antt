@@ -10,6 +10,7 @@ use Rattle.run_objects.proofs.WithLaws.{together_law}
 use Rattle.run_steps.specs.Does.{Does}
 use Rattle.run_steps.proofs.Exits.{act_exit, after}
 use Rattle.run_steps.proofs.Goes.{goes_block, goes_opened, goes_together_in}
+use Rattle.run_steps.proofs.Stops.{stays}
 use Rattle.statement_forms.proofs.together.execute_together.Goals as goal
 
 pub returns-in_err-solver : goal.returns-in_err-solver
@@ -18,8 +19,8 @@ returns-in_err-solver g c = record { did = act_exit _ _ _ _ _ _ c.from_residual.
 
 pub returns-in_err-outermost : goal.returns-in_err-outermost
 unfolding together_form
-returns-in_err-outermost g c = record { did = after _ _ _ _ (c.in_ok-solver.ensures.did _) (subst (Does _ _ _) (sym (together_law _ _ _ _ _)) (act_exit _ _ _ _ _ _ c.from_residual-in_err-outermost.ensures.1 (c.in_err-outermost.ensures.did _) ((goes_opened c.args.at (solver_of (value_seen c.in_ok-solver.solver))).from (state_seen c.args.s.now (g.O.Out.taken c.args.out.now))).printed (λ b. goes_block _ (goes_level _ _) _ _ _ b))) }
+returns-in_err-outermost g c = record { did = after _ _ _ _ (c.in_ok-solver.ensures.did _) (subst (Does _ _ _) (sym (together_law _ _ _ _ _)) (act_exit _ _ _ _ _ _ c.from_residual-in_err-outermost.ensures.1 (c.in_err-outermost.ensures.did (state_seen c.args.s.now (g.O.Outside.told c.args.out.now))) (stays (state_seen c.args.s.now (g.O.Outside.told c.args.out.now)) (state_seen c.args.s.now (g.O.Outside.told c.open_with.new.out)) (goes_opened c.args.at (solver_of (value_seen c.in_ok-solver.solver))) c.open_with.ensures.printed) (λ b. goes_block _ (goes_level _ _) _ _ _ b))) }
 
 pub returns : goal.returns
 unfolding together_form
-returns g c = record { did = after _ _ _ _ (c.in_ok-solver.ensures.did _) (subst (Does _ _ _) (sym (together_law _ _ _ _ _)) (after _ _ _ _ (c.in_ok-outermost.ensures.did _) c.execute_inside.ensures.did)) }
+returns g c = record { did = after _ _ _ _ (c.in_ok-solver.ensures.did _) (subst (Does _ _ _) (sym (together_law _ _ _ _ _)) (after _ _ _ _ (c.in_ok-outermost.ensures.did (state_seen c.args.s.now (g.O.Outside.told c.args.out.now))) c.execute_inside.ensures.did)) }

@@ -22,4 +22,4 @@ unfolding assign_form
 returns g c =
     let l : Level = level (g.W.Within.code c.args.inside.now) (g.W.Within.depth c.args.inside.now) in
     let target : Target = target_seen c.in_ok-target.target in
-    record { did = rw c.in_ok-target.ensures.did (follows_both _ _ _ _ _ _ _ _ _ _ _ _ _ _ _ _ (λ v. write c.args.at target (as_kind c.args.target.now.kind v)) (λ (u : Unit {0}). behind_commit l c.args.at target) c.value_of-value.ensures.did (c.assign_part-done.ensures.did _) c.behind_commit.ensures.did) }
+    record { did = rw c.in_ok-target.ensures.did (follows_both _ _ _ _ _ _ _ _ _ _ _ _ _ _ _ _ (λ v. write c.args.at target (as_kind c.args.target.now.kind v)) (λ (u : Unit {0}). behind_commit l c.args.at target) c.value_of-value.ensures.did c.assign_part-done.ensures.did c.behind_commit.ensures.did) }

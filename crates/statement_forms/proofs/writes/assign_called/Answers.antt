@@ -17,7 +17,7 @@ use Rattle.statement_forms.proofs.writes.assign_called.Goals as goal
 
 pub returns-in-Some : goal.returns-in-Some
 unfolding write
-returns-in-Some g c = let f : FitsSigned w64 c.in-Some.number = search rules in record { did = rw (c.in-Some.ensures.given (g.O.Out.taken c.args.out.now)) (act_does (λ _. tt) c.put.result _ (put c.args.slot (Number c.in-Some.number) (state_seen c.called_number.new.s (g.O.Out.taken c.args.out.now))) (rw (to_z-of_z w64 c.in-Some.number f) at (c.put.ensures.did (g.O.Out.taken c.args.out.now))) ((goes_put c.args.slot (Number c.in-Some.number)).from (state_seen c.called_number.new.s (g.O.Out.taken c.args.out.now))).printed) }
+returns-in-Some g c = let f : FitsSigned w64 c.in-Some.number = search rules in record { did = rw (c.in-Some.ensures.given (g.O.Outside.told c.args.out.now)) (act_does (λ _. tt) c.put.result _ (put c.args.slot (Number c.in-Some.number) (state_seen c.called_number.new.s (g.O.Outside.told c.args.out.now))) (rw (to_z-of_z w64 c.in-Some.number f) at (c.put.ensures.did (g.O.Outside.told c.args.out.now))) ((goes_put c.args.slot (Number c.in-Some.number)).from (state_seen c.called_number.new.s (g.O.Outside.told c.args.out.now))).printed) }
 
 pub returns-in-None : goal.returns-in-None
-returns-in-None g c = record { did = subst (λ s. Does (λ _. tt) c.assign_part.result (state_seen c.assign_part.new.s (g.O.Out.taken c.other_value_of-value.new.out)) (then_do (value (level (g.W.Within.code c.args.inside.now) (g.W.Within.depth c.args.inside.now)) (part c.args.value.now) s) (λ v. write c.args.at (levels.Name c.args.slot) (as_kind kinds.Int v)))) (c.in-None.ensures.given (g.O.Out.taken c.args.out.now)) (c.assign_part.ensures.did _ _ c.other_value_of-value.ensures.did) }
+returns-in-None g c = record { did = subst (λ s. Does (λ _. tt) c.assign_part.result (state_seen c.assign_part.new.s (g.O.Outside.told c.assign_part.new.out)) (then_do (value (level (g.W.Within.code c.args.inside.now) (g.W.Within.depth c.args.inside.now)) (part c.args.value.now) s) (λ v. write c.args.at (levels.Name c.args.slot) (as_kind kinds.Int v)))) (c.in-None.ensures.given (g.O.Outside.told c.args.out.now)) (c.assign_part.ensures.did _ c.other_value_of-value.ensures.did) }

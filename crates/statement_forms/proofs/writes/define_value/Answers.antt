@@ -4,6 +4,7 @@ use Rattle.comet_meaning.proofs.GoingStatements.{goes_level, goes_defined_at}
 use Rattle.comet_meaning.specs.Writes.{define_form}
 use Rattle.std.proofs.lemmas.Result.{err_from_is_err_and}
 use Rattle.run_steps.proofs.Stops.{ended_then}
+use Rattle.run_state.specs.Views.{state_seen}
 use Rattle.statement_forms.proofs.writes.define_value.Goals as goal
 
 pub returns-in_err-target : goal.returns-in_err-target
@@ -12,4 +13,4 @@ returns-in_err-target g c = let p = err_from_is_err_and c.from_residual.result c
 
 pub returns : goal.returns
 unfolding define_form
-returns g c = record { did = rw c.in_ok-target.ensures.did (c.define_part.ensures.did _ _ c.single_term-term.ensures.did) }
+returns g c = record { did = rw c.in_ok-target.ensures.did (c.define_part.ensures.did (state_seen c.single_term-term.new.s (g.O.Outside.told c.single_term-term.new.out)) _ c.single_term-term.ensures.did) }

@@ -19,4 +19,4 @@ returns-in_err-old g c = let p = err_from_is_err_and c.from_residual-in_err-old.
 
 pub returns : goal.returns
 unfolding add_form
-returns g c = record { did = rw (c.in_ok-target.ensures.did, c.in_ok-old.ensures.did (g.O.Out.taken c.target_of.new.out)) (c.subtract_part.ensures.did _ _ c.number_of-number.ensures.did) }
+returns g c = record { did = rw (c.in_ok-target.ensures.did, c.in_ok-old.ensures.did (g.O.Outside.told c.target_of.new.out)) (c.subtract_part.ensures.did _ c.number_of-number.ensures.did) }

@@ -20,4 +20,4 @@ unfolding swap_form
 returns g c =
     let l : Level = level (g.W.Within.code c.args.inside.now) (g.W.Within.depth c.args.inside.now) in
     let target : Target = target_seen c.in_ok-left.left in
-    record { did = rw c.in_ok-left.ensures.did (follows_both _ _ _ _ _ _ _ _ _ _ _ _ _ _ _ _ (λ other. swapped_at c.args.at target other) (λ (u : Unit {0}). behind_commit l c.args.at target) c.target_of-right.ensures.did (c.swap_part-done.ensures.did _) c.behind_commit.ensures.did) }
+    record { did = rw c.in_ok-left.ensures.did (follows_both _ _ _ _ _ _ _ _ _ _ _ _ _ _ _ _ (λ other. swapped_at c.args.at target other) (λ (u : Unit {0}). behind_commit l c.args.at target) c.target_of-right.ensures.did c.swap_part-done.ensures.did c.behind_commit.ensures.did) }

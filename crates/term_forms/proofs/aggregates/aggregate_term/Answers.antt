@@ -16,4 +16,4 @@ pub returns-in_err-bodies : goal.returns-in_err-bodies
 returns-in_err-bodies g c = record { did = exit _ _ _ _ _ c.from_residual-in_err-bodies.ensures.1 (aggregate_ends _ _ _ _ _ _ _ _ _ c.in_err-bodies.ensures.did) }
 
 pub returns : goal.returns
-returns g c = record { did = subst (Does _ _ _) (sym (aggregate_went _ _ _ _ _ _ _ c.in_ok-bodies.ensures.did _ c.in_ok-frame.ensures.same)) (c.aggregated.ensures.did (record (state_seen c.bodies_of.new.s (g.O.Out.taken c.bodies_of.new.out)) { frame = map value_seen c.in_ok-frame.frame.items })) }
+returns g c = record { did = subst (Does _ _ _) (sym (aggregate_went _ _ _ _ _ _ _ c.in_ok-bodies.ensures.did _ c.in_ok-frame.ensures.same)) (c.aggregated.ensures.did (record (state_seen c.bodies_of.new.s (g.O.Outside.told c.bodies_of.new.out)) { frame = map value_seen c.in_ok-frame.frame.items })) }

@@ -11,7 +11,7 @@ use Rattle.term_forms.specs.Bodies.{body_seen}
 use Rattle.term_forms.proofs.aggregates.bodies_of.Given as goal
 
 abbrev pub invariant-loop-tuples : goal.invariant-loop-tuples
-invariant-loop-tuples g l = record { left : Remains (level (g.W.Within.code l.inside) (g.W.Within.depth l.inside)) l.at (gathers (g.W.Within.code l.inside) (g.W.Within.depth l.inside) l.at l.aggregate (part_or_none l.condition) (part l.body) (map body_seen l.bodies.items) (each_tuple (level (g.W.Within.code l.inside) (g.W.Within.depth l.inside)) l.at always (keyed_form (level (g.W.Within.code l.inside) (g.W.Within.depth l.inside)) l.at l.aggregate (part_or_none l.condition) (part l.body)) [] (generators_seen l.generators) [] (state_seen l.fn.s (g.O.Out.taken l.fn.out)))) l.generators (bounds_of l.tuples) (stack_seen l.tuples) (state_seen l.s (g.O.Out.taken l.out)); inside : length l.tuples.below.items < length l.generators }
+invariant-loop-tuples g l = record { left : Remains (level (g.W.Within.code l.inside) (g.W.Within.depth l.inside)) l.at (gathers (g.W.Within.code l.inside) (g.W.Within.depth l.inside) l.at l.aggregate (part_or_none l.condition) (part l.body) (map body_seen l.bodies.items) (each_tuple (level (g.W.Within.code l.inside) (g.W.Within.depth l.inside)) l.at always (keyed_form (level (g.W.Within.code l.inside) (g.W.Within.depth l.inside)) l.at l.aggregate (part_or_none l.condition) (part l.body)) [] (generators_seen l.generators) [] (state_seen l.fn.s (g.O.Outside.told l.fn.out)))) l.generators (bounds_of l.tuples) (stack_seen l.tuples) (state_seen l.s (g.O.Outside.told l.out)); inside : length l.tuples.below.items < length l.generators }
 
 abbrev pub decreases-loop-tuples : goal.decreases-loop-tuples
 decreases-loop-tuples g l = l.s.fuel

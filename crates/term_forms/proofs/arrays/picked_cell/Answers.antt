@@ -19,4 +19,4 @@ returns-in_err-row g c = record { did = after _ _ _ _ c.in_ok-cells.ensures.did 
 
 pub returns : goal.returns
 unfolding picked_cell
-returns g c = let f : FitsSigned w64 c.in_ok-row.row = search rules in record { did = after _ _ _ _ c.in_ok-cells.ensures.did (after _ _ _ _ c.in_ok-row.ensures.did (rw (to_z-of_z w64 c.in_ok-row.row f) at (c.pick_twice.ensures.did (state_seen c.number_of-column.new.s (g.O.Out.taken c.number_of-column.new.out)) _ c.number_of-column.ensures.did))) }
+returns g c = let f : FitsSigned w64 c.in_ok-row.row = search rules in record { did = after _ _ _ _ c.in_ok-cells.ensures.did (after _ _ _ _ c.in_ok-row.ensures.did (rw (to_z-of_z w64 c.in_ok-row.row f) at (c.pick_twice.ensures.did (state_seen c.number_of-column.new.s (g.O.Outside.told c.number_of-column.new.out)) _ c.number_of-column.ensures.did))) }

@@ -8,4 +8,4 @@ use Rattle.term_forms.proofs.operators.joined_term.Given as goal
 
 -- the operands that are left, from here, give what all give
 abbrev pub invariant-loop-link : goal.invariant-loop-link
-invariant-loop-link g l = TermsLeft (level (g.W.Within.code l.inside) (g.W.Within.depth l.inside)) shape_of_link l.links l.link-index l.term (state_seen l.s (g.O.Out.taken l.out)) (joined_form (level (g.W.Within.code l.inside) (g.W.Within.depth l.inside)) (links_seen l.links) l.fn.first (state_seen l.fn.s (g.O.Out.taken l.fn.out)))
+invariant-loop-link g l = TermsLeft (level (g.W.Within.code l.inside) (g.W.Within.depth l.inside)) shape_of_link l.links l.link-index l.term (state_seen l.s (g.O.Outside.told l.out)) (joined_form (level (g.W.Within.code l.inside) (g.W.Within.depth l.inside)) (links_seen l.links) l.fn.first (state_seen l.fn.s (g.O.Outside.told l.fn.out)))

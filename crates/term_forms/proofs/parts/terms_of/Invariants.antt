@@ -8,4 +8,4 @@ use Rattle.term_forms.proofs.parts.terms_of.Given as goal
 
 -- the parts that are left, from here, give what all give
 abbrev pub invariant-loop-e : goal.invariant-loop-e
-invariant-loop-e g l = TermRowLeft (level (g.W.Within.code l.inside) (g.W.Within.depth l.inside)) part l.es l.e-index l.terms.items (state_seen l.s (g.O.Out.taken l.out)) (each_term (level (g.W.Within.code l.inside) (g.W.Within.depth l.inside)) (row l.es) [] (state_seen l.fn.s (g.O.Out.taken l.fn.out)))
+invariant-loop-e g l = TermRowLeft (level (g.W.Within.code l.inside) (g.W.Within.depth l.inside)) part l.es l.e-index l.terms.items (state_seen l.s (g.O.Outside.told l.out)) (each_term (level (g.W.Within.code l.inside) (g.W.Within.depth l.inside)) (row l.es) [] (state_seen l.fn.s (g.O.Outside.told l.fn.out)))

@@ -47,12 +47,12 @@ returns-in-Builtin g c = record { did = rw (c.in-Builtin.is, form_builtin _ _) (
 
 pub returns-in-Set : goal.returns-in-Set
 unfolding moving_term
-returns-in-Set g c = record { did = rw (c.in-Set.is, form_set _) (ap (λ t. Went t (state_seen c.args.s.now (g.O.Out.taken c.args.out.now))) (sym c.zero-in-Set.ensures)) }
+returns-in-Set g c = record { did = rw (c.in-Set.is, form_set _) (ap (λ t. Went t (state_seen c.args.s.now (g.O.Outside.told c.args.out.now))) (sym c.zero-in-Set.ensures)) }
 
 pub returns-in-Call : goal.returns-in-Call
 unfolding moving_term
-returns-in-Call g c = record { did = rw (c.in-Call.is, form_call _ _) (ap (λ t. Went t (state_seen c.args.s.now (g.O.Out.taken c.args.out.now))) (sym c.zero-in-Call.ensures)) }
+returns-in-Call g c = record { did = rw (c.in-Call.is, form_call _ _) (ap (λ t. Went t (state_seen c.args.s.now (g.O.Outside.told c.args.out.now))) (sym c.zero-in-Call.ensures)) }
 
 pub returns-in-Method : goal.returns-in-Method
 unfolding moving_term
-returns-in-Method g c = record { did = rw (c.in-Method.is, form_method _ _ _) (ap (λ t. Went t (state_seen c.args.s.now (g.O.Out.taken c.args.out.now))) (sym c.zero-in-Method.ensures)) }
+returns-in-Method g c = record { did = rw (c.in-Method.is, form_method _ _ _) (ap (λ t. Went t (state_seen c.args.s.now (g.O.Outside.told c.args.out.now))) (sym c.zero-in-Method.ensures)) }

@@ -6,7 +6,7 @@ use Rattle.ls_solver.specs.Answers.{IsReply}
 use Rattle.ls_solver.proofs.solver.Solver.assign_delta_in.Goals as goal
 
 pub delta-requires-clause-own : goal.delta-requires-clause-own
-delta-requires-clause-own c = assigns_own c.args.self.now c.args.k c.args.x
+delta-requires-clause-own g c = assigns_own c.args.self.now c.args.k c.args.x
 
 pub returns : goal.returns
-returns c = subst (λ v. IsReply (assign_reply c.args.self.now c.args.k c.args.x v) c.delta.result) (to_z-of_z w64 c.args.v c.ranges.v) c.delta.ensures
+returns g c = subst (λ v. IsReply (assign_reply c.args.self.now c.args.k c.args.x v) c.delta.result) (to_z-of_z w64 c.args.v c.ranges.v) c.delta.ensures

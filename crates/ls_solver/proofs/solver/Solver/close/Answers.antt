@@ -5,7 +5,7 @@ use Rattle.solver_models.specs.State.{SolverState}
 use Rattle.ls_solver.proofs.solver.Solver.close.Goals as goal
 
 pub returns-in-Ok-Some : goal.returns-in-Ok-Some
-returns-in-Ok-Some c =
+returns-in-Ok-Some g c =
     let found = rw c.in-Ok-Some.field-0-is at c.in-Ok-Some.ensures in (
       ap (λ (t : SolverState). t.closed) (sym c.self.view_is) ∙ c.if-self.false,
       refl,

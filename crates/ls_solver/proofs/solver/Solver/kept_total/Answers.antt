@@ -3,17 +3,18 @@ use Rattle.std.proofs.lemmas.Int.{to_z-of_z}
 use Rattle.model_values.specs.Fresh.{seen_values}
 use Rattle.solver_models.proofs.ReplyLaws.{total_kept, total_reads}
 use Rattle.ls_solver.proofs.solver.Solver.kept_total.Goals as goal
+use Rattle.posted_users.specs.PostedState.{rules_of}
 
 pub number_at-requires : goal.number_at-requires
-number_at-requires c =
+number_at-requires g c =
     let s = c.self.inside in
     subst (λ vs. c.args.k.index < length vs) (sym c.totals_in.ensures)
-    (total_kept s.number s.model s.assignment.items s.marks.items s.terms (seen_values s.values) s.closed s.usable c.self.invariant c.args.k c.args.self.now c.self.view_is c.requires.usable c.requires.readable)
+    (total_kept s.number s.model s.assignment.items s.marks.items (rules_of s.users.posted.items) s.terms (seen_values s.values) s.closed s.usable c.self.invariant c.args.k c.args.self.now c.self.view_is c.requires.usable c.requires.readable)
 
 pub returns : goal.returns
-returns c =
+returns g c =
     let s = c.self.inside in
     let fits : FitsSigned w64 c.number_at.result = search rules in
     rw (to_z-of_z w64 c.number_at.result fits)
-    (total_reads s.number s.model s.assignment.items s.marks.items s.terms (seen_values s.values) s.closed s.usable c.self.invariant c.args.k c.args.self.now c.self.view_is c.requires.usable c.requires.readable
+    (total_reads s.number s.model s.assignment.items s.marks.items (rules_of s.users.posted.items) s.terms (seen_values s.values) s.closed s.usable c.self.invariant c.args.k c.args.self.now c.self.view_is c.requires.usable c.requires.readable
     c.number_at.result (ap (λ vs. slice_get vs c.args.k.index) (sym c.totals_in.ensures) ∙ c.number_at.ensures))

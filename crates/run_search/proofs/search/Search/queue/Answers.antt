@@ -6,6 +6,7 @@ use Rattle.run_search.proofs.SearchLaws.{queued_behind}
 use Rattle.run_search.proofs.search.Search.queue.Goals as goal
 
 pub returns-clause-queued : goal.returns-clause-queued
+unfolding search_seen
 returns-clause-queued c = λ k cs same.
     let i = c.args.self.now in
     ap (λ (es : List meaning.Event). record (search_seen i) { queue = es })

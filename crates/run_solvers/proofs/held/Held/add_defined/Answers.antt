@@ -9,13 +9,13 @@ use Rattle.run_solvers.proofs.SeenLaws.{count_seen}
 use Rattle.run_solvers.proofs.held.Held.add_defined.Goals as goal
 
 pub try_define-requires-clause-whole : goal.try_define-requires-clause-whole
-try_define-requires-clause-whole c = c.in-Ok.ensures.whole
+try_define-requires-clause-whole g c = c.in-Ok.ensures.whole
 
 pub try_define-requires-clause-own : goal.try_define-requires-clause-own
-try_define-requires-clause-own c = ap (λ (x : VarId). x.solver) c.in-Ok.ensures.id ∙ sym c.in-Ok.ensures.number
+try_define-requires-clause-own g c = ap (λ (x : VarId). x.solver) c.in-Ok.ensures.id ∙ sym c.in-Ok.ensures.number
 
 pub returns-in-Err-clause-tries : goal.returns-in-Err-clause-tries
-returns-in-Err-clause-tries c =
+returns-in-Err-clause-tries g c =
     let old = c.args.self.now in record {
       meant = added_stops c.args.at old.number c.args.decl c.args.name c.args.built (held_seen old) c.in-Err.stop c.in-Err.ensures.meant;
       kept = tt;
@@ -23,7 +23,7 @@ returns-in-Err-clause-tries c =
     }
 
 pub returns-in-Ok-try_define-clause-tries : goal.returns-in-Ok-try_define-clause-tries
-returns-in-Ok-try_define-clause-tries c =
+returns-in-Ok-try_define-clause-tries g c =
     let old = c.args.self.now in
     let m = held_seen old in
     let mid = c.declare.new.self in
@@ -35,7 +35,7 @@ returns-in-Ok-try_define-clause-tries c =
     }
 
 pub returns-in-Err-try_define-clause-tries : goal.returns-in-Err-try_define-clause-tries
-returns-in-Err-try_define-clause-tries c =
+returns-in-Err-try_define-clause-tries g c =
     let old = c.args.self.now in record {
       meant = defined_stops c.args.at old.number c.args.decl c.args.name c.args.built (held_seen old) (held_seen c.declare.new.self) c.in-Ok.variable c.in-Err-try_define.stop c.in-Ok.ensures.meant c.in-Ok.ensures.id c.in-Err-try_define.ensures.meant;
       kept = tt;

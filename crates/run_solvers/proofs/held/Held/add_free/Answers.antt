@@ -8,7 +8,7 @@ use Rattle.run_solvers.proofs.FoundSolvers.{numbers_kept}
 use Rattle.run_solvers.proofs.held.Held.add_free.Goals as goal
 
 pub returns-in-Number-clause-tries : goal.returns-in-Number-clause-tries
-returns-in-Number-clause-tries c =
+returns-in-Number-clause-tries g c =
     let old = c.args.self.now in
     let m = held_seen old in
     let same : to_z w64 (of_z w64 c.args.number) ≡ c.args.number = search rules in record {

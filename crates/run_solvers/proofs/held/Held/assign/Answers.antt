@@ -7,10 +7,10 @@ use Rattle.run_solvers.proofs.TriedLaws.{moved_as}
 use Rattle.run_solvers.proofs.held.Held.assign.Goals as goal
 
 pub finish-requires : goal.finish-requires
-finish-requires c = c.try_assign-made.ensures.kept
+finish-requires g c = c.try_assign-made.ensures.kept
 
 pub returns : goal.returns
-returns c =
+returns g c =
     let old = c.args.self.now in
     let same : to_z w64 (of_z w64 c.args.number) ≡ c.args.number = search rules in
     finished_moves old _ _ c.try_assign-made.result c.finish.result _

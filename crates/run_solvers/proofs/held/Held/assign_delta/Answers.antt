@@ -12,10 +12,10 @@ use Rattle.run_solvers.proofs.AskingLaws.{asks_delta}
 use Rattle.run_solvers.proofs.held.Held.assign_delta.Goals as goal
 
 pub assign_delta_in-requires : goal.assign_delta_in-requires
-assign_delta_in-requires c = c.requires.kept.0.usable
+assign_delta_in-requires g c = c.requires.kept.0.usable
 
 pub returns-clause-did : goal.returns-clause-did
-returns-clause-did c = λ s.
+returns-clause-did g c = λ s.
     let held = c.args.self.now in
     let same : to_z w64 (of_z w64 c.args.number) ≡ c.args.number = search rules in
     let reply = subst (λ (z : ℤ). IsReply (assign_reply held.solver c.args.total c.args.x z) c.assign_delta_in.result) same c.assign_delta_in.ensures in

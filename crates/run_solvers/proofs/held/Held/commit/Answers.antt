@@ -7,13 +7,13 @@ use Rattle.run_solvers.proofs.ToldLaws.{told_commit}
 use Rattle.run_solvers.proofs.held.Held.commit.Goals as goal
 
 pub commit_uncounted-requires-clause-usable : goal.commit_uncounted-requires-clause-usable
-commit_uncounted-requires-clause-usable c = c.requires.kept.0.usable
+commit_uncounted-requires-clause-usable g c = c.requires.kept.0.usable
 
 pub commit_uncounted-requires-clause-kinds : goal.commit_uncounted-requires-clause-kinds
-commit_uncounted-requires-clause-kinds c = λ k m at own. free_number c.args.self.now.solver m.0 c.requires.kept.1 own (c.requires.free k m at).1
+commit_uncounted-requires-clause-kinds g c = λ k m at own. free_number c.args.self.now.solver m.0 c.requires.kept.1 own (c.requires.free k m at).1
 
 pub returns-in-Ok : goal.returns-in-Ok
-returns-in-Ok c =
+returns-in-Ok g c =
     let old = c.args.self.now in
     let new = c.commit_uncounted.new.self in record {
       meant = commits_ok old.solver new old.names c.args.moves.now (waits old) c.requires.nothing c.in-Ok.changes c.in-Ok.ensures;
@@ -23,7 +23,7 @@ returns-in-Ok c =
     }
 
 pub returns-in-Err-At : goal.returns-in-Err-At
-returns-in-Err-At c =
+returns-in-Err-At g c =
     let old = c.args.self.now in record {
       meant = commits_fault old.solver c.commit_uncounted.new.self old.names c.args.moves.now (waits old) c.requires.nothing c.in-Err-At.place c.in-Err-At.fault (rw c.in-Err-At.field-0-is at c.in-Err-At.ensures);
       kept = tt;

@@ -13,19 +13,19 @@ use Rattle.run_solvers.proofs.WaitingLaws.{moves_distinct}
 use Rattle.run_solvers.proofs.held.Held.commit_all.Goals as goal
 
 pub moves_of-requires : goal.moves_of-requires
-moves_of-requires c = let count = c.requires.waiting.1 in let few = c.keeps_form.ensures.few in omega (arith, count, few)
+moves_of-requires g c = let count = c.requires.waiting.1 in let few = c.keeps_form.ensures.few in omega (arith, count, few)
 
 pub commit-requires-clause-distinct : goal.commit-requires-clause-distinct
-commit-requires-clause-distinct c = subst AreDistinct (sym (c.deref.ensures.value ∙ c.in-Ok.ensures)) (moves_distinct c.args.self.now.number 0 c.args.waiting.now)
+commit-requires-clause-distinct g c = subst AreDistinct (sym (c.deref.ensures.value ∙ c.in-Ok.ensures)) (moves_distinct c.args.self.now.number 0 c.args.waiting.now)
 
 pub commit-requires-clause-free : goal.commit-requires-clause-free
-commit-requires-clause-free c =
+commit-requires-clause-free g c =
     let old = c.args.self.now in
     subst (λ (ms : List (VarId × ℤ)). (k : ℕ) (m : VarId × ℤ) → slice_get ms k ≡ Some m → (is_own old.solver m.0 ≡ true) × (has_definition old.solver.model m.0.index ≡ false))
     (sym (c.deref.ensures.value ∙ c.in-Ok.ensures)) (all_free old.solver old.number c.args.waiting.now c.requires.kept.0.number_ c.requires.waiting)
 
 pub returns-in-Ok : goal.returns-in-Ok
-returns-in-Ok c =
+returns-in-Ok g c =
     let old = c.args.self.now in
     let same = all_moves old.solver old.number c.args.waiting.now c.requires.kept.0.number_ c.requires.waiting c.keeps_form.ensures.assigned in
     moved_as old old _ c.commit.result _ _ refl refl

@@ -11,10 +11,10 @@ use Rattle.run_solvers.proofs.ValueLaws.{domain_there}
 use Rattle.run_solvers.proofs.held.Held.domain.Goals as goal
 
 pub domain-requires : goal.domain-requires
-domain-requires c = record { usable = c.requires.0.usable }
+domain-requires g c = record { usable = c.requires.0.usable }
 
 pub returns-in-Ok-clause-did : goal.returns-in-Ok-clause-did
-returns-in-Ok-clause-did c = λ s.
+returns-in-Ok-clause-did g c = λ s.
     let held = c.args.self.now in
     let own = c.own.ensures in
     let low : to_z w64 (of_z w64 c.in-Ok.low) ≡ c.in-Ok.low = search rules in
@@ -25,7 +25,7 @@ returns-in-Ok-clause-did c = λ s.
     ∙ ap (λ (z : ℤ). Went (values.Range (record { low = to_z w64 (of_z w64 c.in-Ok.low); up = z })) s) (sym up)
 
 pub returns-in-Err-clause-did : goal.returns-in-Err-clause-did
-returns-in-Err-clause-did c = λ s.
+returns-in-Err-clause-did g c = λ s.
     let held = c.args.self.now in
     let own = c.own.ensures in
     subst (λ (x : VarId). Stopped c.stop_of.result s (domain_at c.args.at x (held_seen held) s)) own

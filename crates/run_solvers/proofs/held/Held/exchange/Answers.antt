@@ -7,13 +7,13 @@ use Rattle.run_solvers.proofs.TriedLaws.{moved_as}
 use Rattle.run_solvers.proofs.held.Held.exchange.Goals as goal
 
 pub returns-in-Err : goal.returns-in-Err
-returns-in-Err c = record { meant = rw c.in-Err.ensures.stop tt; kept = tt; number = refl; told = tt }
+returns-in-Err g c = record { meant = rw c.in-Err.ensures.stop tt; kept = tt; number = refl; told = tt }
 
 pub returns-in-Err-number_of : goal.returns-in-Err-number_of
-returns-in-Err-number_of c = record { meant = rw c.in-Err-number_of.ensures.stop tt; kept = tt; number = refl; told = tt }
+returns-in-Err-number_of g c = record { meant = rw c.in-Err-number_of.ensures.stop tt; kept = tt; number = refl; told = tt }
 
 pub returns-in-Ok-number_of : goal.returns-in-Ok-number_of
-returns-in-Ok-number_of c =
+returns-in-Ok-number_of g c =
     let old = c.args.self.now in
     let m = held_seen old in
     let i = c.args.x.index in

@@ -9,10 +9,10 @@ use Rattle.run_solvers.proofs.held.Held.free_indices.Goals as goal
 use Rattle.run_solvers.proofs.held.Held.free_indices.Goals.{then-not-defines+in_ok-push, else-not-defines}
 
 pub overflow_cast-index-end : goal.overflow_cast-index-end
-overflow_cast-index-end c = let few = c.keeps_form.ensures.few in let named = c.requires.0.named in omega (arith, few, named, c.len-index-end.ensures)
+overflow_cast-index-end g c = let few = c.keeps_form.ensures.few in let named = c.requires.0.named in omega (arith, few, named, c.len-index-end.ensures)
 
 pub loop-index-preserved : goal.loop-index-preserved
-loop-index-preserved c =
+loop-index-preserved g c =
     let h = c.args.self.now in
     let l = c.loop-index in
     let named = c.requires.0.named in
@@ -25,7 +25,7 @@ loop-index-preserved c =
     ]
 
 pub returns : goal.returns
-returns c =
+returns g c =
     let h = c.args.self.now in
     let l = c.loop-index in
     let named = c.requires.0.named in

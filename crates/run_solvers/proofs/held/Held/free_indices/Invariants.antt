@@ -6,4 +6,4 @@ use Rattle.run_solvers.proofs.held.Held.free_indices.Given as goal
 
 -- the free ones so far, and then those of what is left, are all
 abbrev pub invariant-loop-index : goal.invariant-loop-index
-invariant-loop-index l = filter (λ i. not (has_definition l.self.solver.model i)) (range_with_len 0 (length l.self.names)) ≡ l.free.items ++ filter (λ i. not (has_definition l.self.solver.model i)) (range_with_len l.index (length l.self.names - l.index))
+invariant-loop-index g l = filter (λ i. not (has_definition l.self.solver.model i)) (range_with_len 0 (length l.self.names)) ≡ l.free.items ++ filter (λ i. not (has_definition l.self.solver.model i)) (range_with_len l.index (length l.self.names - l.index))

@@ -2,7 +2,7 @@
 use Rattle.run_solvers.proofs.held.Held.new_sum.Goals as goal
 
 pub returns-in-Ok-clause-changes : goal.returns-in-Ok-clause-changes
-returns-in-Ok-clause-changes c = record { meant = c.in-Ok.ensures.changes.meant; kept = c.in-Ok.ensures.changes.kept; number = c.in-Ok.ensures.changes.number }
+returns-in-Ok-clause-changes g c = record { meant = c.in-Ok.ensures.changes.meant; kept = c.in-Ok.ensures.changes.kept; number = c.in-Ok.ensures.changes.number }
 
 pub returns-in-Err-clause-changes : goal.returns-in-Err-clause-changes
-returns-in-Err-clause-changes c = record { meant = c.in-Err.ensures.changes.meant; kept = c.in-Err.ensures.changes.kept; number = c.in-Err.ensures.changes.number }
+returns-in-Err-clause-changes g c = record { meant = c.in-Err.ensures.changes.meant; kept = c.in-Err.ensures.changes.kept; number = c.in-Err.ensures.changes.number }

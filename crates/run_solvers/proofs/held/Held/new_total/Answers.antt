@@ -3,8 +3,8 @@ use Rattle.run_solvers.proofs.FoundSolvers.{finished}
 use Rattle.run_solvers.proofs.held.Held.new_total.Goals as goal
 
 pub finish-requires : goal.finish-requires
-finish-requires c = c.try_total-made.ensures.tries.kept
+finish-requires g c = c.try_total-made.ensures.tries.kept
 
 pub returns-clause-changes : goal.returns-clause-changes
-returns-clause-changes c =
+returns-clause-changes g c =
     finished c.args.self.now _ _ c.try_total-made.result c.finish.result _ c.try_total-made.ensures.tries c.finish.ensures.same c.finish.ensures.kept c.finish.ensures.number c.finish.ensures.unchanged

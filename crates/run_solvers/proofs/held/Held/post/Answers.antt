@@ -8,10 +8,10 @@ use Rattle.run_solvers.proofs.TriedLaws.{tried_as}
 use Rattle.run_solvers.proofs.held.Held.post.Goals as goal
 
 pub finish-requires : goal.finish-requires
-finish-requires c = c.try_post-made.ensures.kept
+finish-requires g c = c.try_post-made.ensures.kept
 
 pub returns : goal.returns
-returns c =
+returns g c =
     let old = c.args.self.now in
     let same : to_z w64 (of_z w64 c.args.weight) ≡ c.args.weight = search rules in
     finished old _ _ c.try_post-made.result c.finish.result _

@@ -14,17 +14,17 @@ use Rattle.run_solvers.proofs.TriedLaws.{tried_as}
 use Rattle.run_solvers.proofs.held.Held.post_nothing.Goals as goal
 
 pub post_number-requires-clause-early : goal.post_number-requires-clause-early
-post_number-requires-clause-early c =
+post_number-requires-clause-early g c =
     let S = c.args.self.now.solver in
     let same : to_z w64 (of_z w64 c.args.weight) ≡ c.args.weight = search rules in
     subst (λ (z : ℤ). early_member_refusal S c.args.total c.nothing_of-term.result z ≡ None) (sym same)
     (early_number S c.args.total (constant (pos 0)) c.nothing_of-term.result c.args.weight (nothing_names S c.nothing_of-term.result number_kind c.nothing_of-term.ensures.seen) c.requires.early)
 
 pub post_number-requires-clause-kind : goal.post_number-requires-clause-kind
-post_number-requires-clause-kind c = zero_kind _ c.nothing_of-term.result c.nothing_of-term.ensures.seen
+post_number-requires-clause-kind g c = zero_kind _ c.nothing_of-term.result c.nothing_of-term.ensures.seen
 
 pub returns : goal.returns
-returns c =
+returns g c =
     let old = c.args.self.now in
     let same : to_z w64 (of_z w64 c.args.weight) ≡ c.args.weight = search rules in
     tried_as old old _ c.post_number.result _ _ refl

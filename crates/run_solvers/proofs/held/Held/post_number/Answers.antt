@@ -11,16 +11,16 @@ use Rattle.run_solvers.proofs.PostLaws.{added_sets, added_whole, adds_ok, adds_s
 use Rattle.run_solvers.proofs.held.Held.post_number.Goals as goal
 
 pub add_member-requires-clause-usable : goal.add_member-requires-clause-usable
-add_member-requires-clause-usable c = c.requires.kept.0.usable
+add_member-requires-clause-usable g c = c.requires.kept.0.usable
 
 pub add_member-requires-clause-kind : goal.add_member-requires-clause-kind
-add_member-requires-clause-kind c = λ own. c.requires.kind
+add_member-requires-clause-kind g c = λ own. c.requires.kind
 
 pub add_member-requires-clause-users : goal.add_member-requires-clause-users
-add_member-requires-clause-users c = c.requires.shallow.1
+add_member-requires-clause-users g c = c.requires.shallow.1
 
 pub returns-in-Ok : goal.returns-in-Ok
-returns-in-Ok c =
+returns-in-Ok g c =
     let old = c.args.self.now in
     let same : to_z w64 (of_z w64 c.args.weight) ≡ c.args.weight = search rules in
     let member : Member = record { term = c.args.term; weight = to_z w64 (of_z w64 c.args.weight) } in
@@ -35,7 +35,7 @@ returns-in-Ok c =
     }
 
 pub returns-in-Err : goal.returns-in-Err
-returns-in-Err c =
+returns-in-Err g c =
     let old = c.args.self.now in
     let same : to_z w64 (of_z w64 c.args.weight) ≡ c.args.weight = search rules in
     let member : Member = record { term = c.args.term; weight = to_z w64 (of_z w64 c.args.weight) } in

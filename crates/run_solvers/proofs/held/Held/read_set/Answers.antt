@@ -10,13 +10,13 @@ use Rattle.run_solvers.proofs.ValueLaws.{kind_own, set_there}
 use Rattle.run_solvers.proofs.held.Held.read_set.Goals as goal
 
 pub set_value-requires-clause-usable : goal.set_value-requires-clause-usable
-set_value-requires-clause-usable c = c.requires.kept.0.usable
+set_value-requires-clause-usable g c = c.requires.kept.0.usable
 
 pub set_value-requires-clause-kind : goal.set_value-requires-clause-kind
-set_value-requires-clause-kind c = λ own. (kind_own c.args.self.now.solver c.args.variable _ c.requires.kind).1
+set_value-requires-clause-kind g c = λ own. (kind_own c.args.self.now.solver c.args.variable _ c.requires.kind).1
 
 pub returns-in_ok-copy-in-Ok-clause-did : goal.returns-in_ok-copy-in-Ok-clause-did
-returns-in_ok-copy-in-Ok-clause-did c = λ s.
+returns-in_ok-copy-in-Ok-clause-did g c = λ s.
     let held = c.args.self.now in
     let members = c.in-Ok.members.now in
     let copied = c.in_ok-copy-in-Ok.ensures ∙ ap set_of c.as_slice.ensures.members ∙ set_of-rising members c.as_slice.ensures.rising in
@@ -24,6 +24,6 @@ returns-in_ok-copy-in-Ok-clause-did c = λ s.
     ∙ ap (λ (xs : List ℤ). Went (values.Set xs) s) (sym copied)
 
 pub returns-in-Err-clause-did : goal.returns-in-Err-clause-did
-returns-in-Err-clause-did c = λ s.
+returns-in-Err-clause-did g c = λ s.
     let held = c.args.self.now in
     set_stops held.solver held.names (waits held) c.args.at c.args.variable s c.requires.kind c.in-Err.fault c.stop_of.result c.in-Err.ensures.answer c.stop_of.ensures

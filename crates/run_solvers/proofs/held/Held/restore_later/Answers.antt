@@ -10,7 +10,7 @@ use Rattle.run_solvers.proofs.ToldLaws.{nothing_told}
 use Rattle.run_solvers.proofs.held.Held.restore_later.Goals as goal
 
 pub returns : goal.returns
-returns c =
+returns g c =
     let old = c.args.self.now in
     let values = c.args.values.now in
     let whole = c.requires.kept.0 in
@@ -25,5 +25,5 @@ returns c =
       meant = restored_moves old.solver old.names (waits old) c.args.at values closed long ∙ waited_all old.solver old.names (waits old) v (zip (free_places old.solver.model) values) next c.requires.waits c.keeps_form.ensures.assigned whole.waits_;
       kept = (record { number_ = whole.number_; usable = whole.usable; named = whole.named; waits_ = waiting_all old.solver (waits old) v values next whole.waits_ }, c.requires.kept.1);
       number = refl;
-      told = nothing_told old.number (held_seen old) (held_seen (record old { waiting = c.wait_for_all.new.waiting })) c.new.result refl refl c.new.ensures.items;
+      told = nothing_told old.number (held_seen old) (held_seen (record old { waiting = c.wait_for_all.new.waiting })) c.new.result refl refl refl c.new.ensures.items;
     }

@@ -7,10 +7,10 @@ use Rattle.run_solvers.proofs.ToldLaws.{told_commit}
 use Rattle.run_solvers.proofs.held.Held.restore_now.Goals as goal
 
 pub restore_uncounted-requires : goal.restore_uncounted-requires
-restore_uncounted-requires c = c.requires.kept.0.usable
+restore_uncounted-requires g c = c.requires.kept.0.usable
 
 pub returns-in-Ok : goal.returns-in-Ok
-returns-in-Ok c =
+returns-in-Ok g c =
     let old = c.args.self.now in
     let new = c.restore_uncounted.new.self in
     let x = c.args.solution.now in
@@ -23,7 +23,7 @@ returns-in-Ok c =
     }
 
 pub returns-in-Err-Run : goal.returns-in-Err-Run
-returns-in-Err-Run c =
+returns-in-Err-Run g c =
     let old = c.args.self.now in
     let own = c.requires.own ∙ sym c.requires.kept.0.number_ in record {
       meant = restored_refused old.solver old.names (waits old) c.args.at c.args.solution.now.values c.args.solution.now c.restore_uncounted.new.self own refl c.requires.nothing c.in-Err-Run.fault (rw c.in-Err-Run.field-0-is at c.in-Err-Run.ensures.restores);
@@ -33,7 +33,7 @@ returns-in-Err-Run c =
     }
 
 pub returns-in-Err-At : goal.returns-in-Err-At
-returns-in-Err-At c =
+returns-in-Err-At g c =
     let old = c.args.self.now in
     let own = c.requires.own ∙ sym c.requires.kept.0.number_ in record {
       meant = restored_failed old.solver old.names (waits old) c.args.at c.args.solution.now.values c.args.solution.now c.restore_uncounted.new.self own refl c.requires.nothing c.in-Err-At.place c.in-Err-At.fault (rw c.in-Err-At.field-0-is at c.in-Err-At.ensures.restores);

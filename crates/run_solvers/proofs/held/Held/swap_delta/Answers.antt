@@ -10,10 +10,10 @@ use Rattle.run_solvers.proofs.AskingLaws.{asks_delta}
 use Rattle.run_solvers.proofs.held.Held.swap_delta.Goals as goal
 
 pub swap_delta_in-requires : goal.swap_delta_in-requires
-swap_delta_in-requires c = c.requires.kept.0.usable
+swap_delta_in-requires g c = c.requires.kept.0.usable
 
 pub returns-clause-did : goal.returns-clause-did
-returns-clause-did c = λ s.
+returns-clause-did g c = λ s.
     let held = c.args.self.now in
     subst (λ (o : Outcome values.Value). Did value_seen c.answer_of.result s o)
     (sym (asks_delta held.solver held.names (waits held) c.args.at c.args.total (c.requires.own ∙ sym c.requires.kept.0.number_) s (c.args.x ∷ c.args.y ∷ []) (Swap c.args.x.index c.args.y.index)))

@@ -9,10 +9,10 @@ use Rattle.run_solvers.proofs.AskingLaws.{asks_violations}
 use Rattle.run_solvers.proofs.held.Held.system_violations.Goals as goal
 
 pub var_violations-requires : goal.var_violations-requires
-var_violations-requires c = c.requires.kept.0.usable
+var_violations-requires g c = c.requires.kept.0.usable
 
 pub returns-clause-did : goal.returns-clause-did
-returns-clause-did c = λ s.
+returns-clause-did g c = λ s.
     let held = c.args.self.now in
     subst (λ (o : Outcome values.Value). Did value_seen c.answer_of.result s o)
     (sym (asks_violations held.solver held.names (waits held) c.args.at c.args.total (c.requires.own ∙ sym c.requires.kept.0.number_) s c.args.x c.requires.side))

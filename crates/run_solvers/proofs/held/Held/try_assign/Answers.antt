@@ -7,7 +7,7 @@ use Rattle.run_solvers.proofs.TriedLaws.{moved_as}
 use Rattle.run_solvers.proofs.held.Held.try_assign.Goals as goal
 
 pub returns-then-not-owns : goal.returns-then-not-owns
-returns-then-not-owns c =
+returns-then-not-owns g c =
     let old = c.args.self.now in record {
       meant = assigned_foreign old.solver old.names (waits old) c.args.at c.args.variable c.args.number (c.requires.own ∙ sym c.requires.kept.0.number_) (sym c.owns.ensures ∙ c.if-not-owns.true);
       kept = tt;
@@ -16,7 +16,7 @@ returns-then-not-owns c =
     }
 
 pub returns-then-defines : goal.returns-then-defines
-returns-then-defines c =
+returns-then-defines g c =
     let old = c.args.self.now in record {
       meant = assigned_defined old.solver old.names (waits old) c.args.at c.args.variable c.args.number (c.requires.own ∙ sym c.requires.kept.0.number_) (sym c.owns.ensures ∙ c.if-not-owns.false) (sym c.defines.ensures ∙ c.if-defines.true);
       kept = tt;
@@ -25,7 +25,7 @@ returns-then-defines c =
     }
 
 pub returns : goal.returns
-returns c =
+returns g c =
     let old = c.args.self.now in
     let own = sym c.owns.ensures ∙ c.if-not-owns.false in
     let free = free_of _ _ own (sym c.defines.ensures ∙ c.if-defines.false) in
@@ -35,4 +35,4 @@ returns c =
     ∙ ap (λ (z : ℤ). moved_one ((c.args.variable.index, z) ∷ []) (held_seen old) (held_seen old).waiting) (sym same)) c.move_one.ensures
 
 pub move_one-requires-clause-free : goal.move_one-requires-clause-free
-move_one-requires-clause-free c = free_of _ _ (sym c.owns.ensures ∙ c.if-not-owns.false) (sym c.defines.ensures ∙ c.if-defines.false)
+move_one-requires-clause-free g c = free_of _ _ (sym c.owns.ensures ∙ c.if-not-owns.false) (sym c.defines.ensures ∙ c.if-defines.false)

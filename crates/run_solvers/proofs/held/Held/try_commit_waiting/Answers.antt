@@ -9,18 +9,18 @@ use Rattle.run_solvers.proofs.ToldLaws.{nothing_told}
 use Rattle.run_solvers.proofs.held.Held.try_commit_waiting.Goals as goal
 
 pub returns-in-None : goal.returns-in-None
-returns-in-None c =
+returns-in-None g c =
     let old = c.args.self.now in
     let whole = c.requires.0 in
     let none = items_none c.replace.new.dest c.replace.ensures.after in record {
       meant = nothing_committed old.solver old.names (waits old) _ (items_none old.waiting (sym c.replace.ensures.value ∙ c.in-None.is)) none;
       kept = (record { number_ = whole.number_; usable = whole.usable; named = whole.named; waits_ = nothing_kept old.solver _ none }, c.requires.1);
       number = refl;
-      told = nothing_told old.number (held_seen old) (held_seen (record old { waiting = c.replace.new.dest })) c.new.result refl refl c.new.ensures.items;
+      told = nothing_told old.number (held_seen old) (held_seen (record old { waiting = c.replace.new.dest })) c.new.result refl refl refl c.new.ensures.items;
     }
 
 pub returns-in-Some : goal.returns-in-Some
-returns-in-Some c =
+returns-in-Some g c =
     let old = c.args.self.now in
     let mid = record old { waiting = c.replace.new.dest } in
     moved_as old mid _ c.commit_all.result _ _ refl refl

@@ -7,10 +7,10 @@ use Rattle.run_solvers.proofs.TotalStops.{first_posted, objective_posted, object
 use Rattle.run_solvers.proofs.held.Held.try_objective.Goals as goal
 
 pub post_first-requires : goal.post_first-requires
-post_first-requires c = c.in-Ok.ensures.tries.kept
+post_first-requires g c = c.in-Ok.ensures.tries.kept
 
 pub returns-in-Err-clause-tries : goal.returns-in-Err-clause-tries
-returns-in-Err-clause-tries c =
+returns-in-Err-clause-tries g c =
     let old = c.args.self.now in record {
       meant = objective_stops c.args.at old.number c.args.built (held_seen old) c.in-Err.stop c.in-Err.ensures.tries.meant;
       kept = tt;
@@ -18,7 +18,7 @@ returns-in-Err-clause-tries c =
     }
 
 pub returns-in-Ok-post_first-clause-tries : goal.returns-in-Ok-post_first-clause-tries
-returns-in-Ok-post_first-clause-tries c =
+returns-in-Ok-post_first-clause-tries g c =
     let old = c.args.self.now in
     let mid = c.try_total.new.self in record {
       meant = objective_posted c.args.at old.number c.args.built (held_seen old) (held_seen mid) c.in-Ok.ensures.tries.meant
@@ -28,7 +28,7 @@ returns-in-Ok-post_first-clause-tries c =
     }
 
 pub returns-in-Err-post_first-clause-tries : goal.returns-in-Err-post_first-clause-tries
-returns-in-Err-post_first-clause-tries c =
+returns-in-Err-post_first-clause-tries g c =
     let old = c.args.self.now in
     let mid = c.try_total.new.self in record {
       meant = subst (λ (made : Made). Ends c.in-Err-post_first.stop made)

@@ -5,7 +5,7 @@ use Rattle.run_solvers.proofs.BlockLaws.{opened_again, opened_first, opened_kept
 use Rattle.run_solvers.proofs.held.Held.try_open.Goals as goal
 
 pub returns-then-not-is_closed-clause-tries : goal.returns-then-not-is_closed-clause-tries
-returns-then-not-is_closed-clause-tries c =
+returns-then-not-is_closed-clause-tries g c =
     let old = c.args.self.now in record {
       meant = opened_open old.solver old.names (waits old) c.args.at (sym c.is_closed.ensures ∙ c.if-not-is_closed.true);
       kept = tt;
@@ -13,7 +13,7 @@ returns-then-not-is_closed-clause-tries c =
     }
 
 pub returns-then-is_some-clause-tries : goal.returns-then-is_some-clause-tries
-returns-then-is_some-clause-tries c =
+returns-then-is_some-clause-tries g c =
     let old = c.args.self.now in record {
       meant = opened_again old.solver old.names c.args.at (sym c.is_closed.ensures ∙ c.if-not-is_closed.false) (waits old) (waits_is (λ w. w.items) old.waiting ∙ sym c.is_some.ensures ∙ c.if-is_some.true);
       kept = c.requires;
@@ -21,7 +21,7 @@ returns-then-is_some-clause-tries c =
     }
 
 pub returns-in-Ok-clause-tries : goal.returns-in-Ok-clause-tries
-returns-in-Ok-clause-tries c =
+returns-in-Ok-clause-tries g c =
     let old = c.args.self.now in
     let whole = c.requires.0 in
     let shut = sym c.is_closed.ensures ∙ c.if-not-is_closed.false in

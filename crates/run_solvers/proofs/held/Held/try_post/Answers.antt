@@ -15,7 +15,7 @@ use Rattle.run_solvers.proofs.TriedLaws.{tried_as}
 use Rattle.run_solvers.proofs.held.Held.try_post.Goals as goal
 
 pub returns-in-Some : goal.returns-in-Some
-returns-in-Some c =
+returns-in-Some g c =
     let old = c.args.self.now in
     let same : to_z w64 (of_z w64 c.args.weight) ≡ c.args.weight = search rules in
     let refusal : early_member_refusal old.solver c.args.total c.term-term.result c.args.weight ≡ c.early_member_refusal.result = subst (λ (z : ℤ). early_member_refusal old.solver c.args.total c.term-term.result z ≡ c.early_member_refusal.result) same (sym c.early_member_refusal.ensures) in record {
@@ -26,14 +26,14 @@ returns-in-Some c =
     }
 
 pub post_number-requires-clause-early : goal.post_number-requires-clause-early
-post_number-requires-clause-early c = sym c.early_member_refusal.ensures ∙ none_told _ c.in_default.not-Some
+post_number-requires-clause-early g c = sym c.early_member_refusal.ensures ∙ none_told _ c.in_default.not-Some
 
 pub post_number-requires-clause-kind : goal.post_number-requires-clause-kind
-post_number-requires-clause-kind c =
+post_number-requires-clause-kind g c =
     let old = c.args.self.now in number_is old.solver old.names (waits old) c.term-term.result (sym c.in-Ok-true.ensures ∙ c.in-Ok-true.field-0-test)
 
 pub returns-in-Ok-true : goal.returns-in-Ok-true
-returns-in-Ok-true c =
+returns-in-Ok-true g c =
     let old = c.args.self.now in
     let same : to_z w64 (of_z w64 c.args.weight) ≡ c.args.weight = search rules in
     let refusal : early_member_refusal old.solver c.args.total c.term-term.result c.args.weight ≡ c.early_member_refusal.result = subst (λ (z : ℤ). early_member_refusal old.solver c.args.total c.term-term.result z ≡ c.early_member_refusal.result) same (sym c.early_member_refusal.ensures) in
@@ -44,12 +44,12 @@ returns-in-Ok-true c =
     c.post_number.ensures
 
 pub post_nothing-requires-clause-early : goal.post_nothing-requires-clause-early
-post_nothing-requires-clause-early c =
+post_nothing-requires-clause-early g c =
     let old = c.args.self.now in
     early_number old.solver c.args.total c.term-term.result (constant (pos 0)) (to_z w64 (of_z w64 c.args.weight)) (constant_names old.solver (pos 0)) (sym c.early_member_refusal.ensures ∙ none_told _ c.in_default.not-Some)
 
 pub returns-in-Ok-false : goal.returns-in-Ok-false
-returns-in-Ok-false c =
+returns-in-Ok-false g c =
     let old = c.args.self.now in
     let same : to_z w64 (of_z w64 c.args.weight) ≡ c.args.weight = search rules in
     let refusal : early_member_refusal old.solver c.args.total c.term-term.result c.args.weight ≡ c.early_member_refusal.result = subst (λ (z : ℤ). early_member_refusal old.solver c.args.total c.term-term.result z ≡ c.early_member_refusal.result) same (sym c.early_member_refusal.ensures) in

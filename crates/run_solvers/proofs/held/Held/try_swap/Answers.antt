@@ -5,7 +5,7 @@ use Rattle.run_solvers.proofs.CommitLaws.{both_parts, neither_parts, swapped_def
 use Rattle.run_solvers.proofs.held.Held.try_swap.Goals as goal
 
 pub returns-then-not-owns_both : goal.returns-then-not-owns_both
-returns-then-not-owns_both c =
+returns-then-not-owns_both g c =
     let old = c.args.self.now in record {
       meant = swapped_foreign old.solver old.names (waits old) c.args.at c.args.x c.args.y (c.requires.own ∙ sym c.requires.kept.0.number_) (sym c.owns_both.ensures ∙ c.if-not-owns_both.true);
       kept = tt;
@@ -14,7 +14,7 @@ returns-then-not-owns_both c =
     }
 
 pub returns-then-defines_either : goal.returns-then-defines_either
-returns-then-defines_either c =
+returns-then-defines_either g c =
     let old = c.args.self.now in
     let own = both_parts _ _ (sym c.owns_both.ensures ∙ c.if-not-owns_both.false) in record {
       meant = swapped_defined old.solver old.names (waits old) c.args.at c.args.x c.args.y (c.requires.own ∙ sym c.requires.kept.0.number_) own.0 own.1 (sym c.defines_either.ensures ∙ c.if-defines_either.true);
@@ -24,13 +24,13 @@ returns-then-defines_either c =
     }
 
 pub exchange-requires-clause-own : goal.exchange-requires-clause-own
-exchange-requires-clause-own c = both_parts _ _ (sym c.owns_both.ensures ∙ c.if-not-owns_both.false)
+exchange-requires-clause-own g c = both_parts _ _ (sym c.owns_both.ensures ∙ c.if-not-owns_both.false)
 
 pub exchange-requires-clause-free : goal.exchange-requires-clause-free
-exchange-requires-clause-free c = neither_parts _ _ (sym c.defines_either.ensures ∙ c.if-defines_either.false)
+exchange-requires-clause-free g c = neither_parts _ _ (sym c.defines_either.ensures ∙ c.if-defines_either.false)
 
 pub returns : goal.returns
-returns c =
+returns g c =
     let old = c.args.self.now in
     let own = both_parts _ _ (sym c.owns_both.ensures ∙ c.if-not-owns_both.false) in
     let free = neither_parts _ _ (sym c.defines_either.ensures ∙ c.if-defines_either.false) in

@@ -5,18 +5,18 @@ use Rattle.run_solvers.proofs.FoundSolvers.{found, kept_there, not_found, domain
 use Rattle.run_solvers.proofs.solvers.Solvers.domain.Goals as goal
 
 pub returns-then-number-len-clause-did : goal.returns-then-number-len-clause-did
-returns-then-number-len-clause-did c = λ s is.
+returns-then-number-len-clause-did g c = λ s is.
     let none = not_found c.self.inside.held.items c.args.variable.solver s (is ∙ sym c.self.view_is) (omega (arith, c.len.ensures, c.if-number-len.true)) in
     domain_nowhere c.args.at c.args.variable (solver_at s c.args.variable.solver) s none
 
 pub domain-requires : goal.domain-requires
-domain-requires c =
+domain-requires g c =
     let held = c.self.inside.held.items in
     let there : c.index.result.now ≡ get_or held c.args.variable.solver c.index.result.now = c.index.ensures in
     (kept_there held c.args.variable.solver c.index.result.now c.self.invariant (omega (arith, c.len.ensures, c.if-number-len.false)) there).1
 
 pub returns-clause-did : goal.returns-clause-did
-returns-clause-did c = λ s is.
+returns-clause-did g c = λ s is.
     let held = c.self.inside.held.items in
     let there : c.index.result.now ≡ get_or held c.args.variable.solver c.index.result.now = c.index.ensures in
     let lt : c.args.variable.solver < length c.self.inside.held.items = omega (arith, c.len.ensures, c.if-number-len.false) in

@@ -8,9 +8,9 @@ use Rattle.run_solvers.proofs.TotalActs.{by_first}
 use Rattle.run_solvers.proofs.solvers.Solvers.new_objective.Goals as goal
 
 pub returns-in-None-clause-did : goal.returns-in-None-clause-did
-returns-in-None-clause-did c = λ s is. by_first c.args.at c.args.built None s (sym c.in-None.is ∙ c.first_variable.ensures)
+returns-in-None-clause-did g c = λ s is. by_first c.args.at c.args.built None s (sym c.in-None.is ∙ c.first_variable.ensures)
 
 pub returns-in-Some-clause-did : goal.returns-in-Some-clause-did
-returns-in-Some-clause-did c = λ s is.
+returns-in-Some-clause-did g c = λ s is.
     subst (λ (o : Outcome values.Value). Did value_seen c.objective_in.result (record s { solvers = c.objective_in.new.self }) o)
     (sym (by_first c.args.at c.args.built (Some c.in-Some.variable) s (sym c.in-Some.is ∙ c.first_variable.ensures))) (c.objective_in.ensures.did s is)

@@ -11,13 +11,13 @@ use Rattle.run_solvers.proofs.FoundSolvers.{changed_kept, does, found, kept_ther
 use Rattle.run_solvers.proofs.solvers.Solvers.new_sum.Goals as goal
 
 pub new_sum-requires : goal.new_sum-requires
-new_sum-requires c =
+new_sum-requires g c =
     let held = c.self.inside.held.items in
     let there : c.index_mut.result.now ≡ get_or held c.args.number c.index_mut.result.now = search rules in
     (kept_there held c.args.number c.index_mut.result.now c.self.invariant (omega (arith, c.len.ensures, c.if-number-len.false)) there).1
 
 pub invariant_of-self : goal.invariant_of-self
-invariant_of-self c =
+invariant_of-self g c =
     let held = c.self.inside.held.items in
     let there : c.index_mut.result.now ≡ get_or held c.args.number c.index_mut.result.now = search rules in
     let lt : c.args.number < length held = omega (arith, c.len.ensures, c.if-number-len.false) in
@@ -25,7 +25,7 @@ invariant_of-self c =
     changed_kept held c.self.invariant c.args.number c.new_sum.new.self lt (c.new_sum.ensures.changes.number ∙ old.0) c.new_sum.ensures.changes.kept
 
 pub returns-clause-did : goal.returns-clause-did
-returns-clause-did c = λ s is.
+returns-clause-did g c = λ s is.
     let held = c.self.inside.held.items in
     let all = is ∙ sym c.self.view_is in
     let there : c.index_mut.result.now ≡ get_or held c.args.number c.index_mut.result.now = search rules in
@@ -37,4 +37,4 @@ returns-clause-did c = λ s is.
     (does value_seen _ c.args.number s held c.new_sum.new.self c.new_sum.result _ all c.new_sum.ensures.value c.new_sum.ensures.changes.meant))
 
 pub returns-clause-stop : goal.returns-clause-stop
-returns-clause-stop c = no_cycle_so (held_seen c.new_sum.new.self) c.new_sum.result _ (sum_none c.args.at (held_seen c.index_mut.result.now)) c.new_sum.ensures.changes.meant
+returns-clause-stop g c = no_cycle_so (held_seen c.new_sum.new.self) c.new_sum.result _ (sum_none c.args.at (held_seen c.index_mut.result.now)) c.new_sum.ensures.changes.meant

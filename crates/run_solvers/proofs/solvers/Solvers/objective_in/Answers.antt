@@ -10,13 +10,13 @@ use Rattle.run_solvers.proofs.FoundSolvers.{changed_kept, does, found, kept_ther
 use Rattle.run_solvers.proofs.solvers.Solvers.objective_in.Goals as goal
 
 pub new_objective-requires : goal.new_objective-requires
-new_objective-requires c =
+new_objective-requires g c =
     let held = c.self.inside.held.items in
     let there : c.index_mut.result.now ≡ get_or held c.args.solver c.index_mut.result.now = search rules in
     (kept_there held c.args.solver c.index_mut.result.now c.self.invariant (omega (arith, c.len.ensures, c.if-number-len.false)) there).1
 
 pub invariant_of-self : goal.invariant_of-self
-invariant_of-self c =
+invariant_of-self g c =
     let held = c.self.inside.held.items in
     let there : c.index_mut.result.now ≡ get_or held c.args.solver c.index_mut.result.now = search rules in
     let lt : c.args.solver < length held = omega (arith, c.len.ensures, c.if-number-len.false) in
@@ -24,7 +24,7 @@ invariant_of-self c =
     changed_kept held c.self.invariant c.args.solver c.new_objective.new.self lt (c.new_objective.ensures.changes.number ∙ old.0) c.new_objective.ensures.changes.kept
 
 pub returns-clause-did : goal.returns-clause-did
-returns-clause-did c = λ s is.
+returns-clause-did g c = λ s is.
     let held = c.self.inside.held.items in
     let all = is ∙ sym c.self.view_is in
     let there : c.index_mut.result.now ≡ get_or held c.args.solver c.index_mut.result.now = search rules in
@@ -36,4 +36,4 @@ returns-clause-did c = λ s is.
     (does value_seen _ c.args.solver s held c.new_objective.new.self c.new_objective.result _ all c.new_objective.ensures.value c.new_objective.ensures.changes.meant))
 
 pub returns-clause-stop : goal.returns-clause-stop
-returns-clause-stop c = no_cycle_so (held_seen c.new_objective.new.self) c.new_objective.result _ (objective_none c.args.at _ c.args.built (held_seen c.index_mut.result.now)) c.new_objective.ensures.changes.meant
+returns-clause-stop g c = no_cycle_so (held_seen c.new_objective.new.self) c.new_objective.result _ (objective_none c.args.at _ c.args.built (held_seen c.index_mut.result.now)) c.new_objective.ensures.changes.meant

@@ -11,12 +11,12 @@ use Rattle.run_solvers.proofs.AskingLaws.{done_so}
 use Rattle.run_solvers.proofs.solvers.Solvers.post.Goals as goal
 
 pub returns-in-None-clause-did : goal.returns-in-None-clause-did
-returns-in-None-clause-did c = λ s is.
+returns-in-None-clause-did g c = λ s is.
     done_so (post_to c.args.at c.args.built c.args.weight) (value_seen c.args.whole.now) None s (sym c.in-None.is ∙ c.total_of.ensures)
     ∙ ap (λ (ms : List SolverState). Went values.Nothing (record s { solvers = ms })) is
 
 pub returns-in-Some-clause-did : goal.returns-in-Some-clause-did
-returns-in-Some-clause-did c = λ s is.
+returns-in-Some-clause-did g c = λ s is.
     let same : to_z w64 (of_z w64 c.args.weight) ≡ c.args.weight = search rules in
     subst (λ (o : Outcome values.Value). Did (λ _. values.Nothing) c.post_to.result (record s { solvers = c.post_to.new.self }) o)
     (sym (done_so (post_to c.args.at c.args.built c.args.weight) (value_seen c.args.whole.now) (Some c.in-Some.total) s (sym c.in-Some.is ∙ c.total_of.ensures)))

@@ -6,24 +6,24 @@ use Rattle.run_solvers.proofs.FoundSolvers.{found, kept_there, not_found}
 use Rattle.run_solvers.proofs.solvers.Solvers.total_violations.Goals as goal
 
 pub returns-then-number-len-clause-did : goal.returns-then-number-len-clause-did
-returns-then-number-len-clause-did c = λ s is.
+returns-then-number-len-clause-did g c = λ s is.
     let none = not_found c.self.inside.held.items c.args.total.solver s (is ∙ sym c.self.view_is) (omega (arith, c.len.ensures, c.if-number-len.true)) in
     violations_nowhere c.args.at c.args.x c.args.total.solver (whole_of c.args.total) s none
 
 pub violations_of-requires-clause-kept : goal.violations_of-requires-clause-kept
-violations_of-requires-clause-kept c =
+violations_of-requires-clause-kept g c =
     let held = c.self.inside.held.items in
     let there : c.index.result.now ≡ get_or held c.args.total.solver c.index.result.now = c.index.ensures in
     (kept_there held c.args.total.solver c.index.result.now c.self.invariant (omega (arith, c.len.ensures, c.if-number-len.false)) there).1
 
 pub violations_of-requires-clause-own : goal.violations_of-requires-clause-own
-violations_of-requires-clause-own c =
+violations_of-requires-clause-own g c =
     let held = c.self.inside.held.items in
     let there : c.index.result.now ≡ get_or held c.args.total.solver c.index.result.now = c.index.ensures in
     sym (kept_there held c.args.total.solver c.index.result.now c.self.invariant (omega (arith, c.len.ensures, c.if-number-len.false)) there).0
 
 pub returns-clause-did : goal.returns-clause-did
-returns-clause-did c = λ s is.
+returns-clause-did g c = λ s is.
     let held = c.self.inside.held.items in
     let there : c.index.result.now ≡ get_or held c.args.total.solver c.index.result.now = c.index.ensures in
     let lt : c.args.total.solver < length c.self.inside.held.items = omega (arith, c.len.ensures, c.if-number-len.false) in

@@ -9,23 +9,26 @@ use Rattle.run_state.proofs.ReadLaws.{numbers_stopped}
 use Rattle.run_state.proofs.state.State.copy_array.Goals as goal
 
 pub returns-in_err-numbers-clause-did : goal.returns-in_err-numbers-clause-did
-returns-in_err-numbers-clause-did c = λ printed.
+returns-in_err-numbers-clause-did g c =
+    let printed = g.O.Outside.told c.args.out.now in
     let s = state_seen c.args.self.now printed in
     let p = err_from_is_err_and c.from_residual.result c.from_residual.ensures.1 in
-    rw (p.1, p.2) (numbers_stopped _ s (read_array c.args.place (value_seen c.args.array.now) s) _ (c.in_err-numbers.ensures.did printed))
+    rw (p.1, p.2) (numbers_stopped _ s (read_array c.args.place (value_seen c.args.array.now) s) _ (c.in_err-numbers.ensures.did))
 
 pub returns-in_err-spend-clause-did : goal.returns-in_err-spend-clause-did
-returns-in_err-spend-clause-did c = λ printed.
+returns-in_err-spend-clause-did g c =
+    let printed = g.O.Outside.told c.args.out.now in
     let s = state_seen c.args.self.now printed in
     let p = err_from_is_err_and c.from_residual-in_err-spend.result c.from_residual-in_err-spend.ensures.1 in
     let long : c.len-cells.result ≡ length c.in_ok-numbers.numbers.items = omega (arith, c.len-cells.ensures, c.in_ok-numbers.numbers.ok.0) in
-    rw (p.1, p.2) (copied_unpaid _ c.args.at c.args.place c.args.slot (value_seen c.args.array.now) s _ _ _ (c.in_ok-numbers.ensures.did printed) long (c.in_err-spend.ensures.did s refl))
+    rw (p.1, p.2) (copied_unpaid _ c.args.at c.args.place c.args.slot (value_seen c.args.array.now) s _ _ _ (c.in_ok-numbers.ensures.did) long (c.in_err-spend.ensures.did s refl))
 
 pub returns-clause-did : goal.returns-clause-did
-returns-clause-did c = λ printed.
+returns-clause-did g c =
+    let printed = g.O.Outside.told c.args.out.now in
     let s = state_seen c.args.self.now printed in
     let v = value_seen c.args.array.now in
     let made = rw c.row.ensures at (c.in_ok-array.ensures.did printed) in
     let long : c.len-cells.result ≡ length c.in_ok-numbers.numbers.items = omega (arith, c.len-cells.ensures, c.in_ok-numbers.numbers.ok.0) in
     let paid = rw long at (c.in_ok-spend.ensures.did s refl) in
-    rw (copied_law c.args.at c.args.place c.args.slot v s _ _ _ _ (c.in_ok-numbers.ensures.did printed) paid made) (c.put.ensures.did printed)
+    rw (copied_law c.args.at c.args.place c.args.slot v s _ _ _ _ (c.in_ok-numbers.ensures.did) paid made) (c.put.ensures.did printed)

@@ -9,5 +9,5 @@ abbrev pub invariant-loop-i : goal.invariant-loop-i
 invariant-loop-i l = record {
   long : length l.owned.items ≡ length l.fn.values.items;
   fuel : l.self.fuel ≡ l.fn.self.fuel;
-  owned : (printed : List ℕ) → own_arrays (drop l.i (map value_seen l.owned.items)) (take l.i (map value_seen l.owned.items)) (state_seen l.self printed) ≡ own_arrays (map value_seen l.fn.values.items) [] (state_seen l.fn.self printed);
+  owned : (printed : _) → own_arrays (drop l.i (map value_seen l.owned.items)) (take l.i (map value_seen l.owned.items)) (state_seen l.self printed) ≡ own_arrays (map value_seen l.fn.values.items) [] (state_seen l.fn.self printed);
 }

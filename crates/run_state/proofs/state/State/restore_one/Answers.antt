@@ -9,17 +9,19 @@ use Rattle.run_state.proofs.OtherValues.{no_solution, nothing_there, restored_st
 use Rattle.run_state.proofs.state.State.restore_one.Goals as goal
 
 pub returns-in_default-clause-did : goal.returns-in_default-clause-did
-returns-in_default-clause-did c = λ printed. no_solution c.args.at c.args.number (state_seen c.args.self.now printed) (nothing_there _ c.solution.result _ c.in_default.not-Some c.solution.ensures)
+returns-in_default-clause-did g c = let printed = g.O.Outside.told c.args.out.now in no_solution c.args.at c.args.number (state_seen c.args.self.now printed) (nothing_there _ c.solution.result _ c.in_default.not-Some c.solution.ensures)
 
 pub returns-in_err-changes-clause-did : goal.returns-in_err-changes-clause-did
-returns-in_err-changes-clause-did c = λ printed.
+returns-in_err-changes-clause-did g c =
+    let printed = g.O.Outside.told c.args.out.now in
     let s = state_seen c.args.self.now printed in
     let p = err_from_is_err_and c.from_residual.result c.from_residual.ensures.1 in
-    rw (p.1, p.2) (restored_stops c.args.at c.args.number s (solution_seen c.in-Some.solution.now) (sym c.in-Some.ensures) _ _ (c.in_err-changes.ensures.did s refl))
+    rw (p.1, p.2) (restored_stops c.args.at c.args.number s (solution_seen c.in-Some.solution.now) (sym c.in-Some.ensures) _ _ (c.in_err-changes.ensures.did s))
 
 pub returns-clause-did : goal.returns-clause-did
-returns-clause-did c = λ printed.
-    let s = state_seen c.args.self.now printed in
+returns-clause-did g c =
+    let s = state_seen c.args.self.now (g.O.Outside.told c.args.out.now) in
+    let u = state_seen c.args.self.now (g.O.Outside.told c.restore.new.self) in
     let x = c.in-Some.solution.now in
-    restored_went c.args.at c.args.number s (solution_seen x) (sym c.in-Some.ensures) c.restore.new.self (search_seen c.queue.new.self) (c.in_ok-changes.ensures.did s refl)
-    (c.in_ok-queue.ensures.queued x.solver (changes_of (solver_at s x.solver) (solver_at (record s { solvers = c.restore.new.self }) x.solver)) (c.deref.ensures.value ∙ c.in_ok-changes.ensures.told))
+    restored_went c.args.at c.args.number s (solution_seen x) (sym c.in-Some.ensures) u (search_seen c.queue.new.self) (c.in_ok-changes.ensures.did s)
+    (c.in_ok-queue.ensures.queued x.solver (changes_of (solver_at s x.solver) (solver_at u x.solver)) (c.deref.ensures.value ∙ c.in_ok-changes.ensures.told))

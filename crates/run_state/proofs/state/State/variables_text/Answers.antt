@@ -11,16 +11,18 @@ use Rattle.run_state.proofs.ReadLaws.{variables_text, text_unread, map_twice}
 use Rattle.run_state.proofs.state.State.variables_text.Goals as goal
 
 pub returns-in_err-values-clause-did : goal.returns-in_err-values-clause-did
-returns-in_err-values-clause-did c = λ printed.
+returns-in_err-values-clause-did g c =
+    let printed = g.O.Outside.told c.args.out.now in
     let p = err_from_is_err_and c.from_residual.result c.from_residual.ensures.1 in
-    rw (p.1, p.2) (text_unread c.args.at c.args.array (state_seen c.args.self.now printed) _ (rw (c.variables.ensures printed) at (c.in_err-values.ensures.did printed)))
+    rw (p.1, p.2) (text_unread c.args.at c.args.array (state_seen c.args.self.now printed) _ (rw (c.variables.ensures printed) at (c.in_err-values.ensures.did)))
 
 pub returns-clause-did : goal.returns-clause-did
-returns-clause-did c = λ printed.
+returns-clause-did g c =
+    let printed = g.O.Outside.told c.args.out.now in
     let s = state_seen c.args.self.now printed in
     let values = c.in_ok-values.values.items in
     let cells = variables_of s (Variables c.args.array) in
-    let read = variables_text c.args.at c.args.array s _ (rw (c.variables.ensures printed) at (c.in_ok-values.ensures.did printed)) in
+    let read = variables_text c.args.at c.args.array s _ (rw (c.variables.ensures printed) at (c.in_ok-values.ensures.did)) in
     let bounds = c.variables_extent.ensures printed in
     let written = rw (c.deref.ensures.value, c.new-text.ensures.items, ap (λ e. e.rows) bounds, ap (λ e. e.columns) bounds) at c.in_ok-push_array.ensures.ok in
     let same : c.push_array.new.text.items ≡ grid_text cells.rows (map plain_text (map value_seen values)) cells.columns =

@@ -1,0 +1,27 @@
+use Rattle.std.proofs.Common.{◌≡◌, refl, arith, length}
+use Rattle.comet_meaning.proofs.GoingOn.{goes_charge, goes_give, goes_then}
+use Rattle.std.specs.Prelude.{Ok}
+use Rattle.comet_meaning.specs.Outcome.{◌>>=◌, charge, give}
+use Rattle.comet_meaning.specs.Terms as terms
+use Rattle.run_state.specs.InTerms.{in_term_seen, term_cells_seen}
+use Rattle.run_state.specs.Views.{state_seen}
+use Rattle.run_state.specs.declared.standing.InTerm.TheVariants.{Several}
+use Rattle.run_steps.proofs.Exits.{act_exit, after}
+use Rattle.constraint_forms.proofs.function_nodes.places_of.Goals as goal
+
+pub returns-in_err-charge : goal.returns-in_err-charge
+returns-in_err-charge c = record { did = λ printed. act_exit _ _ _ _ _ _ c.from_residual.ensures.1 (c.in_err-charge.ensures.did printed) ((goes_charge _ _).from _).printed (λ _. goes_then (goes_charge _ _) (λ _. goes_give)) }
+
+pub returns-in_err-charge-2 : goal.returns-in_err-charge-2
+returns-in_err-charge-2 c = let n : c.len-count.result ≡ length c.args.cells.terms.items = omega (arith, c.len-count.ensures, c.args.cells.terms.ok.0) in record { did = λ printed. after _ _ _ _ (c.in_ok-charge.ensures.did printed) (act_exit _ _ _ _ _ _ c.from_residual-in_err-charge-2.ensures.1 (rw n at (c.in_err-charge-2.ensures.did printed)) ((goes_charge _ _).from _).printed (λ _. goes_give)) }
+
+pub returns : goal.returns
+returns c =
+    let n : c.len-count.result ≡ length c.args.cells.terms.items = omega (arith, c.len-count.ensures, c.args.cells.terms.ok.0) in
+    record {
+      did = λ told.
+          let ends = state_seen c.charge-2.new.self told in
+          let cells = term_cells_seen c.args.cells in
+          after in_term_seen (Ok (Several c.args.cells)) ends (λ _. charge (length cells.terms) c.args.place >>= λ _. give (terms.Several cells)) (c.in_ok-charge.ensures.did told)
+          (after in_term_seen (Ok (Several c.args.cells)) ends (λ _. give (terms.Several cells)) (rw n at (c.in_ok-charge-2.ensures.did told)) refl);
+    }

@@ -1,0 +1,5 @@
+mod AllEqualLaw
+mod Falling
+mod IncreasingLaw
+mod MostEqual
+mod MoveLemmas

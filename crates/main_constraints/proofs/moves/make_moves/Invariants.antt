@@ -1,0 +1,6 @@
+use Rattle.std.proofs.Common.{◌≡◌, take}
+use Rattle.user_constraint.specs.Moves.{after_moves}
+use Rattle.main_constraints.proofs.moves.make_moves.Given as goal
+
+abbrev pub invariant-loop-change : goal.invariant-loop-change
+invariant-loop-change l = l.list.items ≡ after_moves l.fn.list.items (take l.change-index l.moves)

@@ -1,0 +1,3 @@
+pub mod AllEqual
+pub mod Increasing
+pub mod WholeRule

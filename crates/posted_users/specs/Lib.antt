@@ -1,0 +1,4 @@
+pub mod KeptCode
+pub mod KeptRule
+pub mod Moving
+pub mod PostedState

@@ -1,0 +1,3 @@
+pub mod HandedIn
+pub mod Shares
+pub mod Told

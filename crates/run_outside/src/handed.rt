@@ -1,0 +1,146 @@
+//! Users' constraints that were handed in.
+ghost use Rattle.std.specs.Prelude.{◌≡◌, ◌&&◌, true, false, IfOk, IfSome};
+ghost use Rattle.comet_meaning.specs.Users.{first_free, is_known, is_named, rule_in, with_given, with_taken};
+ghost use Rattle.posted_users.specs.KeptRule.{kept, no_rule};
+ghost use Rattle.run_outside.specs.HandedIn.{refusal_of, users_seen};
+
+use cbl_base::{NoMemory, RunFault};
+use std::alloc::Global;
+use std::marker::Model;
+use std::mem;
+use user_constraint::LocalConstraint;
+
+/// A user's constraint that was handed in, under its name, until a system is given it.
+#[derive(Drop)]
+pub struct HandedIn<U: LocalConstraint> {
+    name: Vec<u8>,
+    user: Option<U>,
+    free: bool,
+}
+
+impl<U: LocalConstraint> Model for HandedIn<U> {
+    ghost use Rattle.std.specs.Prelude.{option_map};
+    ghost use Rattle.comet_meaning.specs.Users.{User};
+    ghost use Rattle.posted_users.specs.KeptRule.{kept};
+    ghost use Rattle.run_outside.specs.HandedIn.{rule_left, user_code};
+
+    ghost Value = { User };
+
+    ghost coded = { user_code };
+
+    ghost view = { λ a. record { name = a.name.items; rule = rule_left (option_map (λ user. kept (U.user_rule user)) a.user); free = a.free } };
+}
+
+impl<U: LocalConstraint> HandedIn<U> {
+    /// One that is free.
+    pub fn new(alloc: Global, user: U) -> Result<HandedIn<U>, NoMemory>
+        ensures { IfOk result (λ one. one ≡ record { name = U.user_name user; rule = kept (U.user_rule user); free = true }) }
+    {
+        let name = user.name().as_bytes().to_vec(alloc)?;
+        Ok(HandedIn {
+            name,
+            user: Some(user),
+            free: true,
+        })
+    }
+
+    /// Whether it has this name.
+    fn is_named(&self, name: &[u8]) -> bool
+        ensures { result ≡ is_named name.now self.now }
+    {
+        self.name.as_slice() == name
+    }
+
+    /// Whether it has this name and is free.
+    fn is_open(&self, name: &[u8]) -> bool
+        ensures { result ≡ (is_named name.now self.now && (self.now).free) }
+    {
+        self.is_named(name) && self.free
+    }
+
+    /// Takes it.
+    fn take(&mut self)
+        ensures { self.new ≡ record self.old { free = false } }
+    {
+        self.free = false;
+    }
+
+    /// The constraint, if it wasn't given away before.
+    fn give(&mut self) -> Option<U>
+        ensures rule { IfSome result (λ user. kept (U.user_rule user) ≡ (self.old).rule) }
+        ensures given { self.new ≡ record self.old { rule = no_rule } }
+    {
+        mem::replace(&mut self.user, None)
+    }
+}
+
+/// All, in their order, each of them free.
+pub fn handed_in<U: LocalConstraint>(
+    alloc: Global,
+    users: Vec<U>,
+) -> Result<Vec<HandedIn<U>>, NoMemory>
+    ensures { IfOk result (λ all. all.items ≡ users_seen U.user_name U.user_rule users.items) }
+{
+    let mut all = Vec::with_capacity(alloc, users.len())?;
+    for user in users {
+        all.push(HandedIn::new(alloc, user)?)?;
+    }
+    Ok(all)
+}
+
+/// The number, from 0, of the first one that has the name and is free.
+pub(crate) fn first_free<U: LocalConstraint>(users: &[HandedIn<U>], name: &[u8]) -> Option<usize>
+    ensures { result ≡ first_free name.now users.now }
+{
+    for number in 0..users.len() {
+        if users[number].is_open(name) {
+            return Some(number);
+        }
+    }
+    None
+}
+
+/// Whether one that was handed in has the name.
+fn is_known<U: LocalConstraint>(users: &[HandedIn<U>], name: &[u8]) -> bool
+    ensures { result ≡ is_known name.now users.now }
+{
+    for user in users {
+        if user.is_named(name) {
+            return true;
+        }
+    }
+    false
+}
+
+/// Why none of them can be taken by this name: `UserSpent` where one has it, and else `UnknownUser`.
+pub(crate) fn refusal<U: LocalConstraint>(users: &[HandedIn<U>], name: &[u8]) -> RunFault
+    ensures { result ≡ refusal_of (is_known name.now users.now) }
+{
+    if is_known(users, name) {
+        RunFault::UserSpent
+    } else {
+        RunFault::UnknownUser
+    }
+}
+
+/// Takes the one with a number.
+#[tactic(auto, using(crate::proofs::HandedLaws::taken_set, crate::proofs::HandedLaws::taken_past))]
+pub(crate) fn take<U: LocalConstraint>(users: &mut Vec<HandedIn<U>>, number: usize)
+    ensures { users.new.items ≡ with_taken users.old.items number }
+{
+    if number < users.len() {
+        users[number].take();
+    }
+}
+
+/// The constraint with a number, which is given to a system, if it wasn't before.
+#[tactic(auto, using(crate::proofs::HandedLaws::given_set, crate::proofs::HandedLaws::given_past, crate::proofs::HandedLaws::rule_at))]
+pub(crate) fn give<U: LocalConstraint>(users: &mut Vec<HandedIn<U>>, number: usize) -> Option<U>
+    ensures rule { IfSome result (λ user. kept (U.user_rule user) ≡ rule_in users.old.items number) }
+    ensures given { users.new.items ≡ with_given users.old.items number }
+{
+    if number >= users.len() {
+        return None;
+    }
+    users[number].give()
+}
