@@ -1,9 +1,11 @@
 //! What a program does with a solver and its variables, and what they must then be.
-use super::*;
 use cbl_base::{Place, RunFault, Text, VarId};
 use cbl_operations::Op;
 use checked_tree::{Form, Kind, Method, Slot, Typed};
 use comet_syntax::tree::Step;
+use run_objects::{
+    assign, close, commit_waiting, make_solver, method, new_variable, open_with, stepped, write,
+};
 use run_solvers::{Beginning, Built, Solvers};
 use run_state::{Bytes, Outside, Stage, State, Target};
 use run_values::{Stop, Value};
