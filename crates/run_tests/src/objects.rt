@@ -109,61 +109,77 @@ fn empty_stage<U: LocalConstraint>(alloc: Global) -> Stage<Bytes, U> {
     }
 }
 
-/// Whether an answer is the one that it should be.
-fn expect(right: bool) -> Result<(), Fail> {
-    if right {
-        Ok(())
-    } else {
-        Err(Fail::from("another answer"))
-    }
+/// A run of this fuel with these bytes of data, and nothing else yet.
+fn empty_state(alloc: Global, data: &[u8]) -> Result<State, Fail> {
+    let data = Vec::from_slice(alloc, data)?;
+    Ok(State::new(alloc, 0, 100, data))
+}
+
+/// The value of `x + x`, or how the run stops.
+fn doubled<O: Outside>(s: &State, out: &O) -> Result<i64, End> {
+    number(s.read(out, AT, Value::Variable(DOUBLE)))
 }
 
 /// A variable that is `x + x` can't be read before `close`, and follows `x` behind it.
-fn follow_variable<U: LocalConstraint>(alloc: Global) -> Result<(), Fail> {
-    let mut s = State::new(alloc, 0, 100, Vec::new(alloc));
-    let mut out = empty_stage::<U>(alloc);
-    double(alloc, &mut out)?;
-    let solver = Value::Solver(0);
-    let early = number(s.read(&out, AT, Value::Variable(DOUBLE)));
-    expect(early == Err(End::Fault(RunFault::NotClosed)))?;
-    expect(number(close(&mut out, AT, &solver)) == Ok(0))?;
-    expect(number(s.read(&out, AT, Value::Variable(DOUBLE))) == Ok(6))?;
-    let less = stepped(&mut s, &mut out, AT, &Target::Moved(X), Step::Decrement, 3);
-    expect(ended(less) == End::On)?;
-    expect(number(s.read(&out, AT, Value::Variable(DOUBLE))) == Ok(4))?;
-    let defined = write(
-        &mut s,
-        &mut out,
-        AT,
-        &Target::Moved(DOUBLE),
-        Value::Number(1),
-    );
-    expect(ended(defined) == End::Fault(RunFault::DefinedVariable))?;
-    Ok(())
+fn follow_variable<O: Outside>(alloc: Global, s: &mut State, out: &mut O) -> Result<bool, Fail> {
+    double(alloc, out)?;
+    let early = doubled(s, out);
+    let closed = number(close(out, AT, &Value::Solver(0)));
+    let first = doubled(s, out);
+    let less = ended(stepped(s, out, AT, &Target::Moved(X), Step::Decrement, 3));
+    let second = doubled(s, out);
+    let defined = ended(write(s, out, AT, &Target::Moved(DOUBLE), Value::Number(1)));
+    Ok(
+        early == Err(End::Fault(RunFault::NotClosed))
+            && closed == Ok(0)
+            && first == Ok(6)
+            && less == End::On
+            && second == Ok(4)
+            && defined == End::Fault(RunFault::DefinedVariable),
+    )
+}
+
+/// Whether a `with` is the outermost one.
+fn outermost<O: Outside>(out: &mut O) -> Option<bool> {
+    open_with(out, AT, &Value::Solver(0)).ok()
 }
 
 /// What is assigned in a `with` is read behind it.
-fn wait_with_numbers<U: LocalConstraint>(alloc: Global) -> Result<(), Fail> {
-    let mut s = State::new(alloc, 0, 100, Vec::new(alloc));
-    let mut out = empty_stage::<U>(alloc);
-    double(alloc, &mut out)?;
+fn wait_with_numbers<O: Outside>(alloc: Global, s: &mut State, out: &mut O) -> Result<bool, Fail> {
+    double(alloc, out)?;
     let solver = Value::Solver(0);
-    expect(number(close(&mut out, AT, &solver)) == Ok(0))?;
-    let outermost = open_with(&mut out, AT, &solver);
-    expect(matches!(outermost, Ok(true)))?;
-    expect(ended(assign(&mut s, &mut out, AT, X, 5)) == End::On)?;
-    expect(number(s.read(&out, AT, Value::Variable(DOUBLE))) == Ok(6))?;
-    let inner = open_with(&mut out, AT, &solver);
-    expect(matches!(inner, Ok(false)))?;
-    expect(ended(commit_waiting(&mut s, &mut out, &solver)) == End::On)?;
-    expect(number(s.read(&out, AT, Value::Variable(DOUBLE))) == Ok(10))?;
-    Ok(())
+    let closed = number(close(out, AT, &solver));
+    let outer = outermost(out);
+    let assigned = ended(assign(s, out, AT, X, 5));
+    let within = doubled(s, out);
+    let inner = outermost(out);
+    let committed = ended(commit_waiting(s, out, &solver));
+    let behind = doubled(s, out);
+    Ok(
+        closed == Ok(0)
+            && outer == Some(true)
+            && assigned == End::On
+            && within == Ok(6)
+            && inner == Some(false)
+            && committed == End::On
+            && behind == Ok(10),
+    )
+}
+
+/// What a method of the object that stands there gives.
+fn given<O: Outside>(
+    s: &mut State,
+    out: &mut O,
+    what: Method,
+    place: &Typed,
+    object: &Value,
+    numbers: &[Value],
+) -> Result<i64, End> {
+    number(method(s, out, AT, what, place, object, numbers))
 }
 
 /// A set has what was inserted once, and an input its next number.
-fn give_by_methods<U: LocalConstraint>(alloc: Global) -> Result<(), Fail> {
-    let mut s = State::new(alloc, 0, 100, Vec::from_slice(alloc, b" -12 x")?);
-    let mut out = empty_stage::<U>(alloc);
+fn give_by_methods<O: Outside>(s: &mut State, out: &mut O) -> bool {
     let slot = Slot::Local(1);
     let set = Typed {
         start: AT,
@@ -173,42 +189,62 @@ fn give_by_methods<U: LocalConstraint>(alloc: Global) -> Result<(), Fail> {
         form: Form::Name(slot),
     };
     let seven = [Value::Number(7)];
-    for _ in 0..2 {
-        let inserted = method(
-            &mut s,
-            &mut out,
-            AT,
-            Method::Insert,
-            &set,
-            &Value::Nothing,
-            &seven,
-        );
-        expect(number(inserted) == Ok(0))?;
-    }
-    expect(size(&mut s, &mut out, &set, slot) == Ok(1))?;
-    expect(number(s.make_input()) == Ok(0))?;
+    let once = given(s, out, Method::Insert, &set, &Value::Nothing, &seven);
+    let twice = given(s, out, Method::Insert, &set, &Value::Nothing, &seven);
+    let members = size(s, out, &set, slot);
+    let made = number(s.make_input());
     let input = Value::Input(0);
-    let first = method(&mut s, &mut out, AT, Method::ReadInt, &set, &input, &[]);
-    expect(number(first) == Ok(-12))?;
-    let second = method(&mut s, &mut out, AT, Method::ReadInt, &set, &input, &[]);
-    expect(number(second) == Err(End::Fault(RunFault::BadData)))?;
-    Ok(())
+    let first = given(s, out, Method::ReadInt, &set, &input, &[]);
+    let second = given(s, out, Method::ReadInt, &set, &input, &[]);
+    once == Ok(0)
+        && twice == Ok(0)
+        && members == Ok(1)
+        && made == Ok(0)
+        && first == Ok(-12)
+        && second == Err(End::Fault(RunFault::BadData))
+}
+
+/// Whether a variable that is `x + x` follows `x`.
+fn variable_follows<U: LocalConstraint>(alloc: Global) -> Result<bool, Fail> {
+    let mut s = empty_state(alloc, b"")?;
+    let mut out = empty_stage::<U>(alloc);
+    let right = follow_variable(alloc, &mut s, &mut out)?;
+    Ok(right)
+}
+
+/// Whether what is assigned in a `with` waits.
+fn numbers_wait<U: LocalConstraint>(alloc: Global) -> Result<bool, Fail> {
+    let mut s = empty_state(alloc, b"")?;
+    let mut out = empty_stage::<U>(alloc);
+    let right = wait_with_numbers(alloc, &mut s, &mut out)?;
+    Ok(right)
+}
+
+/// Whether methods give what they should.
+fn objects_give<U: LocalConstraint>(alloc: Global) -> Result<bool, Fail> {
+    let mut s = empty_state(alloc, b" -12 x")?;
+    let mut out = empty_stage::<U>(alloc);
+    let right = give_by_methods(&mut s, &mut out);
+    Ok(right)
 }
 
 /// A variable that is `x + x` follows `x`.
 #[test]
 fn defined_variable_follows(rt: HostRuntime) -> Result<(), Fail> {
-    follow_variable::<Box<dyn UserConstraint>>(rt.alloc())
+    assert!(rt; variable_follows::<Box<dyn UserConstraint>>(rt.alloc())?);
+    Ok(())
 }
 
 /// A `with` on a solver.
 #[test]
 fn assigned_numbers_wait(rt: HostRuntime) -> Result<(), Fail> {
-    wait_with_numbers::<Box<dyn UserConstraint>>(rt.alloc())
+    assert!(rt; numbers_wait::<Box<dyn UserConstraint>>(rt.alloc())?);
+    Ok(())
 }
 
 /// Methods of a set and of an input.
 #[test]
 fn methods_give(rt: HostRuntime) -> Result<(), Fail> {
-    give_by_methods::<Box<dyn UserConstraint>>(rt.alloc())
+    assert!(rt; objects_give::<Box<dyn UserConstraint>>(rt.alloc())?);
+    Ok(())
 }
