@@ -55,56 +55,32 @@ fn planned(alloc: Global, lists: &[&[u32]]) -> Result<String, Fail> {
     }
 }
 
-#[test]
-fn layers_and_cycles(rt: HostRuntime) -> Result<(), Fail> {
-    let alloc = rt.alloc();
-    assert_eq!(rt; planned(alloc, &[])?.as_str(), "Layers { layers: [] }");
+/// The list of each item, and what `plan` answers.
+const PLANS: &[(&[&[u32]], &str)] = &[
+    (&[], "Layers { layers: [] }"),
     // Item 2 stands on two items, one of which stands on the other.
-    assert_eq!(rt;
-        planned(alloc, &[&[1], &[], &[0, 1]])?.as_str(),
-        "Layers { layers: [1, 0, 2] }"
-    );
+    (&[&[1], &[], &[0, 1]], "Layers { layers: [1, 0, 2] }"),
     // Used before their declaration, and no cycle.
-    assert_eq!(rt;
-        planned(alloc, &[&[1], &[2], &[3], &[]])?.as_str(),
-        "Layers { layers: [3, 2, 1, 0] }"
-    );
-    assert_eq!(rt;
-        planned(alloc, &[&[1], &[0], &[]])?.as_str(),
-        "Cycle([0, 1])"
-    );
+    (&[&[1], &[2], &[3], &[]], "Layers { layers: [3, 2, 1, 0] }"),
+    (&[&[1], &[0], &[]], "Cycle([0, 1])"),
     // An item on itself.
-    assert_eq!(rt; planned(alloc, &[&[], &[0, 1]])?.as_str(), "Cycle([1])");
+    (&[&[], &[0, 1]], "Cycle([1])"),
     // As `y <- z+1; z <- y` and x beside them.
-    assert_eq!(rt;
-        planned(alloc, &[&[], &[2], &[1]])?.as_str(),
-        "Cycle([1, 2])"
-    );
-    Ok(())
-}
+    (&[&[], &[2], &[1]], "Cycle([1, 2])"),
+    // The longer of two cycles goes through the least item.
+    (&[&[2], &[3], &[4], &[1], &[0]], "Cycle([0, 2, 4])"),
+    // The least item lies on no cycle, and only leads to one.
+    (&[&[3], &[3], &[0], &[1]], "Cycle([1, 3])"),
+    // Of equally short ones the first in the order of lists.
+    (&[&[3, 2], &[], &[4], &[4], &[0]], "Cycle([0, 2, 4])"),
+    // A shorter one through the same item.
+    (&[&[1, 3], &[2], &[0], &[0]], "Cycle([0, 3])"),
+];
 
 #[test]
-fn which_cycle(rt: HostRuntime) -> Result<(), Fail> {
-    let alloc = rt.alloc();
-    // The longer of two cycles goes through the least item.
-    assert_eq!(rt;
-        planned(alloc, &[&[2], &[3], &[4], &[1], &[0]])?.as_str(),
-        "Cycle([0, 2, 4])"
-    );
-    // The least item lies on no cycle, and only leads to one.
-    assert_eq!(rt;
-        planned(alloc, &[&[3], &[3], &[0], &[1]])?.as_str(),
-        "Cycle([1, 3])"
-    );
-    // Of equally short ones the first in the order of lists.
-    assert_eq!(rt;
-        planned(alloc, &[&[3, 2], &[], &[4], &[4], &[0]])?.as_str(),
-        "Cycle([0, 2, 4])"
-    );
-    // A shorter one through the same item.
-    assert_eq!(rt;
-        planned(alloc, &[&[1, 3], &[2], &[0], &[0]])?.as_str(),
-        "Cycle([0, 3])"
-    );
+fn layers_and_cycles(rt: HostRuntime) -> Result<(), Fail> {
+    for (lists, want) in PLANS {
+        assert_eq!(rt; planned(rt.alloc(), lists)?.as_str(), *want);
+    }
     Ok(())
 }

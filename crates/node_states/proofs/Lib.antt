@@ -1,3 +1,4 @@
+mod AnyOrder
 mod NumberKinds
 mod SetSteps
 mod Steps

@@ -20,7 +20,7 @@ pub record Comes (from to : List Input) (i : ℕ) (cs : List Change) : Type 0 wh
   pub are : AreChanges from cs
   pub after : after_changes from cs ≡ take i to ++ drop i from
 
-none_push : (p : ℕ) (cs : List Change) (c : Change) → NoneAt p cs → place_of c ≢ p → NoneAt p (cs ++ c ∷ [])
+pub none_push : (p : ℕ) (cs : List Change) (c : Change) → NoneAt p cs → place_of c ≢ p → NoneAt p (cs ++ c ∷ [])
 none_push p [] c n ne = (ne, tt)
 none_push p (d ∷ cs) c n ne = (n.0, none_push p cs c n.1 ne)
 

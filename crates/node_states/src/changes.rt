@@ -72,7 +72,7 @@ fn are_equal_lists(from: &[i64], to: &[i64]) -> bool
 }
 
 /// The change that makes an input into another of its kind.
-fn change_at(
+pub(crate) fn change_at(
     alloc: Global,
     place: u32,
     from: &Input,

@@ -27,7 +27,7 @@ pub(crate) fn told_from_scratch(
         Subject::Constant(value) => tell(alloc, value, &[]),
         Subject::Total(members) => tell_number(alloc, total_of(alloc, *members, inputs)?),
         Subject::Repeat => tell_number(alloc, repeat_of(alloc, inputs)?),
-        Subject::NoZeros | Subject::BoxedNoZeros => told_of_zeros(alloc, inputs),
+        Subject::NoZeros | Subject::Boxed => told_of_zeros(alloc, inputs),
     }
 }
 

@@ -78,6 +78,15 @@ impl Given {
     }
 }
 
+/// The places that a text lists, as `[2,0]`.
+pub(crate) fn read_places(alloc: Global, text: &str) -> Result<Vec<u32>, Stop> {
+    let mut places = Vec::new(alloc);
+    for place in read_given(alloc, text.trim())?.list(alloc)?.as_slice() {
+        places.push(u32::try_from(*place).map_err(|_| Stop::Form)?)?;
+    }
+    Ok(places)
+}
+
 /// The inputs that they stand for.
 pub(crate) fn inputs_of(alloc: Global, givens: &[Given]) -> Result<Vec<Input>, Stop> {
     let mut inputs = Vec::new(alloc);

@@ -18,7 +18,7 @@ pub(crate) enum Subject {
     /// The constraint of a user that no number is 0, as it is.
     NoZeros,
     /// The same in a box.
-    BoxedNoZeros,
+    Boxed,
 }
 
 /// What a name and what stands behind it name.
@@ -28,7 +28,6 @@ pub(crate) fn subject_of(alloc: Global, name: &str, givens: &[Given]) -> Result<
         ("Total", [members]) => Ok(Subject::Total(members.count()?)),
         ("Repeat", []) => Ok(Subject::Repeat),
         ("NoZeros", []) => Ok(Subject::NoZeros),
-        ("BoxedNoZeros", []) => Ok(Subject::BoxedNoZeros),
         (_, []) => Ok(Subject::Operation(plain_operation(name).ok_or(Stop::Form)?)),
         _ => Ok(Subject::Operation(operation_with(alloc, name, givens)?)),
     }

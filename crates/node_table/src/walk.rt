@@ -5,13 +5,13 @@ ghost use Rattle.cbl_base.specs.Inputs.{kinds_of};
 
 use crate::answers::{probed_text, told_of_node};
 use crate::from_scratch::told_from_scratch;
-use crate::given::{givens, inputs_of};
+use crate::given::{givens, inputs_of, read_places};
 use crate::subject::{Subject, subject_of};
 use crate::zeros::NoZeros;
 use cbl_base::{Change, Input, NodeRule};
 use cbl_operations::Op;
 use node_kinds::{Kind, KindOf, copy_of};
-use node_states::{Places, are_numbers, are_so_many, changes_between, takes};
+use node_states::{Places, are_numbers, are_so_many, changes_at, changes_between, takes};
 use std::alloc::Global;
 use table_file::Stop;
 use user_constraint::UserConstraint;
@@ -37,7 +37,7 @@ impl Walked {
 }
 
 /// What comes of the node that the head names, with the inputs that it begins with, on its way through the
-/// rows. The box is for it where it is a user's constraint in one.
+/// rows. The box is for it where it is the user's constraint of that name.
 pub(crate) fn walk_of(
     alloc: Global,
     head: &str,
@@ -46,12 +46,21 @@ pub(crate) fn walk_of(
 ) -> Result<Walked, Stop> {
     let (named, start) = head.split_once(':').ok_or(Stop::Form)?;
     let named = named.trim();
-    let (name, kept) = named.split_once(' ').unwrap_or((named, ""));
-    let kept = givens(alloc, kept)?;
-    let subject = subject_of(alloc, name, kept.as_slice())?;
+    let subject = if named == boxed.name() {
+        Subject::Boxed
+    } else {
+        subject_named(alloc, named)?
+    };
     let start = givens(alloc, start)?;
     let start = inputs_of(alloc, start.as_slice())?;
     walk_of_subject(alloc, &subject, start, rows, boxed)
+}
+
+/// What a name and what is kept beside it name.
+fn subject_named(alloc: Global, named: &str) -> Result<Subject, Stop> {
+    let (name, kept) = named.split_once(' ').unwrap_or((named, ""));
+    let kept = givens(alloc, kept)?;
+    subject_of(alloc, name, kept.as_slice())
 }
 
 fn walk_of_subject(
@@ -80,7 +89,7 @@ fn walk_of_subject(
             let node = KindOf::of(alloc, &op, Some(NoZeros::new(alloc)))?;
             follow(alloc, node, subject, start, rows)
         }
-        Subject::BoxedNoZeros if are_numbers(start.as_slice()) => {
+        Subject::Boxed if are_numbers(start.as_slice()) => {
             let op = Op::User { number: 0 };
             let node = Kind::of(alloc, &op, Some(boxed))?;
             follow(alloc, node, subject, start, rows)
@@ -105,10 +114,11 @@ fn follow<N: NodeRule>(
     let mut differs = String::new(alloc);
     let mut states = 0usize;
     for row in rows.lines() {
-        let (state, want) = row.split_once('=').ok_or(Stop::Form)?;
+        let (front, want) = row.split_once('=').ok_or(Stop::Form)?;
+        let (places, state) = places_and_state(front);
         let to = givens(alloc, state)?;
         let to = inputs_of(alloc, to.as_slice())?;
-        let changes = changes_to(alloc, held.as_slice(), to.as_slice())?;
+        let changes = changes_to(alloc, held.as_slice(), to.as_slice(), places)?;
         if held.len() != to.len() || to.len() > MOST_INPUTS {
             return Err(Stop::Form);
         }
@@ -125,20 +135,40 @@ fn follow<N: NodeRule>(
     Ok(Walked { states, differs })
 }
 
-/// The changes to a state: among numbers alone where they differ, and else at all places.
-fn changes_to(alloc: Global, held: &[Input], to: &[Input]) -> Result<Vec<Change>, Stop>
+/// A state, and in front of it the places that change, where a row names them.
+fn places_and_state(front: &str) -> (Option<&str>, &str) {
+    match front.split_once('>') {
+        Some((places, state)) => (Some(places), state),
+        None => (None, front),
+    }
+}
+
+/// The changes to a state: at the places that the row names, in their order, and else among numbers alone
+/// where they differ, and among others at all places.
+fn changes_to(
+    alloc: Global,
+    held: &[Input],
+    to: &[Input],
+    places: Option<&str>,
+) -> Result<Vec<Change>, Stop>
     ensures changes { IfOk result (λ changes. AreChanges held.now changes.items) }
     ensures after { IfOk result (λ changes. after_changes held.now changes.items ≡ to.now) }
 {
-    let places = if are_numbers(held) {
-        Places::Differing
-    } else {
-        Places::All
+    let found = match places {
+        Some(places) => {
+            let places = read_places(alloc, places)?;
+            changes_at(alloc, held, to, places.as_slice())?
+        }
+        None => {
+            let places = if are_numbers(held) {
+                Places::Differing
+            } else {
+                Places::All
+            };
+            changes_between(alloc, held, to, places)?
+        }
     };
-    match changes_between(alloc, held, to, places)? {
-        Some(changes) => Ok(changes),
-        None => Err(Stop::Form),
-    }
+    found.ok_or(Stop::Form)
 }
 
 /// From the inputs that a node holds to others.

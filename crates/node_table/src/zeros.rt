@@ -25,19 +25,19 @@ impl NoZeros {
 }
 
 impl UserConstraint for NoZeros {
-    ghost use Rattle.std.specs.Prelude.{ℕ, List, [], ◌∷◌};
+    ghost use Rattle.std.specs.Prelude.{codes};
     ghost use Rattle.node_table.specs.Zeros.{no_zeros};
 
     ghost user_rule = { λ _. no_zeros };
 
-    ghost user_name = { λ _. 122 ∷ [] };
+    ghost user_name = { λ _. codes "nozeros" };
 
     ghost usable = { λ _. Unit {0} };
 
     ghost held = { λ s. s.list.items };
 
     fn name(&self) -> &str {
-        "z"
+        "nozeros"
     }
 
     fn reset(&mut self, values: &[i64]) -> Result<(), NoMemory> {
