@@ -6,5 +6,7 @@
 #![tactic(auto)]
 
 mod evaluation;
+#[cfg(test)]
+mod tests;
 
 pub use evaluation::{EvalStop, eval};
