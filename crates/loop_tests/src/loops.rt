@@ -73,11 +73,12 @@ fn board_of_one(alloc: Global) -> Result<Board, NoMemory>
     Ok(board)
 }
 
-// The loop of the reports 4, 1, 0 and 1.
-fn report_all<G: Gate + Sync, R: Threads + Wait + Sync>(
+// The loop of the reports 4, 1, 0 and 1, or of the first few of them.
+pub(crate) fn report_all<G: Gate + Sync, R: Threads + Wait + Sync>(
     rt: &R,
     alloc: Global,
     gate: &G,
+    n: u32,
     workers: u32,
 ) -> Result<LoopResult<Board, Option<bool>>, NoMemory>
     requires { (1 ≤ workers) × (workers ≤ 64) }
@@ -86,11 +87,11 @@ fn report_all<G: Gate + Sync, R: Threads + Wait + Sync>(
     values.extend_from_slice(&[4, 1, 0, 1])?;
     let body = Reports { alloc, values };
     let board = board_of_one(alloc)?;
-    run_loop(rt, alloc, &body, gate, 4, workers, board)
+    run_loop(rt, alloc, &body, gate, n, workers, board)
 }
 
 // Whether each iteration reported once, each reply is what a board replies there, it is the iteration's outcome, and
-// the least value is the best at the end.
+// the least value is the best at the end, with the list of its report.
 fn is_told_as_asked(
     alloc: Global,
     left: &LoopResult<Board, Option<bool>>,
@@ -117,10 +118,24 @@ fn is_told_as_asked(
     if left.history.len() != 4 {
         return Ok(false);
     }
-    Ok(matches!(
-        board.reply(&Request::Value { monitor: 0 })?,
-        Reply::Number(0)
-    ))
+    has_best(&board, 0, 3)
+}
+
+// Whether the one monitor's best is this value, with a list of just this number.
+fn has_best(board: &Board, value: i64, number: i64) -> Result<bool, NoMemory>
+    requires { length board.now ≡ 1 }
+{
+    let Reply::Number(best) = board.reply(&Request::Value { monitor: 0 })? else {
+        return Ok(false);
+    };
+    let Reply::List(list) = board.reply(&Request::Copy {
+        monitor: 0,
+        room: 1,
+    })?
+    else {
+        return Ok(false);
+    };
+    Ok(best == value && list.len() == 1 && list.get(0) == Some(number))
 }
 
 // Whether the entries of the iterations stand one iteration after the other.
@@ -137,7 +152,7 @@ fn is_in_order(left: &LoopResult<Board, Option<bool>>) -> bool {
 
 #[test]
 fn one_worker_reports_in_order(rt: HostRuntime) -> Result<(), Fail> {
-    let left = report_all(&rt, rt.alloc(), &OpenGate, 1)?;
+    let left = report_all(&rt, rt.alloc(), &OpenGate, 4, 1)?;
     assert!(rt; is_told_as_asked(rt.alloc(), &left)?);
     assert!(rt; is_in_order(&left));
     assert_eq!(rt; left.outcomes.len(), 4);
@@ -148,7 +163,7 @@ fn one_worker_reports_in_order(rt: HostRuntime) -> Result<(), Fail> {
 
 #[test]
 fn four_workers_report_once_each(rt: HostRuntime) -> Result<(), Fail> {
-    let result = report_all(&rt, rt.alloc(), &OpenGate, 4)?;
+    let result = report_all(&rt, rt.alloc(), &OpenGate, 4, 4)?;
     assert!(rt; is_told_as_asked(rt.alloc(), &result)?);
     Ok(())
 }
@@ -193,7 +208,7 @@ fn two_workers_run_beside_each_other(rt: HostRuntime) -> Result<(), Fail> {
         entered: AtomicBool::new(false),
         met_limit: AtomicBool::new(false),
     };
-    let result = report_all(&rt, rt.alloc(), &gate, 2)?;
+    let result = report_all(&rt, rt.alloc(), &gate, 4, 2)?;
     assert!(rt; !gate.met_limit.load(Ordering::SeqCst));
     assert!(rt; is_told_as_asked(rt.alloc(), &result)?);
     Ok(())
