@@ -19,3 +19,6 @@ pub use variables::{
     assign, close, commit_waiting, define, domain_of, new_variable, open_with, swap, variable_in,
 };
 pub use writes::{added, stepped, subtracted, write};
+
+#[cfg(test)]
+mod tests;

@@ -1,7 +1,0 @@
-//! Variables, objects and methods of a run, call by call.
-//!
-//! It has tests alone, so that the crates that they speak of are proved once and not twice.
-#![tactic(auto)]
-
-#[cfg(test)]
-mod objects;
