@@ -304,7 +304,7 @@ module _ (rules : List Rule) (frame : Frame) (trace : Trace) (ok : IsFrame rules
         by_what None = refl
         by_what (Some cs) = by_place (nat_lt id frame.first) _
 
-    held_other : (j : ℕ) → j ≢ id → held_of helds' cells' frame j ≡ held_of helds cells frame j
+    pub held_other : (j : ℕ) → j ≢ id → held_of helds' cells' frame j ≡ held_of helds cells frame j
     held_other j ne =
         ap (λ (hs : List (List Input)). held_of hs cells' frame j) helds_here
         ∙ ap (λ (c : Input). cond (nat_lt j frame.first) (c ∷ []) (slice_index_or (helds_after frame id x helds) (j - frame.first) [])) (ap (λ (cs : List Input). cell_of cs j) cells_here ∙ other_cell outcome cells id j ne)

@@ -249,10 +249,10 @@ any_none : (d : ℕ → Bool) (is : List ℕ) → ((i : ℕ) → d i ≡ false) 
 any_none d [] h = refl
 any_none d (i ∷ is) h = ap (λ b. b || list_any d is) (h i) ∙ any_none d is h
 
-pub started : (rules : List Rule) (helds : List (List Input)) (frame : Frame) (cells : List Input) (kept : IsKept rules helds frame cells) (ms : List (VarId × ℤ)) (course : Course) (base : ℕ)
-    → AreMoves (graph_of rules frame) ms → 0 < length ms → ((l i : ℕ) → waits course.waiting l i ≡ None) → ((j : ℕ) → get nat_cmp course.lost j ≡ None) → ((j : ℕ) → get nat_cmp course.changes j ≡ None)
-    → InCourse rules helds frame (trace_of cells ms base) cells course (LaterThanMoves frame ms) (base + 2 * length ms + 1)
-started rules helds frame cells kept ms course base are some none unlost unchanged = record {
+pub started : (rules : List Rule) (helds : List (List Input)) (frame : Frame) (cells : List Input) (kept : IsKept rules helds frame cells) (ms : List (VarId × ℤ)) (course : Course) (base spare : ℕ)
+    → spare ≤ 6 → AreMoves (graph_of rules frame) ms → 0 < length ms → ((l i : ℕ) → waits course.waiting l i ≡ None) → ((j : ℕ) → get nat_cmp course.lost j ≡ None) → ((j : ℕ) → get nat_cmp course.changes j ≡ None)
+    → InCourse rules helds frame (trace_of cells ms base) cells course (LaterThanMoves frame ms) (base + 2 * length ms + spare)
+started rules helds frame cells kept ms course base spare few are some none unlost unchanged = record {
   turns = record {
     keyed = λ l i h. absurd (not_some _ (none l i) h);
     consistent = λ j lt f _. now j ∙ kept.fresh.nodes j lt f ∙ sym (ap (λ os. come_to ((graph_of rules frame).op j) (values_of os)) (map_same (outcome_now course.lost cells) (λ i. Value (cell_of cells i)) (inputs_in frame j) now));
@@ -294,13 +294,13 @@ started rules helds frame cells kept ms course base are some none unlost unchang
     unmoved_high j low hi true e = absurd (let bottom = kept.framed.shape.lowest j (moved_free (graph_of rules frame) ms j are e) in let few = kept.framed.shape.few in omega (arith, bottom, few, low, hi))
     unmoved_high j low hi false e = refl
 
-    paid : base + 2 * length ms + 1 + sum_below (λ j. cost (waits course.waiting (layer_of frame j) j)) (length frame.inputs.items)
+    paid : base + 2 * length ms + spare + sum_below (λ j. cost (waits course.waiting (layer_of frame j) j)) (length frame.inputs.items)
         ≤ base + 4 * touch (is_moved ms) (differing course.lost cells (cell_of cells)) (inputs_in frame) (uses_in frame) (length frame.inputs.items)
     paid =
         let free = sum_none (λ j. cost (waits course.waiting (layer_of frame j) j)) (length frame.inputs.items) (λ j lt. ap cost (none (layer_of frame j) j)) in
         let many = many_moved (graph_of rules frame) ms are in
         let grown = sum_le (λ j. bit (is_moved ms j)) (λ j. bit (touched (is_moved ms) (differing course.lost cells (cell_of cells)) (inputs_in frame) j)) (length frame.inputs.items) (λ j lt. or_more (is_moved ms j) _) in
-        omega (arith, free, many, grown, some)
+        omega (arith, free, many, grown, some, few)
       where
         or_more : (a b : Bool) → bit a ≤ bit (a || b)
         or_more true b = omega arith

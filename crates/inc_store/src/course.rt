@@ -22,7 +22,7 @@ use store_turns::{Frame, Outcome, Waiting, copy_of, tell};
 
 /// What a commit has come to so far.
 #[derive(Drop)]
-pub(crate) struct Course {
+pub struct Course {
     pub(crate) waiting: Waiting,
     /// The ids without a value, each with its fault where that is its own.
     pub(crate) lost: BTreeMap<u32, Option<RunFault>>,

@@ -17,5 +17,6 @@ mod turns;
 
 pub use cells::Cells;
 pub use changed::{Changed, NodeChange};
+pub use course::Course;
 pub use store::Store;
 pub use store_build::{LayerEval, Links, PlainEval, StoreFault};

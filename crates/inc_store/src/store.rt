@@ -132,6 +132,13 @@ impl<N: NodeRule> Store<N> {
         &self.nodes[(node.0 - self.frame.first) as usize]
     }
 
+    /// How its nodes hang together: which ids are cells, and each id's inputs, layer and uses.
+    pub fn frame(&self) -> &Frame
+        ensures { result.now ≡ self.now.frame }
+    {
+        &self.frame
+    }
+
     /// The ids whose values an id takes, in order.
     pub fn inputs(&self, node: NodeId) -> &[NodeId]
         requires { node.0 < count_of self.now }

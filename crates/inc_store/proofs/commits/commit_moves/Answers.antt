@@ -1,4 +1,4 @@
-use Rattle.std.proofs.Common.{rules, ◌≡◌, ◌+◌, ◌*◌, List, map, length, refl, sym, ap, ◌∙◌, subst}
+use Rattle.std.proofs.Common.{rules, ◌≡◌, ◌+◌, ◌*◌, List, map, length, refl, sym, ap, ◌∙◌, subst, arith}
 use Rattle.cbl_base.specs.NodeLaw.{Rule}
 use Rattle.cbl_base.specs.declared.input.Input.{Input}
 use Rattle.store_turns.specs.Meaning.{graph_of, layer_of, uses_in}
@@ -20,7 +20,7 @@ move_all-requires g c κs within = (
       (
         (λ j. subst (λ (tr : Trace). tr.target j ≡ moved_to c.args.moves.now tr.before j) (sym c.requires.1.1.1.1.1.1.1.0) refl),
         subst (λ (tr : Trace). InCourse g.given.rules g.given.helds c.args.frame.now tr c.args.cells.now c.new-course.result (LaterThanMoves c.args.frame.now c.args.moves.now) (c.args.steps.now + 2 * length c.args.moves.now + 1)) (sym c.requires.1.1.1.1.1.1.1.0)
-            (started g.given.rules g.given.helds c.args.frame.now c.args.cells.now c.requires.1.1.1.1.1.1.1.1.0 c.args.moves.now c.new-course.result c.args.steps.now c.requires.1.1.1.1.1.1.1.1.1.0 c.requires.1.1.1.1.1.1.1.1.1.1 c.new-course.ensures.waiting c.new-course.ensures.lost c.new-course.ensures.changes),
+            (started g.given.rules g.given.helds c.args.frame.now c.args.cells.now c.requires.1.1.1.1.1.1.1.1.0 c.args.moves.now c.new-course.result c.args.steps.now 1 (omega arith) c.requires.1.1.1.1.1.1.1.1.1.0 c.requires.1.1.1.1.1.1.1.1.1.1 c.new-course.ensures.waiting c.new-course.ensures.lost c.new-course.ensures.changes),
       ),
     ),
   ),

@@ -1,0 +1,5 @@
+pub mod Imagined
+pub mod Roots
+pub mod Stops
+pub mod Finish
+pub mod OneMove

@@ -1,0 +1,117 @@
+//! What an id comes to in its turn of a trial.
+ghost use Rattle.std.specs.Prelude.{◌≡◌, ℕ, ◌+◌, ◌-◌, ◌<◌, ◌≤◌, true, false, List, [], ◌∷◌, length, map, nat_lt, slice_index_or, slice_get, Some, None, IfOk, option_copied};
+ghost use Rattle.std.specs.BTreeMap.{get};
+ghost use Rattle.std.specs.Ordering.{nat_cmp};
+ghost use Rattle.cbl_base.specs.declared.input.Change.{Change};
+ghost use Rattle.cbl_base.specs.Changes.{AreChanges, after_changes};
+ghost use Rattle.store_turns.specs.Meaning.{outcome_of, rule_value, inputs_in};
+ghost use Rattle.store_turns.specs.Waits.{changes_of};
+ghost use Rattle.store_turns.specs.Touch.{cost};
+ghost use Rattle.store_turns.specs.declared.outcome.Outcome.TheVariants.{Value};
+ghost use Rattle.inc_store.specs.Course.{lost_by};
+ghost use Rattle.inc_store.specs.Views.{IsUsable, value_at, count_of, first_of, inputs_at, rules_in};
+ghost use Rattle.trial.specs.Overlays.{asked, new_or, root_by};
+
+use crate::overlay::Overlay;
+use cbl_base::{Change, NoMemory, NodeFault, NodeId, NodeRule, NodeValue, RunFault, Steps};
+use inc_store::{NodeChange, Store};
+use std::alloc::Global;
+use std::sync::ledger::Ledger;
+use store_turns::{Frame, Outcome, Pending, copy_of};
+
+/// What an id comes to in its turn, by what waited for it, and the failing node on which it stands then.
+/// At most as many steps as there are changes, and one more.
+pub(crate) fn came_to<N: NodeRule, L: Ledger>(
+    alloc: Global,
+    store: &Store<N>,
+    frame: &Frame,
+    overlay: &Overlay,
+    id: u32,
+    old: &NodeValue,
+    pending: Pending,
+    steps: &mut Steps<L>,
+) -> Result<(Outcome, Option<(u32, RunFault)>), NoMemory>
+    requires usable { IsUsable N.rule N.held N.ready store.now }
+    requires frame { frame.now ≡ store.now.frame }
+    requires within { id < count_of store.now }
+    requires old { old.now ≡ value_at store.now id }
+    requires one { nat_lt id (first_of store.now) ≡ true → (i : ℕ) × (inputs_at store.now id ≡ i ∷ []) }
+    requires changes { nat_lt id (first_of store.now) ≡ false → (cs : List Change) → changes_of pending ≡ Some cs → AreChanges (map (value_at store.now) (inputs_at store.now id)) cs }
+    ensures outcome { IfOk result (λ r. r.0 ≡ asked (rules_in N.rule store.now) store.now.frame store.now.cells overlay.now id (changes_of pending)) }
+    ensures root { IfOk result (λ r. r.1 ≡ root_by id (lost_by r.0) (get nat_cmp overlay.now.roots id)) }
+    ensures steps { steps.new + 3 ≤ steps.old + cost (Some (changes_of pending)) }
+{
+    match pending {
+        Pending::Below => Ok((Outcome::Missing, overlay.root(id, steps))),
+        Pending::Changed(changes) => {
+            if id < frame.first {
+                copied(alloc, frame, overlay, id, old, steps)
+            } else {
+                probed(store, id, &changes, steps)
+            }
+        }
+    }
+}
+
+/// What a defined variable comes to: the value of the one node in its list. One step.
+fn copied<L: Ledger>(
+    alloc: Global,
+    frame: &Frame,
+    overlay: &Overlay,
+    id: u32,
+    old: &NodeValue,
+    steps: &mut Steps<L>,
+) -> Result<(Outcome, Option<(u32, RunFault)>), NoMemory>
+    requires within { id < length frame.now.inputs.items }
+    requires one { (i : ℕ) × (inputs_in frame.now id ≡ i ∷ []) }
+    ensures outcome { IfOk result (λ r. r.0 ≡ Value (new_or (get nat_cmp overlay.now.changes (slice_index_or (inputs_in frame.now id) 0 0)) old.now)) }
+    ensures root { IfOk result (λ r. r.1 ≡ None) }
+    ensures steps { steps.new ≡ steps.old + 1 }
+{
+    let input = frame.inputs[id as usize][0];
+    let value = copy_of(alloc, newest(overlay.changed(input.0, steps), old))?;
+    Ok((Outcome::Value(value), None))
+}
+
+/// The new value, where there is one.
+pub(crate) fn newest<'a>(change: Option<&'a NodeChange>, old: &'a NodeValue) -> &'a NodeValue
+    ensures { result.now ≡ new_or (option_copied change.entry) old.now }
+{
+    match change {
+        Some(change) => &change.new,
+        None => old,
+    }
+}
+
+/// What a node answers to these changes of what it holds. A step for each change, and one more.
+fn probed<N: NodeRule, L: Ledger>(
+    store: &Store<N>,
+    id: u32,
+    changes: &[Change],
+    steps: &mut Steps<L>,
+) -> Result<(Outcome, Option<(u32, RunFault)>), NoMemory>
+    requires usable { IsUsable N.rule N.held N.ready store.now }
+    requires within { id < count_of store.now }
+    requires past { first_of store.now ≤ id }
+    requires changes { AreChanges (map (value_at store.now) (inputs_at store.now id)) changes.now }
+    ensures outcome { IfOk result (λ r. r.0 ≡ outcome_of (rule_value (slice_get (rules_in N.rule store.now) (id - first_of store.now)) (after_changes (map (value_at store.now) (inputs_at store.now id)) changes.now))) }
+    ensures root { IfOk result (λ r. r.1 ≡ root_by id (lost_by r.0) None) }
+    ensures steps { steps.new ≡ steps.old + (length changes.now + 1) }
+{
+    tick_each(changes, steps);
+    steps.tick();
+    match store.node(NodeId(id)).probe(changes) {
+        Ok(value) => Ok((Outcome::Value(value), None)),
+        Err(NodeFault::Run(fault)) => Ok((Outcome::Fails(fault), Some((id, fault)))),
+        Err(NodeFault::NoMemory) => Err(NoMemory),
+    }
+}
+
+/// A step for each change.
+fn tick_each<L: Ledger>(changes: &[Change], steps: &mut Steps<L>)
+    ensures { steps.new ≡ steps.old + length changes.now }
+{
+    for _change in changes {
+        steps.tick();
+    }
+}

@@ -1,0 +1,93 @@
+//! The turns of a trial.
+ghost use Rattle.std.specs.Prelude.{◌≡◌, ℕ, ◌+◌, ◌*◌, ◌<◌, ◌≤◌, nat_lt, length, IfOk, OnOk, MatchOption, None};
+ghost use Rattle.std.specs.BTreeMap.{get};
+ghost use Rattle.std.specs.Ordering.{nat_cmp};
+ghost use Rattle.store_turns.specs.Meaning.{layer_of, uses_in};
+ghost use Rattle.store_turns.specs.Waits.{waits};
+ghost use Rattle.store_turns.specs.Turns.{rank};
+ghost use Rattle.inc_store.specs.Course.{NotBefore, first_front};
+ghost use Rattle.inc_store.specs.Moves.{is_moved, moved_to};
+ghost use Rattle.inc_store.specs.Stores.{IsWithin};
+ghost use Rattle.inc_store.specs.Views.{IsUsable, graph_in, rules_in, value_at, count_of};
+ghost use Rattle.trial.specs.Course.{Asked, InProbe, IsKnown};
+
+use crate::asking::came_to;
+use crate::overlay::Overlay;
+use crate::settling::{settle, turn_of};
+use cbl_base::{NoMemory, NodeId, NodeRule, Steps};
+use inc_store::Store;
+use std::alloc::Global;
+use std::sync::ledger::Ledger;
+use store_turns::Turn;
+
+/// The first that waits has its turn, if that is not past the target's. It answers whose turn that was, and
+/// `None` where nothing waits up to there.
+fn turn<N: NodeRule, L: Ledger>(
+    alloc: Global,
+    store: &Store<N>,
+    overlay: &mut Overlay,
+    target: Turn,
+    front: u128,
+    steps: &mut Steps<L>,
+) -> Result<Option<Turn>, NoMemory>
+    ghost ask: { Asked }
+    requires usable { IsUsable N.rule N.held N.ready store.now }
+    requires course { InProbe (rules_in N.rule store.now) store.now.frame store.now.cells ask overlay.old (NotBefore front (layer_of store.now.frame)) (steps.old + 4) }
+    requires front { first_front ≤ front }
+    ensures course { IfOk result (λ r. MatchOption r (Unit {0}) (λ t. InProbe (rules_in N.rule store.now) store.now.frame store.now.cells ask overlay.new (NotBefore (rank (layer_of store.now.frame) t.id + 1) (layer_of store.now.frame)) (steps.new + 4))) }
+    ensures limit { IsWithin (graph_in N.rule store.now) (value_at store.now) (moved_to ask.moves (value_at store.now)) (is_moved ask.moves) (uses_in store.now.frame) ask.base steps.new }
+    ensures turn { IfOk result (λ r. MatchOption r (Unit {0}) (λ t. (t.layer ≡ layer_of store.now.frame t.id) × (t.id < count_of store.now) × (front ≤ rank (layer_of store.now.frame) t.id) × (rank (layer_of store.now.frame) t.id ≤ target.layer * 4294967296 + target.id))) }
+    ensures over { IfOk result (λ r. MatchOption r (((j : ℕ) → j < count_of store.now → rank (layer_of store.now.frame) j ≤ target.layer * 4294967296 + target.id → waits overlay.old.waiting (layer_of store.now.frame j) j ≡ None) × (overlay.new.lost ≡ overlay.old.lost) × (overlay.new.changes ≡ overlay.old.changes) × (overlay.new.roots ≡ overlay.old.roots) × (steps.new ≡ steps.old + 1)) (λ t. Unit {0})) }
+{
+    let Some((turn, pending)) = overlay.waiting.pop(steps) else {
+        return Ok(None);
+    };
+    if is_past(turn, target) {
+        return Ok(None);
+    }
+    let frame = store.frame();
+    let old = store.read(NodeId(turn.id), steps);
+    let (outcome, root) = came_to(alloc, store, frame, overlay, turn.id, old, pending, steps)?;
+    settle(alloc, frame, overlay, turn.id, old, outcome, root, steps)?;
+    Ok(Some(turn))
+}
+
+/// Whether a turn comes after another.
+fn is_past(turn: Turn, other: Turn) -> bool
+    ensures { result ≡ nat_lt (other.layer * 4294967296 + other.id) (turn.layer * 4294967296 + turn.id) }
+{
+    rank_of(other) < rank_of(turn)
+}
+
+/// The place of a turn in the order of all.
+fn rank_of(turn: Turn) -> u128
+    ensures { result ≡ turn.layer * 4294967296 + turn.id }
+{
+    u128::from(turn.layer) * 4294967296 + u128::from(turn.id)
+}
+
+/// Each node that waits has its turn, by layer and then by id, up to the target's.
+pub(crate) fn run<N: NodeRule, L: Ledger>(
+    alloc: Global,
+    store: &Store<N>,
+    overlay: &mut Overlay,
+    target: NodeId,
+    steps: &mut Steps<L>,
+) -> Result<(), NoMemory>
+    ghost ask: { Asked }
+    requires usable { IsUsable N.rule N.held N.ready store.now }
+    requires target { target.0 < count_of store.now }
+    requires course { InProbe (rules_in N.rule store.now) store.now.frame store.now.cells ask overlay.old (NotBefore first_front (layer_of store.now.frame)) (steps.old + 4) }
+    ensures known { OnOk result (IsKnown (rules_in N.rule store.now) store.now.frame store.now.cells ask overlay.new.lost overlay.new.changes overlay.new.roots target.0) }
+    ensures spare { OnOk result (IsWithin (graph_in N.rule store.now) (value_at store.now) (moved_to ask.moves (value_at store.now)) (is_moved ask.moves) (uses_in store.now.frame) ask.base (steps.new + 3)) }
+    ensures limit { IsWithin (graph_in N.rule store.now) (value_at store.now) (moved_to ask.moves (value_at store.now)) (is_moved ask.moves) (uses_in store.now.frame) ask.base steps.new }
+{
+    let last = turn_of(store.frame(), target);
+    let mut front: u128 = 4294967296;
+    loop {
+        let Some(turn) = turn(alloc, store, overlay, last, front, steps)? else {
+            return Ok(());
+        };
+        front = rank_of(turn) + 1;
+    }
+}
