@@ -64,13 +64,13 @@ fn cause_text(cause: FormCause) -> &'static str {
 pub(crate) fn answer_of(alloc: Global, text: &[u8], places: Places) -> Result<Vec<u8>, NoMemory> {
     let mut writer = Writer::new(alloc, places);
     match read(alloc, text) {
-        Ok(program) => write_program(&mut writer, &program)?,
+        Ok(program) => write_program(&mut writer, &program),
         Err(Refused::At(place, cause)) => {
-            writer.place(place)?;
-            writer.words(": ")?;
-            writer.words(cause_text(cause))?;
+            writer.place(place);
+            writer.words(": ");
+            writer.words(cause_text(cause));
         }
         Err(Refused::NoMemory) => return Err(NoMemory),
     }
-    Ok(writer.out)
+    writer.text()
 }

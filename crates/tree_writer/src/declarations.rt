@@ -1,153 +1,177 @@
 //! Declarations, each in parentheses, and classes.
 
-use crate::part::Part::{Across, Along, Arguments, Behind, Made, Mark, Named, Value, Words};
-use crate::part::{Part, form};
+use crate::expressions::{write_arguments, write_behind, write_expression};
 use crate::words::incremental_word;
-use cbl_base::NoMemory;
+use crate::writer::Writer;
+use cbl_base::Place;
 use comet_syntax::tree::{
-    Class, ClassKind, Declaration, Dimension, Dimensions, Maker, Name, VariableStart,
+    Class, ClassKind, Declaration, Dimension, Dimensions, Expression, Incremental, Maker, Name,
+    VariableStart,
 };
 
 /// A word, and a name in angle brackets where there is one.
-pub(crate) fn push_generic<'a>(
-    todo: &mut Vec<Part<'a>>,
-    word: &'static str,
-    name: Option<&'a Name>,
-) -> Result<(), NoMemory> {
+pub(crate) fn write_generic(writer: &mut Writer, word: &str, name: Option<&Name>) {
+    writer.words(word);
     match name {
-        Some(name) => form(todo, "_<_>", &[Words(word), Named(name)]),
-        None => form(todo, word, &[]),
+        Some(name) => {
+            writer.named_behind("<", name);
+            writer.words(">");
+        }
+        None => {}
+    }
+}
+
+fn write_kind(writer: &mut Writer, kind: &ClassKind) {
+    match kind {
+        ClassKind::Solver(name) => write_generic(writer, "Solver", Some(name)),
+        ClassKind::LocalSolver => writer.words("LocalSolver"),
+        ClassKind::ConstraintSystem(name) => {
+            write_generic(writer, "ConstraintSystem", name.as_ref());
+        }
+        ClassKind::FunctionExpr(name) => write_generic(writer, "FunctionExpr", name.as_ref()),
+        ClassKind::FunctionSum(name) => write_generic(writer, "FunctionSum", name.as_ref()),
+        ClassKind::UniformDistribution => writer.words("UniformDistribution"),
+        ClassKind::InputFile => writer.words("InputFile"),
+        ClassKind::MinNeighborSelector => writer.words("MinNeighborSelector"),
+        ClassKind::BestMonitor => writer.words("BestMonitor"),
+        ClassKind::Solution => writer.words("Solution"),
     }
 }
 
 /// A class, and its place behind it.
-pub(crate) fn push_class<'a>(todo: &mut Vec<Part<'a>>, class: &'a Class) -> Result<(), NoMemory> {
-    todo.push(Mark("", class.place))?;
-    match &class.kind {
-        ClassKind::Solver(name) => push_generic(todo, "Solver", Some(name)),
-        ClassKind::LocalSolver => push_generic(todo, "LocalSolver", None),
-        ClassKind::ConstraintSystem(name) => push_generic(todo, "ConstraintSystem", name.as_ref()),
-        ClassKind::FunctionExpr(name) => push_generic(todo, "FunctionExpr", name.as_ref()),
-        ClassKind::FunctionSum(name) => push_generic(todo, "FunctionSum", name.as_ref()),
-        ClassKind::UniformDistribution => push_generic(todo, "UniformDistribution", None),
-        ClassKind::InputFile => push_generic(todo, "InputFile", None),
-        ClassKind::MinNeighborSelector => push_generic(todo, "MinNeighborSelector", None),
-        ClassKind::BestMonitor => push_generic(todo, "BestMonitor", None),
-        ClassKind::Solution => push_generic(todo, "Solution", None),
-    }
-}
-
-/// ` [dimension]` or ` [dimension, dimension]`, where there are dimensions.
-pub(crate) fn push_dimensions<'a>(
-    todo: &mut Vec<Part<'a>>,
-    dimensions: Option<&'a Dimensions>,
-) -> Result<(), NoMemory> {
-    let Some(dimensions) = dimensions else {
-        return Ok(());
-    };
-    let first = Along(&dimensions.first);
-    match &dimensions.second {
-        Some(second) => form(todo, " [_, _]", &[first, Along(second)]),
-        None => form(todo, " [_]", &[first]),
-    }
+pub(crate) fn write_class(writer: &mut Writer, class: &Class) {
+    write_kind(writer, &class.kind);
+    writer.mark(class.place);
 }
 
 /// `range` or `name in range`.
-pub(crate) fn push_dimension<'a>(
-    todo: &mut Vec<Part<'a>>,
-    dimension: &'a Dimension,
-) -> Result<(), NoMemory> {
-    let range = Value(&dimension.range);
-    match &dimension.name {
-        Some(name) => form(todo, "_ in _", &[Named(name), range]),
-        None => form(todo, "_", &[range]),
+fn write_dimension(writer: &mut Writer, dimension: &Dimension) {
+    if let Some(name) = &dimension.name {
+        writer.named(name);
+        writer.words(" in ");
     }
+    write_expression(writer, &dimension.range);
+}
+
+/// ` [dimension]` or ` [dimension, dimension]`, where there are dimensions.
+fn write_dimensions(writer: &mut Writer, dimensions: &Option<Dimensions>) {
+    let Some(dimensions) = dimensions else {
+        return;
+    };
+    writer.words(" [");
+    write_dimension(writer, &dimensions.first);
+    if let Some(second) = &dimensions.second {
+        writer.words(", ");
+        write_dimension(writer, second);
+    }
+    writer.words("]");
 }
 
 /// ` := value`, ` <- term`, or nothing.
-fn start_of(start: Option<&VariableStart>) -> Part<'_> {
+fn write_start(writer: &mut Writer, start: &Option<VariableStart>) {
     match start {
-        Some(VariableStart::Assign(value)) => Behind(" := ", Some(value)),
-        Some(VariableStart::Define(term)) => Behind(" <- ", Some(term)),
-        None => Words(""),
+        Some(VariableStart::Assign(value)) => write_behind(writer, " := ", Some(value)),
+        Some(VariableStart::Define(term)) => write_behind(writer, " <- ", Some(term)),
+        None => {}
     }
 }
 
-/// Puts the parts of an object's declaration on the list.
-fn push_object<'a>(
-    todo: &mut Vec<Part<'a>>,
-    class: &'a Class,
-    name: &'a Name,
-    maker: &'a Maker,
-) -> Result<(), NoMemory> {
+/// `(type name`
+fn begin(writer: &mut Writer, kind: &str, place: Place, name: &Name) {
+    writer.words("(");
+    writer.marked(kind, place);
+    writer.named_behind(" ", name);
+}
+
+/// `(type name = value)`
+fn write_valued(writer: &mut Writer, kind: &str, place: Place, name: &Name, value: &Expression) {
+    begin(writer, kind, place, name);
+    write_behind(writer, " = ", Some(value));
+    writer.words(")");
+}
+
+/// `(type name = start)`, or with no start.
+fn write_started(
+    writer: &mut Writer,
+    kind: &str,
+    place: Place,
+    name: &Name,
+    start: &Option<Expression>,
+) {
+    begin(writer, kind, place, name);
+    write_behind(writer, " = ", start.as_ref());
+    writer.words(")");
+}
+
+/// `(int name [dimensions] = start)`
+fn write_int(
+    writer: &mut Writer,
+    place: Place,
+    name: &Name,
+    dimensions: &Option<Dimensions>,
+    start: &Option<Expression>,
+) {
+    begin(writer, "int", place, name);
+    write_dimensions(writer, dimensions);
+    write_behind(writer, " = ", start.as_ref());
+    writer.words(")");
+}
+
+/// `(var{int} name [dimensions] (solver`, and its like.
+fn begin_variable(
+    writer: &mut Writer,
+    word: Incremental,
+    kind: &str,
+    place: Place,
+    name: &Name,
+    dimensions: &Option<Dimensions>,
+    solver: &Name,
+) {
+    writer.words("(");
+    writer.words(incremental_word(word));
+    writer.marked(kind, place);
+    writer.named_behind(" ", name);
+    write_dimensions(writer, dimensions);
+    writer.named_behind(" (", solver);
+}
+
+/// An object's declaration.
+fn write_object(writer: &mut Writer, class: &Class, name: &Name, maker: &Maker) {
+    writer.words("(");
+    write_class(writer, class);
+    writer.named_behind(" ", name);
     match maker {
-        Maker::Direct(arguments) => form(
-            todo,
-            "(_ _(_))",
-            &[Made(class), Named(name), Arguments(arguments.as_slice())],
-        ),
-        Maker::New { made, arguments } => form(
-            todo,
-            "(_ _ = new _(_))",
-            &[
-                Made(class),
-                Named(name),
-                Made(made),
-                Arguments(arguments.as_slice()),
-            ],
-        ),
+        Maker::Direct(arguments) => write_arguments(writer, arguments.as_slice()),
+        Maker::New { made, arguments } => {
+            writer.words(" = new ");
+            write_class(writer, made);
+            write_arguments(writer, arguments.as_slice());
+        }
     }
+    writer.words(")");
 }
 
-/// Puts the parts of a declaration on the list.
-pub(crate) fn push_declaration<'a>(
-    todo: &mut Vec<Part<'a>>,
-    declaration: &'a Declaration,
-) -> Result<(), NoMemory> {
+/// Writes a declaration.
+pub(crate) fn write_declaration(writer: &mut Writer, declaration: &Declaration) {
     match declaration {
         Declaration::Int {
             place,
             name,
             dimensions,
             start,
-        } => form(
-            todo,
-            "(_ ___)",
-            &[
-                Mark("int", *place),
-                Named(name),
-                Across(dimensions.as_ref()),
-                Behind(" = ", start.as_ref()),
-            ],
-        ),
-        Declaration::IntArray { place, name, value } => form(
-            todo,
-            "(_ _ = _)",
-            &[Mark("int[]", *place), Named(name), Value(value)],
-        ),
-        Declaration::Bool { place, name, start } => form(
-            todo,
-            "(_ __)",
-            &[
-                Mark("bool", *place),
-                Named(name),
-                Behind(" = ", start.as_ref()),
-            ],
-        ),
-        Declaration::Range { place, name, value } => form(
-            todo,
-            "(_ _ = _)",
-            &[Mark("range", *place), Named(name), Value(value)],
-        ),
-        Declaration::Set { place, name, start } => form(
-            todo,
-            "(_ __)",
-            &[
-                Mark("set{int}", *place),
-                Named(name),
-                Behind(" = ", start.as_ref()),
-            ],
-        ),
+        } => write_int(writer, *place, name, dimensions, start),
+        Declaration::IntArray { place, name, value } => {
+            write_valued(writer, "int[]", *place, name, value);
+        }
+        Declaration::Bool { place, name, start } => {
+            write_started(writer, "bool", *place, name, start);
+        }
+        Declaration::Range { place, name, value } => {
+            write_valued(writer, "range", *place, name, value);
+        }
+        Declaration::Set { place, name, start } => {
+            write_started(writer, "set{int}", *place, name, start);
+        }
         Declaration::Variable {
             place,
             word,
@@ -156,19 +180,13 @@ pub(crate) fn push_declaration<'a>(
             solver,
             domain,
             start,
-        } => form(
-            todo,
-            "(__ __ (__)_)",
-            &[
-                Words(incremental_word(*word)),
-                Mark("{int}", *place),
-                Named(name),
-                Across(dimensions.as_ref()),
-                Named(solver),
-                Behind(", ", domain.as_ref()),
-                start_of(start.as_ref()),
-            ],
-        ),
+        } => {
+            begin_variable(writer, *word, "{int}", *place, name, dimensions, solver);
+            write_behind(writer, ", ", domain.as_ref());
+            writer.words(")");
+            write_start(writer, start);
+            writer.words(")");
+        }
         Declaration::SetVariable {
             place,
             word,
@@ -176,18 +194,19 @@ pub(crate) fn push_declaration<'a>(
             dimensions,
             solver,
             definition,
-        } => form(
-            todo,
-            "(__ __ (_) <- _)",
-            &[
-                Words(incremental_word(*word)),
-                Mark("{set{int}}", *place),
-                Named(name),
-                Across(dimensions.as_ref()),
-                Named(solver),
-                Value(definition),
-            ],
-        ),
-        Declaration::Object { class, name, maker } => push_object(todo, class, name, maker),
+        } => {
+            begin_variable(
+                writer,
+                *word,
+                "{set{int}}",
+                *place,
+                name,
+                dimensions,
+                solver,
+            );
+            write_behind(writer, ") <- ", Some(definition));
+            writer.words(")");
+        }
+        Declaration::Object { class, name, maker } => write_object(writer, class, name, maker),
     }
 }

@@ -6,8 +6,10 @@
 
 mod declarations;
 mod expressions;
+mod heads;
 mod part;
 mod programs;
+mod simples;
 mod statements;
 mod words;
 mod writer;

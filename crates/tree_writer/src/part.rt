@@ -1,25 +1,18 @@
-//! What is still to be written of a tree.
+//! What is still to be written of an expression.
 
-use cbl_base::{NoMemory, Place, Text};
-use comet_syntax::tree::{
-    Argument, Class, Dimension, Dimensions, Expression, Generator, Item, Link, Name, Parameter,
-    ParameterKind, Simple, Statement, Suffix,
-};
+use crate::writer::Writer;
+use cbl_base::Place;
+use comet_syntax::tree::{Argument, Expression, Generator, Link, Suffix};
 
-/// A piece of a tree's text that is still to be written.
+/// A piece of an expression's text that is still to be written.
 #[derive(Clone, Copy)]
 pub(crate) enum Part<'a> {
     /// As it stands.
-    Words(&'a str),
+    Words(&'static str),
     /// As it stands, with its place behind it.
-    Mark(&'a str, Place),
-    /// In quotes, with its escapes replaced.
-    Quoted(&'a Text),
-    Number(i64, Place),
-    Named(&'a Name),
-    Value(&'a Expression),
-    /// Behind words, where there is one.
-    Behind(&'static str, Option<&'a Expression>),
+    Mark(&'static str, Place),
+    /// Behind words.
+    Behind(&'static str, &'a Expression),
     /// Each behind a space and its operator.
     Links(&'a [Link]),
     /// Each behind a space.
@@ -28,41 +21,43 @@ pub(crate) enum Part<'a> {
     Arguments(&'a [Argument]),
     /// With commas.
     Over(&'a [Generator]),
-    Made(&'a Class),
-    /// In brackets behind a space, where there are any.
-    Across(Option<&'a Dimensions>),
-    Along(&'a Dimension),
-    Act(&'a Simple),
-    /// Each behind `<<`.
-    Items(&'a [Item]),
-    /// Each behind a space.
-    Statements(&'a [Statement]),
-    /// With commas.
-    Parameters(&'a [Parameter]),
-    Kind(&'a ParameterKind),
 }
 
-/// Puts a form before what is still to be written: its words, with a part at each `_`.
-pub(crate) fn form<'a>(
+/// Puts a part before what is still to be written.
+pub(crate) fn put<'a>(writer: &mut Writer, todo: &mut Vec<Part<'a>>, part: Part<'a>) {
+    if todo.push(part).is_err() {
+        writer.is_full = true;
+    }
+}
+
+/// Puts words before what is still to be written.
+pub(crate) fn put_words(writer: &mut Writer, todo: &mut Vec<Part<'_>>, words: &'static str) {
+    put(writer, todo, Part::Words(words));
+}
+
+/// Puts words with their place before what is still to be written.
+pub(crate) fn put_mark(
+    writer: &mut Writer,
+    todo: &mut Vec<Part<'_>>,
+    words: &'static str,
+    place: Place,
+) {
+    put(writer, todo, Part::Mark(words, place));
+}
+
+/// Puts words and an expression before what is still to be written.
+pub(crate) fn put_behind<'a>(
+    writer: &mut Writer,
     todo: &mut Vec<Part<'a>>,
     words: &'static str,
-    parts: &[Part<'a>],
-) -> Result<(), NoMemory> {
-    let mut parts = parts.iter().rev();
-    for words in words.rsplit('_') {
-        todo.push(Part::Words(words))?;
-        if let Some(part) = parts.next() {
-            todo.push(*part)?;
-        }
-    }
-    Ok(())
+    expression: &'a Expression,
+) {
+    put(writer, todo, Part::Behind(words, expression));
 }
 
-/// What stands between the members of a list, before this rest of it.
-pub(crate) fn comma_before<T>(rest: &[T]) -> Part<'static> {
-    if rest.is_empty() {
-        Part::Words("")
-    } else {
-        Part::Words(", ")
+/// Puts a comma before what is still to be written, where a rest of a list goes on there.
+pub(crate) fn put_comma<T>(writer: &mut Writer, todo: &mut Vec<Part<'_>>, rest: &[T]) {
+    if !rest.is_empty() {
+        put_words(writer, todo, ", ");
     }
 }

@@ -1,150 +1,93 @@
-//! Programs: all that stands at the top, with spaces between, written without recursion.
+//! Programs: all that stands at the top, with spaces between.
 
-use crate::declarations::{push_class, push_dimension, push_dimensions, push_generic};
-use crate::expressions::{
-    push_arguments, push_expression, push_generators, push_links, push_suffixes,
-};
-use crate::part::Part::{
-    Across, Act, Along, Arguments, Behind, Items, Kind, Links, Made, Mark, Named, Number, Over,
-    Parameters, Quoted, Statements, Suffixes, Value, Words,
-};
-use crate::part::{Part, comma_before, form};
-use crate::statements::{push_items, push_simple, push_statement, push_statements};
+use crate::declarations::write_generic;
+use crate::statements::{write_block, write_statement};
 use crate::words::{incremental_word, kind_word};
 use crate::writer::Writer;
-use cbl_base::NoMemory;
-use comet_syntax::tree::{Function, Parameter, ParameterKind, Program, TopPart};
+use comet_syntax::tree::{Function, Incremental, Parameter, ParameterKind, Program, TopPart};
+
+/// `var{int}` and its like.
+fn write_variable(writer: &mut Writer, word: Incremental, kind: &str) {
+    writer.words(incremental_word(word));
+    writer.words(kind);
+}
 
 /// The type of a parameter.
-fn push_kind<'a>(todo: &mut Vec<Part<'a>>, kind: &'a ParameterKind) -> Result<(), NoMemory> {
+fn write_kind(writer: &mut Writer, kind: &ParameterKind) {
     match kind {
-        ParameterKind::Int => form(todo, "int", &[]),
-        ParameterKind::IntArray => form(todo, "int[]", &[]),
-        ParameterKind::Bool => form(todo, "bool", &[]),
-        ParameterKind::Range => form(todo, "range", &[]),
-        ParameterKind::Set => form(todo, "set{int}", &[]),
-        ParameterKind::Variable(word) => { form(todo, "_{int}", &[Words(incremental_word(*word))]) }
-        ParameterKind::VariableArray(word) => {
-            form(todo, "_{int}[]", &[Words(incremental_word(*word))])
-        }
-        ParameterKind::Solver(name) => push_generic(todo, "Solver", Some(name)),
-        ParameterKind::LocalSolver => form(todo, "LocalSolver", &[]),
+        ParameterKind::Int => writer.words("int"),
+        ParameterKind::IntArray => writer.words("int[]"),
+        ParameterKind::Bool => writer.words("bool"),
+        ParameterKind::Range => writer.words("range"),
+        ParameterKind::Set => writer.words("set{int}"),
+        ParameterKind::Variable(word) => write_variable(writer, *word, "{int}"),
+        ParameterKind::VariableArray(word) => write_variable(writer, *word, "{int}[]"),
+        ParameterKind::Solver(name) => write_generic(writer, "Solver", Some(name)),
+        ParameterKind::LocalSolver => writer.words("LocalSolver"),
         ParameterKind::ConstraintSystem(name) => {
-            push_generic(todo, "ConstraintSystem", name.as_ref())
+            write_generic(writer, "ConstraintSystem", name.as_ref());
         }
-        ParameterKind::BestMonitor => form(todo, "BestMonitor", &[]),
+        ParameterKind::BestMonitor => writer.words("BestMonitor"),
     }
 }
 
-/// `type name`, and the rest behind a comma.
-fn push_parameters<'a>(
-    todo: &mut Vec<Part<'a>>,
-    parameters: &'a [Parameter],
-) -> Result<(), NoMemory> {
-    let Some(parameter) = parameters.first() else {
-        return Ok(());
-    };
-    let rest = &parameters[1..];
-    form(
-        todo,
-        "__ ___",
-        &[
-            Kind(&parameter.kind),
-            Mark("", parameter.place),
-            Named(&parameter.name),
-            comma_before(rest),
-            Parameters(rest),
-        ],
-    )
+/// `type name`
+fn write_parameter(writer: &mut Writer, parameter: &Parameter) {
+    write_kind(writer, &parameter.kind);
+    writer.mark(parameter.place);
+    writer.words(" ");
+    writer.named(&parameter.name);
+}
+
+/// Parameters, with commas.
+fn write_parameters(writer: &mut Writer, parameters: &[Parameter]) {
+    let mut before = "";
+    for parameter in parameters {
+        writer.words(before);
+        write_parameter(writer, parameter);
+        before = ", ";
+    }
 }
 
 /// `(function result name(parameters) block)`
-fn push_function<'a>(todo: &mut Vec<Part<'a>>, function: &'a Function) -> Result<(), NoMemory> {
-    form(
-        todo,
-        "(_ _ _(_) {__)",
-        &[
-            Mark("function", function.place),
-            Words(kind_word(function.result)),
-            Named(&function.name),
-            Parameters(function.parameters.as_slice()),
-            Statements(function.body.statements.as_slice()),
-            Mark(" }", function.body.place),
-        ],
-    )
+fn write_function(writer: &mut Writer, function: &Function) {
+    writer.words("(");
+    writer.marked("function", function.place);
+    writer.words(" ");
+    writer.words(kind_word(function.result));
+    writer.words(" ");
+    writer.named(&function.name);
+    writer.words("(");
+    write_parameters(writer, function.parameters.as_slice());
+    writer.words(") {");
+    write_block(writer, &function.body);
+    writer.words(")");
 }
 
 /// A part of a program.
-fn push_top<'a>(todo: &mut Vec<Part<'a>>, part: &'a TopPart) -> Result<(), NoMemory> {
+fn write_top(writer: &mut Writer, part: &TopPart) {
     match part {
-        TopPart::Import(name) => form(todo, "(import _)", &[Named(name)]),
-        TopPart::Include(text) => form(todo, "(include _)", &[Quoted(text)]),
-        TopPart::Function(function) => push_function(todo, function),
-        TopPart::Statement(statement) => push_statement(todo, statement),
+        TopPart::Import(name) => {
+            writer.words("(import ");
+            writer.named(name);
+            writer.words(")");
+        }
+        TopPart::Include(text) => {
+            writer.words("(include ");
+            writer.quoted(text);
+            writer.words(")");
+        }
+        TopPart::Function(function) => write_function(writer, function),
+        TopPart::Statement(statement) => write_statement(writer, statement),
     }
 }
 
-/// Writes the next part, or puts what it consists of on the list.
-fn write_part<'a>(
-    writer: &mut Writer,
-    todo: &mut Vec<Part<'a>>,
-    part: Part<'a>,
-) -> Result<(), NoMemory> {
-    match part {
-        Words(words) => writer.words(words),
-        Mark(words, place) => {
-            writer.words(words)?;
-            writer.mark(place)
-        }
-        Quoted(text) => {
-            writer.words("\"")?;
-            writer.bytes(text.as_slice())?;
-            writer.words("\"")
-        }
-        Number(value, place) => {
-            writer.number(value)?;
-            writer.mark(place)
-        }
-        Named(name) => {
-            writer.bytes(name.text.as_slice())?;
-            writer.mark(name.place)
-        }
-        Behind(_, None) => Ok(()),
-        Behind(words, Some(expression)) => {
-            writer.words(words)?;
-            push_expression(todo, expression)
-        }
-        Value(expression) => push_expression(todo, expression),
-        Links(links) => push_links(todo, links),
-        Suffixes(suffixes) => push_suffixes(todo, suffixes),
-        Arguments(arguments) => push_arguments(todo, arguments),
-        Over(generators) => push_generators(todo, generators),
-        Made(class) => push_class(todo, class),
-        Across(dimensions) => push_dimensions(todo, dimensions),
-        Along(dimension) => push_dimension(todo, dimension),
-        Act(simple) => push_simple(todo, simple),
-        Items(items) => push_items(todo, items),
-        Statements(statements) => push_statements(todo, statements),
-        Parameters(parameters) => push_parameters(todo, parameters),
-        Kind(kind) => push_kind(todo, kind),
-    }
-}
-
-/// Writes a program. What a part consists of is put on the list of what is still to be written, so that
-/// nothing is too deep.
-pub fn write_program(writer: &mut Writer, program: &Program) -> Result<(), NoMemory> {
-    let mut todo = Vec::new(writer.alloc);
+/// Writes a program.
+pub fn write_program(writer: &mut Writer, program: &Program) {
     let mut before = "";
     for part in &program.parts {
-        writer.words(before)?;
-        push_top(&mut todo, part)?;
-        for _turn in 0..u64::MAX {
-            let Some(part) = todo.pop() else {
-                break;
-            };
-            write_part(writer, &mut todo, part)?;
-        }
+        writer.words(before);
+        write_top(writer, part);
         before = " ";
     }
-    Ok(())
 }

@@ -1,235 +1,119 @@
-//! Statements, each in parentheses that begin with its keyword, and blocks in braces.
+//! Statements, each in parentheses that begin with its keyword, and blocks in braces. The statements in a statement are
+//! put on a list, so that nothing is too deep.
 
-use crate::declarations::push_declaration;
-use crate::part::Part::{
-    Act, Arguments, Behind, Items, Made, Mark, Named, Over, Quoted, Statements, Value, Words,
+use crate::declarations::write_declaration;
+use crate::heads::{
+    write_for, write_named, write_neighbor, write_over, write_parall, write_return, write_test,
+    write_whenever,
 };
-use crate::part::{Part, form};
-use crate::words::{selector_word, step_operator, with_words, write_operator};
-use cbl_base::{NoMemory, Place};
-use comet_syntax::tree::{
-    Argument, Class, Events, Expression, ForStart, Generators, Item, Name, Simple, Statement,
-};
+use crate::simples::write_simple;
+use crate::words::{selector_word, with_words};
+use crate::writer::Writer;
+use cbl_base::Place;
+use comet_syntax::tree::{Block, Statement};
 use std::slice::from_ref;
 
-/// Puts the parts of a simple statement on the list. A postfix form alone stands as it is.
-pub(crate) fn push_simple<'a>(
-    todo: &mut Vec<Part<'a>>,
-    simple: &'a Simple,
-) -> Result<(), NoMemory> {
-    match simple {
-        Simple::Write {
-            target,
-            operator,
-            value,
-        } => {
-            let operator = Words(write_operator(*operator));
-            form(todo, "(_ _ _)", &[Value(target), operator, Value(value)])
-        }
-        Simple::Swap { left, right } => form(todo, "(_ :=: _)", &[Value(left), Value(right)]),
-        Simple::Step { target, step } => form(
-            todo,
-            "(_ _)",
-            &[Value(target), Words(step_operator(*step))],
-        ),
-        Simple::Postfix(expression) => form(todo, "_", &[Value(expression)]),
-        Simple::New(made) => push_new(todo, &made.name, &made.class, made.arguments.as_slice()),
-        Simple::Print { place, items } => form(
-            todo,
-            "(__)",
-            &[Mark("cout", *place), Items(items.as_slice())],
-        ),
-        Simple::Call { place, chosen } => form(
-            todo,
-            "(_ _)",
-            &[Mark("call", *place), Value(chosen)],
-        ),
+/// What is still to be written.
+#[derive(Clone, Copy)]
+enum Rest<'a> {
+    /// As it stands.
+    Words(&'static str),
+    /// The end of the block that began there.
+    End(Place),
+    /// Each behind a space.
+    Statements(&'a [Statement]),
+}
+
+/// Puts one more on the list.
+fn put<'a>(writer: &mut Writer, todo: &mut Vec<Rest<'a>>, rest: Rest<'a>) {
+    if todo.push(rest).is_err() {
+        writer.is_full = true;
     }
 }
 
-/// `(name = new class(arguments))`
-fn push_new<'a>(
-    todo: &mut Vec<Part<'a>>,
-    name: &'a Name,
-    class: &'a Class,
-    arguments: &'a [Argument],
-) -> Result<(), NoMemory> {
-    form(
-        todo,
-        "(_ = new _(_))",
-        &[Named(name), Made(class), Arguments(arguments)],
-    )
+/// Puts a statement on the list, and words behind it.
+fn put_body<'a>(
+    writer: &mut Writer,
+    todo: &mut Vec<Rest<'a>>,
+    body: &'a Statement,
+    words: &'static str,
+) {
+    put(writer, todo, Rest::Words(words));
+    put(writer, todo, Rest::Statements(from_ref(body)));
 }
 
-/// The first item behind `<<`, and the rest.
-pub(crate) fn push_items<'a>(todo: &mut Vec<Part<'a>>, items: &'a [Item]) -> Result<(), NoMemory> {
-    let Some(item) = items.first() else {
-        return Ok(());
-    };
-    let written = match item {
-        Item::Expression(expression) => Value(expression),
-        Item::Str(text) => Quoted(text),
-        Item::EndLine => Words("endl"),
-    };
-    form(todo, " << __", &[written, Items(&items[1..])])
+/// Puts the statements of a block on the list, and words behind its end.
+fn put_block<'a>(
+    writer: &mut Writer,
+    todo: &mut Vec<Rest<'a>>,
+    block: &'a Block,
+    words: &'static str,
+) {
+    put(writer, todo, Rest::Words(words));
+    put(writer, todo, Rest::End(block.place));
+    put(writer, todo, Rest::Statements(block.statements.as_slice()));
 }
 
-/// The first statement behind a space, and the rest.
-pub(crate) fn push_statements<'a>(
-    todo: &mut Vec<Part<'a>>,
-    statements: &'a [Statement],
-) -> Result<(), NoMemory> {
-    let Some(statement) = statements.first() else {
-        return Ok(());
-    };
-    todo.push(Statements(&statements[1..]))?;
-    push_statement(todo, statement)?;
-    todo.push(Words(" "))?;
-    Ok(())
-}
-
-/// `(if test then)` or `(if test then else otherwise)`
-fn push_if<'a>(
-    todo: &mut Vec<Part<'a>>,
-    head: &[Part<'a>; 2],
+/// Puts the statements of an `if` on the list.
+fn put_branches<'a>(
+    writer: &mut Writer,
+    todo: &mut Vec<Rest<'a>>,
     then: &'a Statement,
     otherwise: Option<&'a Statement>,
-) -> Result<(), NoMemory> {
-    let then = Statements(from_ref(then));
+) {
     match otherwise {
-        Some(otherwise) => form(
-            todo,
-            "(_ __ else_)",
-            &[head[0], head[1], then, Statements(from_ref(otherwise))],
-        ),
-        None => form(todo, "(_ __)", &[head[0], head[1], then]),
+        Some(otherwise) => {
+            put_body(writer, todo, otherwise, ")");
+            put_body(writer, todo, then, " else");
+        }
+        None => put_body(writer, todo, then, ")"),
     }
 }
 
-/// `(for (int name = value; test; step) body)`, where each of the three may be left out.
-fn push_for<'a>(
-    todo: &mut Vec<Part<'a>>,
-    place: Place,
-    head: (
-        Option<&'a ForStart>,
-        Option<&'a Expression>,
-        Option<&'a Simple>,
-    ),
-    body: &'a Statement,
-) -> Result<(), NoMemory> {
-    let (start, test, step) = head;
-    form(todo, ")_)", &[Statements(from_ref(body))])?;
-    if let Some(step) = step {
-        form(todo, " _", &[Act(step)])?;
-    }
-    form(todo, ";_;", &[Behind(" ", test)])?;
-    if let Some(start) = start {
-        form(
-            todo,
-            "int _ = _",
-            &[Named(&start.name), Value(&start.value)],
-        )?;
-    }
-    form(todo, "(_ (", &[Mark("for", place)])
-}
-
-/// `(word (generators) body)`, or with a key behind the generators.
-fn push_over<'a>(
-    todo: &mut Vec<Part<'a>>,
-    word: Part<'a>,
-    generators: &'a Generators,
-    key: Option<&'a Expression>,
-    body: &'a Statement,
-) -> Result<(), NoMemory> {
-    form(
-        todo,
-        "(_ (__)__)",
-        &[
-            word,
-            Over(generators.generators.as_slice()),
-            Behind(" : ", generators.condition.as_deref()),
-            Behind(" ", key),
-            Statements(from_ref(body)),
-        ],
-    )
-}
-
-/// `(whenever variable @ event (old, new) body)`, or with no names.
-fn push_whenever<'a>(
-    todo: &mut Vec<Part<'a>>,
-    place: Place,
-    variable: &'a Expression,
-    event: &'a Name,
-    names: Option<&'a Events>,
-    body: &'a Statement,
-) -> Result<(), NoMemory> {
-    form(todo, "_)", &[Statements(from_ref(body))])?;
-    if let Some(names) = names {
-        form(todo, " (_, _)", &[Named(&names.old), Named(&names.new)])?;
-    }
-    form(
-        todo,
-        "(_ _ @ _",
-        &[Mark("whenever", place), Value(variable), Named(event)],
-    )
-}
-
-/// Puts the parts of a statement on the list.
-pub(crate) fn push_statement<'a>(
-    todo: &mut Vec<Part<'a>>,
-    statement: &'a Statement,
-) -> Result<(), NoMemory> {
+/// Writes what stands in a statement before those in it, and puts these on the list.
+fn write_form<'a>(writer: &mut Writer, todo: &mut Vec<Rest<'a>>, statement: &'a Statement) {
     match statement {
-        Statement::Block(block) => form(
-            todo,
-            "{__",
-            &[
-                Statements(block.statements.as_slice()),
-                Mark(" }", block.place),
-            ],
-        ),
-        Statement::Empty(place) => form(todo, "_", &[Mark(";", *place)]),
-        Statement::Declaration(declaration) => push_declaration(todo, declaration),
-        Statement::Simple(simple) => push_simple(todo, simple),
-        Statement::Return { place, value } => form(
-            todo,
-            "(__)",
-            &[Mark("return", *place), Behind(" ", value.as_deref())],
-        ),
+        Statement::Block(block) => {
+            writer.words("{");
+            put_block(writer, todo, block, "");
+        }
+        Statement::Empty(place) => writer.marked(";", *place),
+        Statement::Declaration(declaration) => write_declaration(writer, declaration),
+        Statement::Simple(simple) => write_simple(writer, simple),
+        Statement::Return { place, value } => write_return(writer, *place, value.as_deref()),
         Statement::If {
             place,
             test,
             then,
             otherwise,
         } => {
-            let head = [Mark("if", *place), Value(test)];
-            push_if(todo, &head, then, otherwise.as_deref())
+            write_test(writer, "if", *place, test);
+            put_branches(writer, todo, then, otherwise.as_deref());
         }
-        Statement::While { place, test, body } => form(
-            todo,
-            "(_ __)",
-            &[
-                Mark("while", *place),
-                Value(test),
-                Statements(from_ref(body)),
-            ],
-        ),
-        Statement::For { place, head, body } => push_for(
-            todo,
-            *place,
-            (head.start.as_ref(), head.test.as_ref(), head.step.as_ref()),
-            body,
-        ),
+        Statement::While { place, test, body } => {
+            write_test(writer, "while", *place, test);
+            put_body(writer, todo, body, ")");
+        }
+        Statement::For { place, head, body } => {
+            write_for(writer, *place, head);
+            put_body(writer, todo, body, ")");
+        }
         Statement::ForAll {
             place,
             generators,
             body,
-        } => push_over(todo, Mark("forall", *place), generators, None, body),
+        } => {
+            write_over(writer, "forall", *place, generators, None);
+            put_body(writer, todo, body, ")");
+        }
         Statement::Select {
             place,
             generators,
             body,
-        } => push_over(todo, Mark("select", *place), generators, None, body),
+        } => {
+            write_over(writer, "select", *place, generators, None);
+            put_body(writer, todo, body, ")");
+        }
         Statement::SelectBy {
             place,
             extreme,
@@ -237,65 +121,88 @@ pub(crate) fn push_statement<'a>(
             key,
             body,
         } => {
-            let word = Mark(selector_word(*extreme), *place);
-            push_over(todo, word, generators, Some(key), body)
+            write_over(
+                writer,
+                selector_word(*extreme),
+                *place,
+                generators,
+                Some(key),
+            );
+            put_body(writer, todo, body, ")");
         }
         Statement::Neighbor {
             place,
             key,
             selector,
             body,
-        } => form(
-            todo,
-            "(_ _ __)",
-            &[
-                Mark("neighbor", *place),
-                Value(key),
-                Named(selector),
-                Statements(from_ref(body)),
-            ],
-        ),
+        } => {
+            write_neighbor(writer, *place, key, selector);
+            put_body(writer, todo, body, ")");
+        }
         Statement::Whenever {
             place,
             watched,
             body,
-        } => push_whenever(
-            todo,
-            *place,
-            &watched.variable,
-            &watched.event,
-            watched.names.as_ref(),
-            body,
-        ),
+        } => {
+            write_whenever(writer, *place, watched);
+            put_body(writer, todo, body, ")");
+        }
         Statement::With {
             place,
             mode,
             solver,
             body,
-        } => form(
-            todo,
-            "(_ _ {__)",
-            &[
-                Mark(with_words(*mode), *place),
-                Named(solver),
-                Statements(body.statements.as_slice()),
-                Mark(" }", body.place),
-            ],
-        ),
+        } => {
+            write_named(writer, with_words(*mode), *place, solver);
+            writer.words(" {");
+            put_block(writer, todo, body, ")");
+        }
         Statement::Parall {
             place,
             name,
             domain,
             body,
-        } => form(
-            todo,
-            "(_ _ in __)",
-            &[
-                Mark("parall", *place),
-                Named(name),
-                Value(domain),
-                Statements(from_ref(body)),
-            ],
-        ),
+        } => {
+            write_parall(writer, *place, name, domain);
+            put_body(writer, todo, body, ")");
+        }
     }
+}
+
+/// Writes the first statement behind a space, and puts the others on the list.
+fn write_first<'a>(writer: &mut Writer, todo: &mut Vec<Rest<'a>>, statements: &'a [Statement]) {
+    let Some(statement) = statements.first() else {
+        return;
+    };
+    put(writer, todo, Rest::Statements(&statements[1..]));
+    writer.words(" ");
+    write_form(writer, todo, statement);
+}
+
+/// Writes what is on the list.
+fn write_rest(writer: &mut Writer, todo: &mut Vec<Rest<'_>>) {
+    for _turn in 0..u64::MAX {
+        let Some(rest) = todo.pop() else {
+            break;
+        };
+        match rest {
+            Rest::Words(words) => writer.words(words),
+            Rest::End(place) => writer.marked(" }", place),
+            Rest::Statements(statements) => write_first(writer, todo, statements),
+        }
+    }
+}
+
+/// Writes a statement.
+pub(crate) fn write_statement(writer: &mut Writer, statement: &Statement) {
+    let mut todo = Vec::new(writer.alloc);
+    write_form(writer, &mut todo, statement);
+    write_rest(writer, &mut todo);
+}
+
+/// Writes a block from its first statement, each behind a space.
+pub(crate) fn write_block(writer: &mut Writer, block: &Block) {
+    let mut todo = Vec::new(writer.alloc);
+    put_block(writer, &mut todo, block, "");
+    write_rest(writer, &mut todo);
 }
