@@ -5,8 +5,8 @@ ghost use Rattle.cbl_io.specs.Faults.{HasRisen};
 ghost use Rattle.checked_tree.specs.Tasks.{program_of};
 ghost use Rattle.comet_meaning.specs.Program as programs;
 ghost use Rattle.comet_words.specs.View.{texts};
-ghost use Rattle.run_outside.specs.HandedIn.{users_seen};
-ghost use Rattle.run_standing.specs.Seen.{standing_seen};
+ghost use Rattle.stmt_run.specs.OfRunOutside.HandedIn.{users_seen};
+ghost use Rattle.stmt_run.specs.OfRunStanding.Seen.{standing_seen};
 ghost use Rattle.comet.specs.Headline.{JobHeadline, RunHeadline, taken};
 ghost use Rattle.comet.specs.Line.{line_of};
 ghost use Rattle.comet.specs.Output.{Decides, meant_with, start_with};
@@ -18,11 +18,11 @@ use crate::report::{Cause, Report};
 use cbl_base::NoMemory;
 use cbl_io::{Files, Sink, write_all};
 use checked_tree::Checked;
-use run_outside::{HandedIn, handed_in};
-use run_standing::Standing;
-use run_state::Bytes;
 use std::alloc::Global;
+use stmt_run::outside_of_runs::{HandedIn, handed_in};
 use stmt_run::run;
+use stmt_run::standing_of_runs::Standing;
+use stmt_run::state_of_runs::Bytes;
 use user_constraint::LocalConstraint;
 
 /// Runs the program whose file the words name, writes what it prints to `out`, and a line that tells why

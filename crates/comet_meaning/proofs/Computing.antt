@@ -1,8 +1,8 @@
 -- All that a run of a small program computes with: who unfolds `everything` unfolds each of these. Terms aren't among it,
 -- since what holds of a term is known by laws alone.
 use Rattle.std.specs.Fmt.{digits}
-use Rattle.cbl_violations.specs.Violations.WeightedTotal.{weighted_total_value}
-use Rattle.layer_plan.specs.Dependencies.{list_of}
+use Rattle.model_values.specs.OfCblViolations.Violations.WeightedTotal.{weighted_total_value}
+use Rattle.model_view.specs.OfLayerPlan.Dependencies.{list_of}
 use Rattle.model_values.specs.Dependence.{depends_through}
 use Rattle.model_values.specs.VarOutcomes.{outcomes_through}
 use Rattle.model_view.specs.Building.{empty_model}

@@ -30,3 +30,4 @@ pub mod Rows
 pub mod RowsOfTerms
 pub mod TupleStack
 pub mod Domains
+pub mod OfModelView

@@ -54,3 +54,5 @@ pub mod Examples
 pub mod SystemExamples
 pub mod SearchExamples
 pub mod UserExamples
+pub mod OfModelView
+pub mod OfViolationShares

@@ -9,7 +9,7 @@ use Rattle.type_scopes.specs.Did.{Ended}
 use Rattle.type_scopes.specs.Functions.{is_settled, settle}
 use Rattle.type_scopes.specs.State.{State, Outcome, Went, Refused, Check, then_do, ◌>>=◌}
 use Rattle.comet_types.specs.Functions.{turn_form, settled_form}
-use Rattle.type_heads.specs.Heads.{Does}
+use Rattle.type_statements.specs.OfTypeHeads.Heads.{Does}
 
 abbrev after : ℕ → ℕ → ℕ → Does → Scope → Work → Check Work
 after turns f n body scope w = λ s. if is_settled f s then Went w s else (settle f >>= λ _. settled_form turns f n body scope) s

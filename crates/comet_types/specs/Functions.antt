@@ -23,7 +23,7 @@ use Rattle.type_scopes.specs.Functions.{learn, begin, is_settled, settle}
 use Rattle.type_scopes.specs.Names.{is_new, opened, declare, declare_with, closed}
 use Rattle.type_scopes.specs.State.{State, Outcome, Went, Refused, Check, give, refuse, then_do, ◌>>=◌, each}
 use Rattle.type_declarations.specs.Parts.{ruled}
-use Rattle.type_heads.specs.Heads.{Does}
+use Rattle.type_statements.specs.OfTypeHeads.Heads.{Does}
 use Rattle.type_statements.specs.Statements.{block_of, within_own}
 
 -- at the top of a program

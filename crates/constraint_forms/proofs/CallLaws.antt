@@ -6,13 +6,13 @@ use Rattle.checked_tree.specs.declared.expressions.Builtin.{Builtin}
 use Rattle.checked_tree.specs.declared.expressions.Builtin.TheVariants as builtins
 use Rattle.checked_tree.specs.declared.expressions.Typed.{Typed}
 use Rattle.checked_tree.specs.Shape.{Shape}
-use Rattle.model_view.specs.Building.{constant}
+use Rattle.comet_meaning.specs.OfModelView.Building.{constant}
 use Rattle.comet_meaning.specs.ConstraintForms.{all_different_form, bounded_form, constraint_call, function_form, knapsack_form, multi_knapsack_form, sequence_form, user_places}
 use Rattle.comet_meaning.specs.TermForms.{single}
 use Rattle.comet_meaning.specs.State.{State}
 use Rattle.comet_meaning.specs.Outcome.{Act, Went}
 use Rattle.comet_meaning.specs.Levels.{Level}
-use Rattle.run_steps.specs.Views.{part, row}
+use Rattle.term_forms.specs.OfRunSteps.Views.{part, row}
 use Rattle.constraint_forms.specs.Steps.{of_four, of_one, of_three, of_two}
 
 module _ (l : Level) (at : Place) (s : State) where

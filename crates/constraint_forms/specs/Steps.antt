@@ -9,7 +9,7 @@ use Rattle.comet_syntax.specs.declared.tree.expressions.ChainOperator.{ChainOper
 use Rattle.comet_syntax.specs.declared.tree.expressions.Comparison.{Comparison}
 use Rattle.checked_tree.specs.declared.expressions.Builtin.{Builtin}
 use Rattle.checked_tree.specs.Shape.{Shape}
-use Rattle.model_view.specs.Building.{constant}
+use Rattle.comet_meaning.specs.OfModelView.Building.{constant}
 use Rattle.comet_meaning.specs.ConstraintForms.{bounded_op, combination_op, members_form, relation_op}
 use Rattle.comet_meaning.specs.Levels.{Level}
 use Rattle.comet_meaning.specs.Outcome.{Act, ◌>>=◌, charge, give, unless}

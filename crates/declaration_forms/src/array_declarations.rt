@@ -12,20 +12,20 @@ ghost use Rattle.comet_meaning.specs.Outcome.{unless};
 ghost use Rattle.comet_meaning.specs.Program.{level};
 ghost use Rattle.comet_meaning.specs.State as states;
 ghost use Rattle.comet_meaning.specs.Values.{size_of};
-ghost use Rattle.run_steps.specs.Does.{Does};
-ghost use Rattle.run_steps.specs.Extents.{along, at_index, capped, extent_seen};
-ghost use Rattle.run_state.specs.Views.{state_seen};
-ghost use Rattle.run_values.specs.Did.{Did};
-ghost use Rattle.run_values.specs.Views.{bounds_seen, cells_seen};
+ghost use Rattle.expression_forms.specs.OfRunSteps.Does.{Does};
+ghost use Rattle.expression_forms.specs.OfRunSteps.Extents.{along, at_index, capped, extent_seen};
+ghost use Rattle.expression_forms.specs.OfRunState.Views.{state_seen};
+ghost use Rattle.expression_forms.specs.OfRunValues.Did.{Did};
+ghost use Rattle.expression_forms.specs.OfRunValues.Views.{bounds_seen, cells_seen};
 
 use cbl_base::Place;
 use checked_tree::{Dimension, Slot, Start, Typed, Way};
 use expression_forms::expressions::{bounds_of, number_of, value_of};
-use run_state::{Outside, State};
-use run_steps::cells::{Extent, cell_count, put_named};
-use run_steps::effects::{make_array, push_number, take_list};
-use run_steps::inside::Within;
-use run_values::Stop;
+use expression_forms::state_of_runs::{Outside, State};
+use expression_forms::steps_of_runs::cells::{Extent, cell_count, put_named};
+use expression_forms::steps_of_runs::effects::{make_array, push_number, take_list};
+use expression_forms::steps_of_runs::inside::Within;
+use expression_forms::values_of_runs::Stop;
 
 /// An array with dimensions: these are evaluated first, and then each cell gets its number.
 #[tactic(auto, unfolding(comet_meaning::specs::Declarations::array_form))]

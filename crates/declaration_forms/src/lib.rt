@@ -11,3 +11,8 @@ pub mod array_declarations;
 pub mod declarations;
 pub mod objects;
 mod variable_arrays;
+
+pub use expression_forms::{
+    noticing as noticing, objects_of_runs as objects_of_runs, state_of_runs as state_of_runs,
+    steps_of_runs as steps_of_runs,
+};

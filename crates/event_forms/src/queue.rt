@@ -8,21 +8,21 @@ ghost use Rattle.comet_meaning.specs.Outcome.{give, then_do};
 ghost use Rattle.comet_meaning.specs.Program.{level};
 ghost use Rattle.comet_meaning.specs.Search.{no_reaction};
 ghost use Rattle.event_forms.specs.Bindings.{bound_by};
-ghost use Rattle.run_search.specs.Searches.{event_seen, search_seen};
-ghost use Rattle.run_state.specs.Targets.{target_seen};
-ghost use Rattle.run_state.specs.Views.{state_seen};
+ghost use Rattle.run_steps.specs.OfRunSearch.Searches.{event_seen, search_seen};
+ghost use Rattle.run_steps.specs.OfRunState.Targets.{target_seen};
+ghost use Rattle.run_steps.specs.OfRunState.Views.{state_seen};
 ghost use Rattle.run_steps.specs.Does.{Does};
 ghost use Rattle.run_steps.specs.Following.{Follows};
 ghost use Rattle.run_steps.specs.Views.{flow_seen};
-ghost use Rattle.run_values.specs.Views.{value_seen};
+ghost use Rattle.run_steps.specs.OfRunValues.Views.{value_seen};
 
 use crate::closures::{Binding, run_closure};
 use cbl_base::Place;
 use checked_tree::EventSlots;
-use run_state::{Event, Outside, State, Target};
 use run_steps::code::Flow;
 use run_steps::inside::Within;
-use run_values::{Stop, Value};
+use run_steps::state_of_runs::{Event, Outside, State, Target};
+use run_steps::values_of_runs::{Stop, Value};
 
 /// Runs the queue, where no commit does: the events in order, and those that come while their handlers run.
 pub fn run_queue<O: Outside, W: Within<O>>(

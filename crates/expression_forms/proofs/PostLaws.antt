@@ -10,7 +10,7 @@ use Rattle.comet_meaning.specs.Outcome.{Went, give, ◌>>=◌}
 use Rattle.comet_meaning.specs.Levels.{Level}
 use Rattle.comet_meaning.specs.Parts.{number, truth, term, constraint, broken}
 use Rattle.comet_meaning.specs.Posting.{weight_form, user_name, post_one, post_named, post_either, post_constraint, post_part}
-use Rattle.run_steps.specs.Views.{part, row}
+use Rattle.event_forms.specs.OfRunSteps.Views.{part, row}
 
 -- a part of a constraint, by whether it holds incremental variables
 

@@ -5,9 +5,9 @@ ghost use Rattle.comet_meaning.specs.Generators.{each_tuple};
 ghost use Rattle.comet_meaning.specs.Outcome.{always};
 ghost use Rattle.comet_meaning.specs.Parts as parts;
 ghost use Rattle.comet_meaning.specs.Program.{level};
-ghost use Rattle.run_steps.specs.Does.{Does};
-ghost use Rattle.run_steps.specs.Views.{generators_seen, part, part_or_none};
-ghost use Rattle.run_state.specs.Views.{state_seen};
+ghost use Rattle.event_forms.specs.OfRunSteps.Does.{Does};
+ghost use Rattle.event_forms.specs.OfRunSteps.Views.{generators_seen, part, part_or_none};
+ghost use Rattle.event_forms.specs.OfRunState.Views.{state_seen};
 ghost use Rattle.run_values.specs.Views.{element_seen, value_seen};
 
 use crate::expressions::{truth_of, value_of};
@@ -15,9 +15,9 @@ use crate::tuples::next_tuple;
 use cbl_base::Place;
 use checked_tree::{Generator, Typed};
 use comet_syntax::tree::Aggregate;
-use run_state::{Outside, State};
-use run_steps::inside::Within;
-use run_steps::tuples::{Tuples, pending_of};
+use event_forms::state_of_runs::{Outside, State};
+use event_forms::steps_of_runs::inside::Within;
+use event_forms::steps_of_runs::tuples::{Tuples, pending_of};
 use run_values::aggregates::{Element, aggregate_value, push_element};
 use run_values::{Stop, Value};
 

@@ -4,10 +4,10 @@ ghost use Rattle.checked_tree.specs.Shape.{optional, shape_of};
 ghost use Rattle.comet_meaning.specs.Expressions.{value_of_form};
 ghost use Rattle.comet_meaning.specs.Parts as parts;
 ghost use Rattle.comet_meaning.specs.Program.{level};
-ghost use Rattle.run_steps.specs.Does.{Does};
-ghost use Rattle.run_steps.specs.Parts.{value_as};
-ghost use Rattle.run_steps.specs.Views.{code_seen, part, part_or_none, row};
-ghost use Rattle.run_state.specs.Views.{state_seen};
+ghost use Rattle.event_forms.specs.OfRunSteps.Does.{Does};
+ghost use Rattle.event_forms.specs.OfRunSteps.Parts.{value_as};
+ghost use Rattle.event_forms.specs.OfRunSteps.Views.{code_seen, part, part_or_none, row};
+ghost use Rattle.event_forms.specs.OfRunState.Views.{state_seen};
 ghost use Rattle.run_values.specs.Views.{bounds_seen, value_seen};
 
 use crate::aggregates::evaluate_aggregate;
@@ -19,11 +19,11 @@ use crate::operators::{
 };
 use cbl_base::Place;
 use checked_tree::{Form, Kind, Typed};
-use run_state::{Outside, State};
-use run_steps::code::Code;
-use run_steps::inside::{Defining, Within};
-use run_steps::operands::{as_bounds, as_held, as_number, as_truth, read_part};
-use run_steps::plain::{plain_name, plain_number, plain_truth, plain_value};
+use event_forms::state_of_runs::{Outside, State};
+use event_forms::steps_of_runs::code::Code;
+use event_forms::steps_of_runs::inside::{Defining, Within};
+use event_forms::steps_of_runs::operands::{as_bounds, as_held, as_number, as_truth, read_part};
+use event_forms::steps_of_runs::plain::{plain_name, plain_number, plain_truth, plain_value};
 use run_values::{Bounds, Stop, Value};
 
 /// The value of a form of an expression of this kind at this place.

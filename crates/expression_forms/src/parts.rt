@@ -2,17 +2,17 @@
 ghost use Rattle.std.specs.Prelude.{◌≡◌, ℕ, List};
 ghost use Rattle.comet_meaning.specs.Parts as parts;
 ghost use Rattle.comet_meaning.specs.Program.{level};
-ghost use Rattle.run_state.specs.InTerms.{term_cells_seen};
-ghost use Rattle.run_state.specs.Views.{state_seen};
-ghost use Rattle.run_steps.specs.Does.{Does};
-ghost use Rattle.run_steps.specs.Views.{part};
+ghost use Rattle.event_forms.specs.OfRunState.InTerms.{term_cells_seen};
+ghost use Rattle.event_forms.specs.OfRunState.Views.{state_seen};
+ghost use Rattle.event_forms.specs.OfRunSteps.Does.{Does};
+ghost use Rattle.event_forms.specs.OfRunSteps.Views.{part};
 
 use crate::expressions::truth_of;
 use checked_tree::Typed;
-use run_solvers::Built;
-use run_state::{Outside, State, TermCells};
-use run_steps::inside::Defining;
-use run_steps::operands::{as_broken, as_several, as_single};
+use event_forms::solvers_of_runs::Built;
+use event_forms::state_of_runs::{Outside, State, TermCells};
+use event_forms::steps_of_runs::inside::Defining;
+use event_forms::steps_of_runs::operands::{as_broken, as_several, as_single};
 use run_values::Stop;
 
 /// What a part stands for, as one term.

@@ -2,9 +2,9 @@
 ghost use Rattle.std.specs.Prelude.{◌≡◌, ◌∷◌, ℕ, List};
 ghost use Rattle.comet_meaning.specs.Posting as posting;
 ghost use Rattle.comet_meaning.specs.Program.{level};
-ghost use Rattle.run_steps.specs.Does.{Does};
-ghost use Rattle.run_steps.specs.Views.{part, row};
-ghost use Rattle.run_state.specs.Views.{state_seen};
+ghost use Rattle.event_forms.specs.OfRunSteps.Does.{Does};
+ghost use Rattle.event_forms.specs.OfRunSteps.Views.{part, row};
+ghost use Rattle.event_forms.specs.OfRunState.Views.{state_seen};
 ghost use Rattle.run_values.specs.Views.{value_seen};
 
 use crate::expressions::{number_of, value_of};
@@ -12,9 +12,9 @@ use crate::parts::{constraint_part, single_term};
 use crate::user_posting::{add_named, user_name};
 use cbl_base::Place;
 use checked_tree::Typed;
-use run_state::{Outside, State};
-use run_steps::inside::{Defining, Within};
-use run_steps::operands::post_with;
+use event_forms::state_of_runs::{Outside, State};
+use event_forms::steps_of_runs::inside::{Defining, Within};
+use event_forms::steps_of_runs::operands::post_with;
 use run_values::{Stop, Value};
 
 /// `post` of a system: the constraint, and its weight where it has one.

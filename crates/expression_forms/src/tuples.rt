@@ -7,19 +7,19 @@ ghost use Rattle.comet_meaning.specs.Odometer as odometer;
 ghost use Rattle.comet_meaning.specs.Odometer.{next_of, behind_next, begun};
 ghost use Rattle.comet_meaning.specs.Program.{level};
 ghost use Rattle.comet_meaning.specs.Values.{Range};
-ghost use Rattle.run_steps.specs.Does.{Does};
-ghost use Rattle.run_steps.specs.OpenTuples.{Remains, Entering, Advances, SameLeft, Visits, pending_seen, names_seen, bounds_of, stack_seen, rests_seen};
-ghost use Rattle.run_steps.specs.Views.{part};
-ghost use Rattle.run_state.specs.Views.{state_seen};
+ghost use Rattle.event_forms.specs.OfRunSteps.Does.{Does};
+ghost use Rattle.event_forms.specs.OfRunSteps.OpenTuples.{Remains, Entering, Advances, SameLeft, Visits, pending_seen, names_seen, bounds_of, stack_seen, rests_seen};
+ghost use Rattle.event_forms.specs.OfRunSteps.Views.{part};
+ghost use Rattle.event_forms.specs.OfRunState.Views.{state_seen};
 ghost use Rattle.run_values.specs.Did.{Did};
 ghost use Rattle.run_values.specs.Views.{bounds_seen, value_seen};
 
 use crate::expressions::value_of;
 use cbl_base::Place;
 use checked_tree::Generator;
-use run_state::{Outside, State};
-use run_steps::inside::Within;
-use run_steps::tuples::{Entered, Tuples, begin, pending_of, take_value};
+use event_forms::state_of_runs::{Outside, State};
+use event_forms::steps_of_runs::inside::Within;
+use event_forms::steps_of_runs::tuples::{Entered, Tuples, begin, pending_of, take_value};
 use run_values::Stop;
 use std::mem;
 

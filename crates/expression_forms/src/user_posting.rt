@@ -4,10 +4,10 @@ ghost use Rattle.comet_meaning.specs.Posting as posting;
 ghost use Rattle.comet_meaning.specs.Program.{level};
 ghost use Rattle.comet_meaning.specs.TakingUsers.{take_user};
 ghost use Rattle.expression_forms.specs.UserSteps.{name_of_call, user_behind, user_posted_with};
-ghost use Rattle.run_state.specs.Views.{state_seen};
-ghost use Rattle.run_steps.specs.Does.{Does};
-ghost use Rattle.run_steps.specs.Following.{Follows};
-ghost use Rattle.run_steps.specs.Views.{part, row};
+ghost use Rattle.event_forms.specs.OfRunState.Views.{state_seen};
+ghost use Rattle.event_forms.specs.OfRunSteps.Does.{Does};
+ghost use Rattle.event_forms.specs.OfRunSteps.Following.{Follows};
+ghost use Rattle.event_forms.specs.OfRunSteps.Views.{part, row};
 ghost use Rattle.run_values.specs.Views.{value_seen};
 
 use crate::expressions::value_of;
@@ -15,9 +15,9 @@ use crate::parts::term_cells;
 use crate::posting::weight_of;
 use cbl_base::Place;
 use checked_tree::{Builtin, Form, Typed};
-use run_solvers::{Built, user_fits};
-use run_state::{Outside, State};
-use run_steps::inside::Defining;
+use event_forms::solvers_of_runs::{Built, user_fits};
+use event_forms::state_of_runs::{Outside, State};
+use event_forms::steps_of_runs::inside::Defining;
 use run_values::{Stop, Value};
 
 /// The bytes of a text, and none of anything else.

@@ -6,3 +6,4 @@ pub use Rattle.solver_models.proofs.ListLaws
 pub use Rattle.solver_models.proofs.ModelLaws
 pub use Rattle.solver_models.proofs.ReadLaws
 pub mod UserLaws
+pub mod OfSolverModels

@@ -15,3 +15,5 @@ pub use Rattle.solver_models.specs.Replying
 pub use Rattle.solver_models.specs.State
 pub use Rattle.solver_models.specs.Totals
 pub use Rattle.solver_models.specs.UserPosting
+pub mod OfSolverModels
+pub mod OfViolationShares

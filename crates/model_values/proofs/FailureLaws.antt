@@ -14,8 +14,8 @@ use Rattle.cbl_base.specs.NumberRule.{NumberRule}
 use Rattle.cbl_base.specs.declared.faults.RunFault.{RunFault}
 use Rattle.cbl_base.specs.declared.input.Input.{Input}
 use Rattle.cbl_base.specs.declared.place.Place.{Place}
-use Rattle.cbl_operations.specs.RuleOf.{rule_of}
-use Rattle.cbl_operations.specs.declared.op.Op.{Op}
+use Rattle.operation_values.specs.OfCblOperations.RuleOf.{rule_of}
+use Rattle.operation_values.specs.OfCblOperations.declared.op.Op.{Op}
 use Rattle.model_values.specs.Failing.{AreFailing}
 use Rattle.model_values.specs.Failures.{failure_at, failure_by, failure_in, failure_of, fails, first_failure}
 use Rattle.model_values.specs.Outcomes.{Outcome, gathered, operated, outcome_of, outcome_step}

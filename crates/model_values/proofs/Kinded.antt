@@ -5,9 +5,9 @@ use Rattle.cbl_base.specs.Inputs.{InputKind, kind_of, kinds_of}
 use Rattle.cbl_base.specs.NumberRule.{NumberRule}
 use Rattle.cbl_base.specs.declared.input.Input.{Input}
 use Rattle.cbl_base.specs.declared.faults.RunFault.{RunFault}
-use Rattle.cbl_operations.specs.RuleOf.{rule_of, value_kind}
-use Rattle.cbl_operations.specs.declared.op.Op.{Op}
-use Rattle.cbl_operations.proofs.KindLaws.{kind_of_values}
+use Rattle.operation_values.specs.OfCblOperations.RuleOf.{rule_of, value_kind}
+use Rattle.operation_values.specs.OfCblOperations.declared.op.Op.{Op}
+use Rattle.operation_values.proofs.OfCblOperations.KindLaws.{kind_of_values}
 use Rattle.model_values.specs.Outcomes.{AreKinds, Outcome, gather, value_in}
 use Rattle.term_model.specs.Kinds.{gather_kind, node_kind}
 use Rattle.term_model.proofs.Kinded.{kind_of_node}

@@ -6,8 +6,8 @@ use Rattle.cbl_base.specs.NumberRule.{NumberRule}
 use Rattle.cbl_base.specs.declared.faults.RunFault.{RunFault}
 use Rattle.cbl_base.specs.declared.input.Input.{Input}
 use Rattle.cbl_base.specs.declared.place.Place.{Place}
-use Rattle.cbl_operations.specs.RuleOf.{rule_of}
-use Rattle.cbl_operations.specs.declared.op.Op.{Op}
+use Rattle.operation_values.specs.OfCblOperations.RuleOf.{rule_of}
+use Rattle.operation_values.specs.OfCblOperations.declared.op.Op.{Op}
 use Rattle.model_values.specs.Outcomes.{AreKinds, Outcome, gather, gathered, operated, outcome_of, outcome_step, value_in}
 use Rattle.term_model.specs.Kinds.{all_kinds, gather_kind, kind_of_term, node_kind}
 use Rattle.term_model.specs.Users.{user_rules}

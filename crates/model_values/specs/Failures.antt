@@ -8,8 +8,8 @@ use Rattle.cbl_base.specs.declared.faults.RunFault.{RunFault}
 use Rattle.cbl_base.specs.declared.faults.RunFault.TheVariants.{NotClosed}
 use Rattle.cbl_base.specs.declared.input.Input.{Input}
 use Rattle.cbl_base.specs.declared.place.Place.{Place}
-use Rattle.cbl_operations.specs.RuleOf.{rule_of}
-use Rattle.cbl_operations.specs.declared.op.Op.{Op}
+use Rattle.operation_values.specs.OfCblOperations.RuleOf.{rule_of}
+use Rattle.operation_values.specs.OfCblOperations.declared.op.Op.{Op}
 use Rattle.model_values.specs.Outcomes.{Outcome, gathered, outcome_of}
 use Rattle.model_values.specs.declared.failure.Failure.{Failure}
 use Rattle.term_model.specs.declared.term.Term.{Term}

@@ -12,3 +12,5 @@ pub mod Settling
 pub mod Support
 pub mod VarOutcomes
 pub mod Wholes
+pub mod OfCblOperations
+pub mod OfCblViolations

@@ -9,8 +9,8 @@ use Rattle.cbl_base.specs.NumberRule.{NumberRule}
 use Rattle.cbl_base.specs.declared.faults.RunFault.{RunFault}
 use Rattle.cbl_base.specs.declared.input.Input.{Input}
 use Rattle.cbl_base.specs.declared.input.Input.TheVariants.{Int, Set}
-use Rattle.cbl_operations.specs.RuleOf.{rule_of}
-use Rattle.cbl_operations.specs.declared.op.Op.{Op}
+use Rattle.operation_values.specs.OfCblOperations.RuleOf.{rule_of}
+use Rattle.operation_values.specs.OfCblOperations.declared.op.Op.{Op}
 use Rattle.term_model.specs.declared.term.Term.{Term}
 use Rattle.term_model.specs.declared.term.Term.TheOpen.{Term-F}
 use Rattle.term_model.specs.declared.term.Term.TheFolds.{fold-Term}

@@ -8,7 +8,7 @@ use Rattle.cbl_base.specs.NumberRule.{NumberRule}
 use Rattle.cbl_base.specs.Inputs.{number_of}
 use Rattle.cbl_base.specs.declared.faults.RunFault.{RunFault}
 use Rattle.cbl_base.specs.declared.place.Place.{Place}
-use Rattle.cbl_violations.specs.Violations.WeightedTotal.{weighted_total_value}
+use Rattle.operation_values.specs.OfCblViolations.Violations.WeightedTotal.{weighted_total_value}
 use Rattle.model_values.specs.Failures.{no_failure}
 use Rattle.model_values.specs.Outcomes.{Outcome, outcome_of}
 use Rattle.model_values.specs.Support.{failure_below, member_in}

@@ -27,6 +27,7 @@ pub use deltas::{Move, delta};
 pub use failure::Failure;
 pub use fresh_values::{fresh, fresh_with};
 pub use laws::{closed_model_law, defined_variable_law};
+pub use operation_values as computing;
 pub use operation_values::{NoUsers, UserValues};
 pub use values::{ModelStop, Values};
 pub use wholes::Whole;

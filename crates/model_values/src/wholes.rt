@@ -11,7 +11,7 @@ ghost use Rattle.term_model.specs.Wellformed.{IsWellFormed};
 use crate::evaluation::{Outcome, Setting, term_outcome};
 use crate::failure::Failure;
 use cbl_base::{NoMemory, Place};
-use cbl_violations::weighted_total_value;
+use operation_values::violating::weighted_total_value;
 use operation_values::{UserValues, number_of};
 use std::alloc::Global;
 use term_model::{Member, Model, Posted};

@@ -2,7 +2,7 @@
 use Rattle.std.proofs.Common.{◌≡◌, refl, sym, subst, ap, ◌∙◌, Vec, Global, suc, ◌≤◌, List, [], ◌∷◌, map, length, arith}
 use Rattle.std.proofs.lemmas.List.{take_all}
 use Rattle.cbl_base.specs.declared.place.Place.{Place}
-use Rattle.cbl_operations.specs.declared.op.Op.{Op}
+use Rattle.model_values.specs.OfCblOperations.declared.op.Op.{Op}
 use Rattle.term_model.specs.declared.term.Term.{Term}
 use Rattle.term_model.specs.declared.term.Term.TheOpen.{Term-F}
 use Rattle.term_model.specs.declared.term.Term.TheViews.{roll-Term}

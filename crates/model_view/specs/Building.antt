@@ -2,7 +2,7 @@
 use Rattle.std.specs.Prelude.{ℤ, List, [], ◌∷◌, ◌++◌, length}
 use Rattle.cbl_base.specs.declared.ids.VarId.{VarId}
 use Rattle.cbl_base.specs.declared.place.Place.{Place}
-use Rattle.cbl_operations.specs.declared.op.Op.{Op}
+use Rattle.model_values.specs.OfCblOperations.declared.op.Op.{Op}
 use Rattle.term_model.specs.declared.model.Model.{Model}
 use Rattle.term_model.specs.declared.model.Posted.TheVariants.{Define}
 use Rattle.term_model.specs.declared.model.VarDecl.{VarDecl}

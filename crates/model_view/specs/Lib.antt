@@ -3,3 +3,4 @@ pub mod Building
 pub mod Variables
 pub mod Plain
 pub mod Naming
+pub mod OfLayerPlan

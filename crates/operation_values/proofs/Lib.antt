@@ -1,1 +1,2 @@
 pub mod KeyedValues
+pub mod OfCblOperations

@@ -3,7 +3,7 @@
 use Rattle.std.specs.Prelude.{◌≡◌, ℕ, zero, suc, ℤ, pos, negsuc, ◌^◌, Bool, true, false, ◌&&◌, List, [], ◌∷◌, map, length, slice_get, slice_index_or, unwrap_or}
 use Rattle.std.specs.List.{list_all, range_with_len}
 use Rattle.cbl_base.specs.NumberRule.{NumberRule}
-use Rattle.term_model.specs.Users.{user_rules}
+use Rattle.operation_values.specs.OfTermModel.Users.{user_rules}
 use Rattle.user_constraint.specs.UserRule.{UserRule}
 
 -- ---- lists of 64-bit numbers

@@ -8,7 +8,7 @@ use Rattle.comet_meaning.specs.Search.{Snapshot}
 use Rattle.comet_meaning.specs.Solutions.{add_solution, free_numbers, make_solution}
 use Rattle.comet_meaning.specs.State.{State}
 use Rattle.comet_meaning.specs.Values.{Value}
-use Rattle.run_solvers.specs.Solutions.{kept_numbers}
+use Rattle.run_state.specs.OfRunSolvers.Solutions.{kept_numbers}
 use Rattle.run_values.specs.Did.{Stopped}
 use Rattle.run_values.specs.declared.stop.Stop.{Stop}
 use Rattle.run_values.specs.declared.stop.Stop.TheVariants as stops

@@ -1,7 +1,7 @@
 -- What stops with a fault or for want of memory stops so, too, among the methods.
 use Rattle.std.proofs.Common.{Result, Ok, Err}
 use Rattle.std.specs.Prelude.{IfErr}
-use Rattle.run_solvers.specs.Stopping.{IsEndOrMemory}
+use Rattle.run_state.specs.OfRunSolvers.Stopping.{IsEndOrMemory}
 use Rattle.run_values.specs.Did.{IsFaultOrMemory}
 use Rattle.run_values.specs.declared.stop.Stop.{Stop}
 use Rattle.run_values.specs.declared.stop.Stop.TheVariants.{Fault, Spent, Cyclic, NoMemory, Output}

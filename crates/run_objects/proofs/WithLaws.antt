@@ -14,7 +14,7 @@ use Rattle.comet_meaning.specs.Parts.{solver_at}
 use Rattle.comet_meaning.specs.Solvers.{SolverState}
 use Rattle.comet_meaning.specs.State.{State}
 use Rattle.run_objects.specs.WithBlocks.{block}
-use Rattle.run_solvers.specs.Opening.{opened}
+use Rattle.run_state.specs.OfRunSolvers.Opening.{opened}
 
 -- what follows the body, one after the other
 grouped : (m : Act (Unit {0})) (n : Act (Unit {0})) (o : Outcome Flow) →

@@ -20,5 +20,5 @@ pub use variables::{
 };
 pub use writes::{added, stepped, subtracted, write};
 
-#[cfg(test)]
-mod tests;
+pub use run_state as state_of_runs;
+pub use run_state::solvers_of_runs as solvers_of_runs;

@@ -4,14 +4,14 @@ ghost use Rattle.comet_meaning.specs.Models as models;
 ghost use Rattle.comet_meaning.specs.Systems as systems;
 ghost use Rattle.comet_meaning.specs.Values.{solver_of};
 ghost use Rattle.comet_meaning.specs.State as states;
-ghost use Rattle.run_outside.specs.Told.{beside};
+ghost use Rattle.run_state.specs.OfRunOutside.Told.{beside};
 ghost use Rattle.run_values.specs.Did.{Did, IsFaultOrMemory};
 ghost use Rattle.run_values.specs.Views.{value_seen};
 ghost use Rattle.run_values.specs.declared.stop.Stop.TheVariants.{NoMemory};
 
 use cbl_base::Place;
-use run_solvers::Built;
 use run_state::Outside;
+use run_state::solvers_of_runs::Built;
 use run_values::{Stop, Value};
 use std::alloc::Global;
 

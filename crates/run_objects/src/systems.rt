@@ -4,13 +4,13 @@ ghost use Rattle.comet_meaning.specs.Systems as systems;
 ghost use Rattle.comet_meaning.specs.Systems.{of_whole};
 ghost use Rattle.comet_meaning.specs.Values as values;
 ghost use Rattle.comet_meaning.specs.State as states;
-ghost use Rattle.run_outside.specs.Told.{beside};
+ghost use Rattle.run_state.specs.OfRunOutside.Told.{beside};
 ghost use Rattle.run_values.specs.Did.{Did, IsFaultOrMemory};
 ghost use Rattle.run_values.specs.Views.{value_seen};
 
 use cbl_base::{Place, VarId};
-use run_solvers::Built;
 use run_state::Outside;
+use run_state::solvers_of_runs::Built;
 use run_values::{Stop, Value};
 
 /// One more constraint of a system, or one more term of an objective, with its weight; gives no value. At this place

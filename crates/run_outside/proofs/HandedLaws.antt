@@ -4,8 +4,8 @@ use Rattle.std.proofs.Common.{◌≡◌, ◌∙◌, refl, sym, ap, subst, ℕ, z
 use Rattle.std.specs.Prelude.{slice_get, if◌then◌else◌}
 use Rattle.std.specs.List.{list_any}
 use Rattle.std.specs.Option.{option_map}
-use Rattle.posted_users.specs.KeptRule.{KeptRule, no_rule}
-use Rattle.comet_meaning.specs.Users.{User, first_free, is_known, is_named, rule_in, with_given, with_taken}
+use Rattle.run_solvers.specs.OfPostedUsers.KeptRule.{KeptRule, no_rule}
+use Rattle.run_solvers.specs.OfCometMeaning.Users.{User, first_free, is_known, is_named, rule_in, with_given, with_taken}
 
 abbrev is_open : List ℕ → User → Bool
 is_open name user = is_named name user && user.free

@@ -1,10 +1,10 @@
 -- A user's constraint is taken by its name, or there is none to take.
 use Rattle.std.proofs.Common.{◌≡◌, ◌∙◌, refl, ap, ℕ, Bool, true, false, Some, None, List}
 use Rattle.cbl_base.specs.declared.place.Place.{Place}
-use Rattle.comet_meaning.specs.Outcome.{Faulted, Halted, Went}
-use Rattle.comet_meaning.specs.State.{State, left}
-use Rattle.comet_meaning.specs.TakingUsers.{take_user, taking_user}
-use Rattle.comet_meaning.specs.Users.{first_free, is_known, with_taken}
+use Rattle.run_solvers.specs.OfCometMeaning.Outcome.{Faulted, Halted, Went}
+use Rattle.run_solvers.specs.OfCometMeaning.State.{State, left}
+use Rattle.run_solvers.specs.OfCometMeaning.TakingUsers.{take_user, taking_user}
+use Rattle.run_solvers.specs.OfCometMeaning.Users.{first_free, is_known, with_taken}
 use Rattle.run_outside.specs.HandedIn.{refusal_of}
 
 module _ (at : Place) (name : List ℕ) (s : State) where

@@ -4,10 +4,10 @@ use Rattle.std.specs.Prelude.{ℕ, Bool, true, false, List, map, Option, Some, N
 use Rattle.std.specs.Coded.{Coded, code_by, coded×, coded_list, coded_ℕ, coded_bool}
 use Rattle.cbl_base.specs.declared.faults.RunFault.{RunFault}
 use Rattle.cbl_base.specs.declared.faults.RunFault.TheVariants.{UnknownUser, UserSpent}
-use Rattle.posted_users.specs.KeptCode.{rule_code}
-use Rattle.posted_users.specs.KeptRule.{KeptRule, kept, no_rule}
+use Rattle.run_solvers.specs.OfPostedUsers.KeptCode.{rule_code}
+use Rattle.run_solvers.specs.OfPostedUsers.KeptRule.{KeptRule, kept, no_rule}
 use Rattle.user_constraint.specs.UserRule.{UserRule}
-use Rattle.comet_meaning.specs.Users.{User}
+use Rattle.run_solvers.specs.OfCometMeaning.Users.{User}
 
 -- the rule of one that is still there
 abbrev pub rule_left : Option KeptRule → KeptRule

@@ -1,3 +1,4 @@
 pub mod HandedIn
 pub mod Shares
 pub mod Told
+pub mod OfRunSolvers

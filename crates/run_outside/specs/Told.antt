@@ -1,8 +1,8 @@
 -- What a run has beside its names: what it printed, its solvers, and the users' constraints. A rule of this project.
 use Rattle.std.specs.Prelude.{ℕ, List, []}
-use Rattle.comet_meaning.specs.Solvers.{SolverState}
-use Rattle.comet_meaning.specs.State.{State}
-use Rattle.comet_meaning.specs.Users.{User}
+use Rattle.run_solvers.specs.OfCometMeaning.Solvers.{SolverState}
+use Rattle.run_solvers.specs.OfCometMeaning.State.{State}
+use Rattle.run_solvers.specs.OfCometMeaning.Users.{User}
 
 pub record Told : Type 0 where
   pub printed : List ℕ

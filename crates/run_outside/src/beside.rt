@@ -1,22 +1,22 @@
 //! What the solvers of a run do beside an output and users' constraints.
 ghost use Rattle.std.specs.Prelude.{◌≡◌, ℕ, List, IfErr, IfOk};
-ghost use Rattle.comet_meaning.specs.Models.{domain_at};
-ghost use Rattle.comet_meaning.specs.Parts.{solver_at, variable_value};
-ghost use Rattle.comet_meaning.specs.Solutions.{restoring};
-ghost use Rattle.comet_meaning.specs.State.{State};
-ghost use Rattle.comet_meaning.specs.Users.{User};
-ghost use Rattle.comet_meaning.specs.Values as values;
+ghost use Rattle.run_solvers.specs.OfCometMeaning.Models.{domain_at};
+ghost use Rattle.run_solvers.specs.OfCometMeaning.Parts.{solver_at, variable_value};
+ghost use Rattle.run_solvers.specs.OfCometMeaning.Solutions.{restoring};
+ghost use Rattle.run_solvers.specs.OfCometMeaning.State.{State};
+ghost use Rattle.run_solvers.specs.OfCometMeaning.Users.{User};
+ghost use Rattle.run_solvers.specs.OfCometMeaning.Values as values;
 ghost use Rattle.run_solvers.specs.Opening.{opened};
 ghost use Rattle.run_solvers.specs.Solutions.{kept_numbers};
 ghost use Rattle.run_solvers.specs.Told.{TellsIn};
-ghost use Rattle.run_values.specs.Did.{Did, IsFaultOrMemory};
-ghost use Rattle.run_values.specs.Views.{bounds_seen, value_seen};
+ghost use Rattle.run_solvers.specs.OfRunValues.Did.{Did, IsFaultOrMemory};
+ghost use Rattle.run_solvers.specs.OfRunValues.Views.{bounds_seen, value_seen};
 ghost use Rattle.run_outside.specs.Told.{beside, told_of};
 
 use cbl_base::{Place, VarId};
 use ls_events::{Solution, VarChange};
 use run_solvers::Solvers;
-use run_values::{Bounds, Stop, Value};
+use run_solvers::values_of_runs::{Bounds, Stop, Value};
 use user_constraint::LocalConstraint;
 
 /// The value of a variable, as `Outside::read_variable`.

@@ -1,7 +1,7 @@
 //! Users' constraints that were handed in.
 ghost use Rattle.std.specs.Prelude.{◌≡◌, ◌&&◌, true, false, IfOk, IfSome};
-ghost use Rattle.comet_meaning.specs.Users.{first_free, is_known, is_named, rule_in, with_given, with_taken};
-ghost use Rattle.posted_users.specs.KeptRule.{kept, no_rule};
+ghost use Rattle.run_solvers.specs.OfCometMeaning.Users.{first_free, is_known, is_named, rule_in, with_given, with_taken};
+ghost use Rattle.run_solvers.specs.OfPostedUsers.KeptRule.{kept, no_rule};
 ghost use Rattle.run_outside.specs.HandedIn.{refusal_of, users_seen};
 
 use cbl_base::{NoMemory, RunFault};
@@ -20,8 +20,8 @@ pub struct HandedIn<U: LocalConstraint> {
 
 impl<U: LocalConstraint> Model for HandedIn<U> {
     ghost use Rattle.std.specs.Prelude.{option_map};
-    ghost use Rattle.comet_meaning.specs.Users.{User};
-    ghost use Rattle.posted_users.specs.KeptRule.{kept};
+    ghost use Rattle.run_solvers.specs.OfCometMeaning.Users.{User};
+    ghost use Rattle.run_solvers.specs.OfPostedUsers.KeptRule.{kept};
     ghost use Rattle.run_outside.specs.HandedIn.{rule_left, user_code};
 
     ghost Value = { User };

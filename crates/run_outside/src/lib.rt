@@ -14,4 +14,5 @@ mod stage;
 pub use handed::{HandedIn, handed_in};
 pub use out::{Bytes, Out};
 pub use outside::Outside;
+pub use run_solvers as solvers_of_runs;
 pub use stage::Stage;

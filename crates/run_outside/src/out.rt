@@ -1,11 +1,11 @@
 //! Outputs.
 ghost use Rattle.std.specs.Prelude.{◌≡◌, ◌≤◌, ◌++◌, ◌↔◌, ℕ, List, Option, None, Err, true, OnOk, length};
 ghost use Rattle.cbl_io.specs.Faults.{HasRisen};
-ghost use Rattle.comet_meaning.specs.Onward.{IsFront};
-ghost use Rattle.run_values.specs.declared.stop.OutStop.TheVariants.{Full, Failed};
+ghost use Rattle.run_solvers.specs.OfCometMeaning.Onward.{IsFront};
+ghost use Rattle.run_solvers.specs.OfRunValues.declared.stop.OutStop.TheVariants.{Full, Failed};
 ghost use Rattle.run_outside.specs.Shares.{is_short, share_behind};
 
-use run_values::OutStop;
+use run_solvers::values_of_runs::OutStop;
 
 /// What takes the bytes that a program prints.
 pub trait Out {

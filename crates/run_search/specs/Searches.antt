@@ -1,11 +1,11 @@
 -- What the code keeps of a search, as the meaning of programs has it. A rule of this project.
 use Rattle.std.specs.Prelude.{List, Option, map, option_map}
 use Rattle.checked_tree.specs.Tasks.{work_of_act}
-use Rattle.comet_meaning.specs.Search as meant
+use Rattle.run_solvers.specs.OfCometMeaning.Search as meant
 use Rattle.ls_events.specs.declared.handlers.Handler.{Handler}
 use Rattle.ls_events.specs.declared.queue.Event.{Event}
 use Rattle.ls_events.specs.declared.solution.Solution.{Solution}
-use Rattle.run_values.specs.Views.{value_seen}
+use Rattle.run_solvers.specs.OfRunValues.Views.{value_seen}
 use Rattle.run_search.specs.declared.search.Closure.{Closure}
 use Rattle.run_search.specs.declared.search.KeptMove.{KeptMove}
 use Rattle.run_search.specs.declared.search.Reaction.{Reaction}

@@ -11,4 +11,5 @@ pub mod search;
 pub use ls_events::{Event, Solution, VarChange};
 pub use ls_select::Ties;
 pub use moves::copied_moves;
+pub use run_solvers::solving as solving;
 pub use search::{Closure, KeptMove, Reaction, Search};

@@ -1,10 +1,10 @@
 //! Copies of what selectors keep.
 ghost use Rattle.std.specs.Prelude.{◌≡◌, IfErr, IfOk, map, option_map};
 ghost use Rattle.run_search.specs.Searches.{move_seen};
-ghost use Rattle.run_values.specs.declared.stop.Stop.TheVariants.{NoMemory};
+ghost use Rattle.run_solvers.specs.OfRunValues.declared.stop.Stop.TheVariants.{NoMemory};
 
 use crate::search::KeptMove;
-use run_values::Stop;
+use run_solvers::values_of_runs::Stop;
 use std::alloc::Global;
 
 /// A copy of what selectors keep. `NoMemory` where there is none for it; there is no other stop.

@@ -14,8 +14,8 @@ use Rattle.ls_solver.specs.State as solvers
 use Rattle.ls_solver.specs.Totals.{is_own_total, whole_of}
 use Rattle.ls_solver.specs.declared.fault.SolverFault.{SolverFault}
 use Rattle.ls_solver.specs.declared.fault.SolverFault.TheVariants as faults
-use Rattle.solver_models.specs.declared.totals.SystemId.{SystemId}
-use Rattle.solver_models.specs.declared.totals.TotalId.{TotalId}
+use Rattle.ls_solver.specs.OfSolverModels.declared.totals.SystemId.{SystemId}
+use Rattle.ls_solver.specs.OfSolverModels.declared.totals.TotalId.{TotalId}
 use Rattle.posted_users.specs.KeptRule.{users_of}
 use Rattle.term_model.specs.declared.posting.Side.TheVariants.{Systems, Objectives}
 use Rattle.model_values.specs.Delta.{value_of}
@@ -24,7 +24,7 @@ use Rattle.model_values.specs.declared.asked.AskStop.{AskStop}
 use Rattle.model_values.specs.declared.deltas.Move.{Move}
 use Rattle.model_values.specs.declared.failure.Failure.{Failure}
 use Rattle.model_values.specs.declared.wholes.Whole.{Whole}
-use Rattle.violation_shares.specs.VariableViolations as shares
+use Rattle.ls_solver.specs.OfViolationShares.VariableViolations as shares
 use Rattle.total_view.proofs.PlainShares.{same_variable_violations}
 use Rattle.total_view.proofs.PlainTotals.{same_delta, same_value_of}
 use Rattle.comet_meaning.specs.Models.{owns}

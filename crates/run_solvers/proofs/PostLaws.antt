@@ -15,8 +15,8 @@ use Rattle.ls_solver.specs.State as solvers
 use Rattle.ls_solver.specs.Totals.{is_own_total, whole_of}
 use Rattle.ls_solver.specs.declared.fault.SolverFault.{SolverFault}
 use Rattle.ls_solver.specs.declared.fault.SolverFault.TheVariants as faults
-use Rattle.solver_models.specs.declared.totals.TotalId.{TotalId}
-use Rattle.solver_models.proofs.MemberLaws.{definitions_with_member}
+use Rattle.ls_solver.specs.OfSolverModels.declared.totals.TotalId.{TotalId}
+use Rattle.ls_solver.proofs.OfSolverModels.MemberLaws.{definitions_with_member}
 use Rattle.term_model.specs.Depth.{depth_of}
 use Rattle.term_model.specs.Kinds.{kind_of_term, kind_step, kinds_in}
 use Rattle.term_model.specs.Subterms.{distinct_subterms}

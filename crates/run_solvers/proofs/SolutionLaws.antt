@@ -18,9 +18,9 @@ use Rattle.ls_solver.specs.Restoring.{Restores, RestoresBy, restore_refusal, sna
 use Rattle.ls_solver.specs.State as solvers
 use Rattle.ls_solver.specs.declared.fault.SolverFault.{SolverFault}
 use Rattle.ls_solver.specs.declared.fault.SolverFault.TheVariants as faults
-use Rattle.solver_models.specs.FreeVariables.{free_places, free_values, moves_to}
-use Rattle.solver_models.specs.Ids.{id_at}
-use Rattle.solver_models.proofs.FreeLaws.{never_refused as never_refused_moves}
+use Rattle.ls_solver.specs.OfSolverModels.FreeVariables.{free_places, free_values, moves_to}
+use Rattle.ls_solver.specs.OfSolverModels.Ids.{id_at}
+use Rattle.ls_solver.proofs.OfSolverModels.FreeLaws.{never_refused as never_refused_moves}
 use Rattle.comet_meaning.specs.Models as meant
 use Rattle.comet_meaning.specs.Models.{number_now}
 use Rattle.comet_meaning.specs.Outcome.{Faulted, Went, ◌>>=◌, give, unless}

@@ -15,7 +15,7 @@ use Rattle.ls_solver.specs.Committing as commits
 use Rattle.ls_solver.specs.Committing.{Commits}
 use Rattle.ls_solver.specs.Reading.{fresh_value}
 use Rattle.ls_solver.specs.State as solvers
-use Rattle.solver_models.specs.Changes as solver_changes
+use Rattle.ls_solver.specs.OfSolverModels.Changes as solver_changes
 use Rattle.comet_meaning.specs.Changes as meant
 use Rattle.comet_meaning.specs.Changes.{Change, changes_between, changes_of}
 use Rattle.comet_meaning.specs.Parts.{value_of, value_now}

@@ -10,8 +10,8 @@ use Rattle.ls_solver.specs.State as solvers
 use Rattle.ls_solver.specs.Totals.{GetsTotal, MakesTotal, is_own_total, total_refusal, whole_of}
 use Rattle.ls_solver.specs.declared.fault.SolverFault.{SolverFault}
 use Rattle.ls_solver.specs.declared.fault.SolverFault.TheVariants as faults
-use Rattle.solver_models.specs.declared.totals.TotalId.{TotalId}
-use Rattle.solver_models.proofs.TotalLaws.{definitions_with_total}
+use Rattle.ls_solver.specs.OfSolverModels.declared.totals.TotalId.{TotalId}
+use Rattle.ls_solver.proofs.OfSolverModels.TotalLaws.{definitions_with_total}
 use Rattle.term_model.specs.Definitions.{definition_of}
 use Rattle.term_model.specs.Kinds.{kinds_in}
 use Rattle.term_model.specs.Posting.{totals_by}

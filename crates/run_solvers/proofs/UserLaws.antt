@@ -18,9 +18,9 @@ use Rattle.ls_solver.specs.Totals.{of_system, whole_of}
 use Rattle.ls_solver.specs.declared.fault.SolverFault.{SolverFault}
 use Rattle.ls_solver.specs.declared.fault.SolverFault.TheVariants as faults
 use Rattle.ls_solver.proofs.UserLaws.{user_kind}
-use Rattle.solver_models.specs.UserPosting.{AddsUser, no_place, user_term}
-use Rattle.solver_models.specs.declared.totals.TotalId.{TotalId}
-use Rattle.solver_models.proofs.MemberLaws.{definitions_with_member}
+use Rattle.ls_solver.specs.OfSolverModels.UserPosting.{AddsUser, no_place, user_term}
+use Rattle.ls_solver.specs.OfSolverModels.declared.totals.TotalId.{TotalId}
+use Rattle.ls_solver.proofs.OfSolverModels.MemberLaws.{definitions_with_member}
 use Rattle.term_model.specs.Definitions.{joined}
 use Rattle.term_model.specs.Depth.{depth_of, greatest}
 use Rattle.term_model.specs.Kinds.{kind_of_term, kinds_in}

@@ -11,3 +11,7 @@ pub mod Told
 pub mod Totals
 pub mod Views
 pub mod Waiting
+pub mod OfCometMeaning
+pub mod OfModelValues
+pub mod OfPostedUsers
+pub mod OfRunValues

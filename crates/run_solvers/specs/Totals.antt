@@ -1,6 +1,6 @@
 -- The system or the objective that a value is. A rule of this project.
 use Rattle.std.specs.Prelude.{Option, Some, None}
-use Rattle.solver_models.specs.declared.totals.TotalId.{TotalId}
+use Rattle.ls_solver.specs.OfSolverModels.declared.totals.TotalId.{TotalId}
 use Rattle.term_model.specs.declared.posting.Side.TheVariants.{Systems, Objectives}
 use Rattle.comet_meaning.specs.Values.{Value, System, Objective}
 

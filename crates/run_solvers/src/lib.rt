@@ -24,4 +24,6 @@ mod waiting;
 
 pub use beginning::Beginning;
 pub use built::{Built, user_fits};
+pub use ls_solver as solving;
+pub use run_values as values_of_runs;
 pub use solvers::Solvers;

@@ -6,4 +6,6 @@
 
 mod standing;
 
+pub use run_state as state_of_runs;
+pub use run_state::{outside_of_runs as outside_of_runs, solving as solving};
 pub use standing::Standing;

@@ -1,13 +1,13 @@
 //! What stands of a run.
 ghost use Rattle.std.specs.Prelude.{◌≡◌, ℕ, List, [], IfErr, IfOk};
-ghost use Rattle.comet_meaning.specs.State.{first_state};
+ghost use Rattle.run_state.specs.OfCometMeaning.State.{first_state};
 ghost use Rattle.run_standing.specs.Seen.{plain_with, standing_seen};
-ghost use Rattle.run_values.specs.declared.stop.Stop.TheVariants.{NoMemory};
+ghost use Rattle.run_state.specs.OfRunValues.declared.stop.Stop.TheVariants.{NoMemory};
 
-use run_outside::HandedIn;
-use run_solvers::Solvers;
 use run_state::State;
-use run_values::Stop;
+use run_state::outside_of_runs::HandedIn;
+use run_state::solvers_of_runs::Solvers;
+use run_state::values_of_runs::Stop;
 use std::alloc::Global;
 use user_constraint::LocalConstraint;
 

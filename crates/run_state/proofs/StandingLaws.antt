@@ -1,6 +1,6 @@
 -- An array of variables stands in a term for that of its cells.
 use Rattle.std.proofs.Common.{◌≡◌, List, map, ◌∙◌, ap}
-use Rattle.model_view.specs.Building.{variable}
+use Rattle.comet_meaning.specs.OfModelView.Building.{variable}
 use Rattle.term_model.specs.declared.term.Term.{Term}
 use Rattle.comet_meaning.specs.Cells.{variables_extent}
 use Rattle.comet_meaning.specs.State.{VariableCells}

@@ -7,3 +7,8 @@ pub mod SearchActs
 pub mod Stops
 pub mod Targets
 pub mod Views
+pub mod OfCometMeaning
+pub mod OfRunOutside
+pub mod OfRunSearch
+pub mod OfRunSolvers
+pub mod OfRunValues

@@ -21,8 +21,10 @@ pub mod targets;
 mod words;
 
 pub use out::print;
-pub use run_outside::{Bytes, Out, Outside, Stage};
-pub use run_search::{Closure, Event, Reaction};
+pub use run_outside as outside_of_runs;
+pub use run_outside::{Bytes, Out, Outside, Stage, solvers_of_runs as solvers_of_runs};
+pub use run_search::{Closure, Event, Reaction, solving as solving};
+pub use run_values as values_of_runs;
 pub use standing::{InTerm, TermCells};
 pub use state::State;
 pub use targets::Target;

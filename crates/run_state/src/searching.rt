@@ -10,7 +10,7 @@ ghost use Rattle.comet_meaning.specs.Selection.{chosen_of};
 ghost use Rattle.comet_meaning.specs.Solutions as solutions;
 ghost use Rattle.comet_meaning.specs.Solutions.{add_solution};
 ghost use Rattle.comet_meaning.specs.Values as values;
-ghost use Rattle.run_solvers.specs.Told.{told};
+ghost use Rattle.run_outside.specs.OfRunSolvers.Told.{told};
 ghost use Rattle.run_values.specs.Did.{Did, IsFault, IsFaultOrMemory};
 ghost use Rattle.run_values.specs.Views.{bounds_seen, value_seen};
 ghost use Rattle.run_values.specs.declared.stop.Stop.TheVariants.{NoMemory};

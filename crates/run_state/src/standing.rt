@@ -4,7 +4,7 @@ ghost use Rattle.comet_meaning.specs.Cells.{cells_of, variables_of};
 ghost use Rattle.comet_meaning.specs.Terms as meaning;
 ghost use Rattle.comet_meaning.specs.Terms.{constants, several_of, single_of, term_extent, term_row, variable_terms};
 ghost use Rattle.comet_meaning.specs.Values as values;
-ghost use Rattle.model_view.specs.Building as building;
+ghost use Rattle.comet_meaning.specs.OfModelView.Building as building;
 ghost use Rattle.run_values.specs.Did.{Did};
 ghost use Rattle.run_values.specs.Views.{extent_seen, value_seen};
 ghost use Rattle.run_values.specs.declared.stop.Stop.TheVariants.{NoMemory};
@@ -14,7 +14,7 @@ ghost use Rattle.run_state.specs.Views.{state_seen};
 
 use crate::state::State;
 use cbl_base::VarId;
-use run_solvers::Built;
+use run_outside::solvers_of_runs::Built;
 use run_values::{Bounds, Extent, Stop, Value};
 use std::alloc::Global;
 

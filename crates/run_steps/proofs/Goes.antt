@@ -28,11 +28,11 @@ use Rattle.comet_meaning.proofs.GoingExpressions.{goes_builtin_value, goes_form}
 use Rattle.comet_meaning.proofs.GoingTerms.{goes_standing}
 use Rattle.comet_meaning.proofs.GoingStatements.{goes_element}
 use Rattle.comet_meaning.proofs.GoingVariables.{goes_variable_in, goes_next_variable, goes_listed_variable, goes_commit_waiting}
-use Rattle.run_state.specs.Acts.{indexed, indexed_twice, index_written, cell_written, counted, numbers_read}
+use Rattle.run_objects.specs.OfRunState.Acts.{indexed, indexed_twice, index_written, cell_written, counted, numbers_read}
 use Rattle.run_steps.specs.Operands.{added_variable, added_cell, variable_cell, exactly, made_variables, closed_block}
 use Rattle.run_objects.specs.WithBlocks.{block}
 use Rattle.run_objects.proofs.WithLaws.{together_law}
-use Rattle.run_solvers.specs.Opening.{opened, opening}
+use Rattle.run_objects.specs.OfRunSolvers.Opening.{opened, opening}
 use Rattle.comet_meaning.proofs.GoingModels.{goes_put_solver}
 use Rattle.run_steps.specs.Parts.{value_as, plain_builtin, constant_form}
 

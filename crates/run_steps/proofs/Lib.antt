@@ -18,3 +18,4 @@ pub mod PlainLaws
 pub mod ListLaws
 pub mod VariableLaws
 pub mod ShortLaws
+pub mod OfRunObjects

@@ -8,7 +8,7 @@ use Rattle.comet_meaning.specs.Values.{Value}
 use Rattle.comet_meaning.specs.State.{State, Cells, left}
 use Rattle.comet_meaning.specs.Outcome.{Outcome, Went, Halted, Faulted, Act, then_do, give, unless, ◌>>=◌}
 use Rattle.comet_meaning.proofs.Endings.{went_then}
-use Rattle.run_state.specs.Acts.{numbers_read}
+use Rattle.run_objects.specs.OfRunState.Acts.{numbers_read}
 use Rattle.run_steps.specs.Operands.{exactly}
 
 module _ (at place : Place) (count : ℕ) (v : Value) (s : State) {xs : List ℤ} {t : State} (read : numbers_read place v s ≡ Went xs t) where

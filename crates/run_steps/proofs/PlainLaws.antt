@@ -29,11 +29,11 @@ use Rattle.comet_meaning.specs.Expressions.{value_of_expression, value_of_form}
 use Rattle.comet_meaning.specs.Parts.{value, number, truth, read, read_place}
 use Rattle.comet_meaning.specs.Program.{level}
 use Rattle.comet_meaning.specs.Writes.{name_target, target_of_form, target_of_expression}
-use Rattle.run_state.specs.declared.targets.Target.{Target}
+use Rattle.run_objects.specs.OfRunState.declared.targets.Target.{Target}
 use Rattle.run_values.specs.declared.values.Value.{Value as declared}
 use Rattle.run_values.specs.Views.{value_seen}
-use Rattle.run_state.specs.Acts.{indexed}
-use Rattle.run_state.specs.Plain.{IsPlain, IsHeld, IsHeldNumber}
+use Rattle.run_objects.specs.OfRunState.Acts.{indexed}
+use Rattle.run_objects.specs.OfRunState.Plain.{IsPlain, IsHeld, IsHeldNumber}
 use Rattle.run_steps.specs.Plainly.{GivesName, GivesNumber, GivesTarget, GivesValue, GivesWhole, IsArithmetic, Results}
 use Rattle.run_steps.specs.Views.{links_seen, part}
 use Rattle.run_steps.proofs.Forms.{link_is, link_goes_on}

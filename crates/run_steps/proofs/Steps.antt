@@ -29,7 +29,7 @@ use Rattle.comet_meaning.proofs.GoingParts.{LevelGoesOn, goes_read_array}
 use Rattle.comet_meaning.proofs.GoingEvents.{goes_repeated, goes_end_or}
 use Rattle.comet_meaning.proofs.Rows.{DimensionsLeft, PrintsLeft, TasksLeft, dimensions_err, prints_err, tasks_err}
 use Rattle.comet_meaning.proofs.Turns.{TurnTakesFuel, IsLessBefore, repeats_again}
-use Rattle.run_state.specs.Acts.{copied_into, listed}
+use Rattle.run_objects.specs.OfRunState.Acts.{copied_into, listed}
 use Rattle.run_values.specs.Did.{Did}
 use Rattle.run_values.specs.declared.stop.Stop.{Stop}
 use Rattle.run_values.specs.declared.stop.Stop.TheVariants.{Fault, Spent, Cyclic, NoMemory, Output}

@@ -9,9 +9,9 @@ use Rattle.run_values.specs.declared.stop.Stop.{Stop}
 use Rattle.run_values.specs.declared.values.Value.{Value}
 use Rattle.run_values.specs.Did.{Did}
 use Rattle.run_values.specs.Views.{value_seen}
-use Rattle.run_state.specs.declared.targets.Target.{Target}
-use Rattle.run_state.specs.Acts.{indexed, indexed_twice, index_written, cell_written, counted}
-use Rattle.run_state.specs.Targets.{target_seen}
+use Rattle.run_objects.specs.OfRunState.declared.targets.Target.{Target}
+use Rattle.run_objects.specs.OfRunState.Acts.{indexed, indexed_twice, index_written, cell_written, counted}
+use Rattle.run_objects.specs.OfRunState.Targets.{target_seen}
 use Rattle.run_steps.specs.Does.{Does}
 use Rattle.run_steps.proofs.Exits.{act_does}
 use Rattle.run_steps.proofs.Goes.{goes_indexed, goes_indexed_twice, goes_index_written, goes_cell_written, goes_counted}

@@ -10,13 +10,13 @@ use Rattle.comet_meaning.specs.Program.{level}
 use Rattle.run_values.specs.declared.stop.Stop.{Stop}
 use Rattle.run_values.specs.declared.values.Value.{Value}
 use Rattle.run_values.specs.Views.{value_seen}
-use Rattle.run_outside.specs.Told.{Told}
-use Rattle.run_state.specs.declared.state.State.{State}
-use Rattle.run_state.specs.declared.targets.Target.{Target}
-use Rattle.run_state.specs.declared.standing.InTerm.{InTerm}
-use Rattle.run_state.specs.InTerms.{in_term_seen}
-use Rattle.run_state.specs.Targets.{target_seen}
-use Rattle.run_state.specs.Views.{state_seen}
+use Rattle.run_objects.specs.OfRunOutside.Told.{Told}
+use Rattle.run_objects.specs.OfRunState.declared.state.State.{State}
+use Rattle.run_objects.specs.OfRunState.declared.targets.Target.{Target}
+use Rattle.run_objects.specs.OfRunState.declared.standing.InTerm.{InTerm}
+use Rattle.run_objects.specs.OfRunState.InTerms.{in_term_seen}
+use Rattle.run_objects.specs.OfRunState.Targets.{target_seen}
+use Rattle.run_objects.specs.OfRunState.Views.{state_seen}
 use Rattle.run_steps.specs.declared.code.Flow.{Flow}
 use Rattle.run_steps.specs.Does.{Does}
 use Rattle.run_steps.specs.Views.{flow_seen, part}

@@ -10,3 +10,9 @@ pub mod Operands
 pub mod Plainly
 pub mod Inside
 pub mod Spending
+pub mod OfRunObjects
+pub mod OfRunOutside
+pub mod OfRunSearch
+pub mod OfRunSolvers
+pub mod OfRunState
+pub mod OfRunValues

@@ -24,7 +24,7 @@ use Rattle.comet_meaning.specs.Values.{Bounds, Value, Variable, as_kind, number_
 use Rattle.comet_meaning.specs.Variables.{Beginning, cell_name, declared, listed_cell, next_cell, variable_in, variable_kind, variables_with}
 use Rattle.comet_meaning.specs.Levels.{Flow, Level, Next, Target}
 use Rattle.comet_meaning.specs.Writes.{changed, old_value, stepped}
-use Rattle.run_state.specs.Acts.{copied_into, numbers_read}
+use Rattle.run_objects.specs.OfRunState.Acts.{copied_into, numbers_read}
 use Rattle.term_model.specs.declared.model.VarDecl.{VarDecl}
 use Rattle.term_model.specs.declared.term.Term.{Term}
 use Rattle.run_steps.specs.Copies.{is_array}

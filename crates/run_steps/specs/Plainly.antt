@@ -11,8 +11,8 @@ use Rattle.comet_meaning.specs.Values.{Value, Number}
 use Rattle.comet_meaning.specs.State.{State}
 use Rattle.comet_meaning.specs.Outcome.{Outcome, Went}
 use Rattle.comet_meaning.specs.Levels as levels
-use Rattle.run_state.specs.declared.targets.Target.{Target}
-use Rattle.run_state.specs.Targets.{target_seen}
+use Rattle.run_objects.specs.OfRunState.declared.targets.Target.{Target}
+use Rattle.run_objects.specs.OfRunState.Targets.{target_seen}
 use Rattle.run_values.specs.declared.values.Value.{Value as declared}
 use Rattle.run_values.specs.Views.{value_seen}
 

@@ -1,7 +1,7 @@
 //! The end of a `with`.
 ghost use Rattle.std.specs.Prelude.{◌≡◌, ℕ, List};
 ghost use Rattle.comet_meaning.specs.Values.{solver_of};
-ghost use Rattle.run_state.specs.Views.{state_seen};
+ghost use Rattle.run_objects.specs.OfRunState.Views.{state_seen};
 ghost use Rattle.run_steps.specs.Does.{Does};
 ghost use Rattle.run_steps.specs.Following.{Follows};
 ghost use Rattle.run_steps.specs.Operands.{closed_block};
@@ -10,7 +10,7 @@ ghost use Rattle.run_values.specs.Views.{value_seen};
 
 use crate::code::Flow;
 use run_objects::commit_waiting;
-use run_state::{Outside, State};
+use run_objects::state_of_runs::{Outside, State};
 use run_values::{Stop, Value};
 
 /// The end of the outermost `with` on a solver: what waits is committed.

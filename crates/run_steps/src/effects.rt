@@ -13,15 +13,15 @@ ghost use Rattle.comet_meaning.specs.Systems.{make_objective, make_sum, make_sys
 ghost use Rattle.comet_meaning.specs.Values as values;
 ghost use Rattle.comet_meaning.specs.Values.{as_kind, bounds_of, number_of, solver_of};
 ghost use Rattle.comet_meaning.specs.Writes as writes;
-ghost use Rattle.run_state.specs.Acts.{listed, shown};
-ghost use Rattle.run_state.specs.Targets.{target_seen};
-ghost use Rattle.run_state.specs.Views.{state_seen};
+ghost use Rattle.run_objects.specs.OfRunState.Acts.{listed, shown};
+ghost use Rattle.run_objects.specs.OfRunState.Targets.{target_seen};
+ghost use Rattle.run_objects.specs.OfRunState.Views.{state_seen};
 ghost use Rattle.run_steps.specs.Does.{Does};
 ghost use Rattle.run_steps.specs.Extents.{extent_seen};
 ghost use Rattle.run_steps.specs.Following.{Follows};
 ghost use Rattle.run_steps.specs.Operands.{made_array, next_behind, nothing_behind, started_value, stepped_target};
 ghost use Rattle.run_steps.specs.Views.{flow_seen};
-ghost use Rattle.run_outside.specs.Told.{Told, beside};
+ghost use Rattle.run_objects.specs.OfRunOutside.Told.{Told, beside};
 ghost use Rattle.run_values.specs.Did.{Did};
 ghost use Rattle.run_values.specs.Views.{value_seen};
 
@@ -31,12 +31,12 @@ use crate::leaves::is_array;
 use cbl_base::{Place, VarId};
 use checked_tree::{Kind, Slot};
 use comet_syntax::tree::Step;
+use run_objects::solvers_of_runs::Built;
+use run_objects::state_of_runs::{Outside, State, Target};
 use run_objects::{
     added, define, make_objective, make_solution, make_solver, make_sum, make_system, stepped,
     subtracted, swap, write,
 };
-use run_solvers::Built;
-use run_state::{Outside, State, Target};
 use run_values::values::as_kind;
 use run_values::{Stop, Value};
 use std::alloc::Global;

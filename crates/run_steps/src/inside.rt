@@ -5,10 +5,10 @@ ghost use Rattle.checked_tree.specs.Tasks.{work_of};
 ghost use Rattle.comet_meaning.specs.Levels as levels;
 ghost use Rattle.comet_meaning.specs.Parts as parts;
 ghost use Rattle.comet_meaning.specs.Program.{level};
-ghost use Rattle.run_state.specs.InTerms.{in_term_seen};
-ghost use Rattle.run_state.specs.Targets.{target_seen};
-ghost use Rattle.run_outside.specs.Told.{Told};
-ghost use Rattle.run_state.specs.Views.{state_seen};
+ghost use Rattle.run_objects.specs.OfRunState.InTerms.{in_term_seen};
+ghost use Rattle.run_objects.specs.OfRunState.Targets.{target_seen};
+ghost use Rattle.run_objects.specs.OfRunOutside.Told.{Told};
+ghost use Rattle.run_objects.specs.OfRunState.Views.{state_seen};
 ghost use Rattle.run_steps.specs.Does.{Does};
 ghost use Rattle.run_steps.specs.Inside.{Defines, Evaluates, Executes, Locates};
 ghost use Rattle.run_steps.specs.Spending.{TakesFuel};
@@ -18,7 +18,7 @@ ghost use Rattle.run_values.specs.Views.{value_seen};
 use crate::code::{Code, Flow};
 use crate::short_calls::called_number;
 use checked_tree::{Task, Typed};
-use run_state::{InTerm, Outside, State, Target};
+use run_objects::state_of_runs::{InTerm, Outside, State, Target};
 use run_values::{Stop, Value};
 
 /// How the parts inside a part are executed: each with the program's functions, and with room for so many parts inside

@@ -16,3 +16,7 @@ pub mod operands;
 pub mod plain;
 pub mod short_calls;
 pub mod tuples;
+
+pub use run_objects as objects_of_runs;
+pub use run_objects::{solvers_of_runs as solvers_of_runs, state_of_runs as state_of_runs};
+pub use run_values as values_of_runs;

@@ -14,15 +14,15 @@ ghost use Rattle.comet_meaning.specs.Levels as levels;
 ghost use Rattle.comet_meaning.specs.Operators as operators;
 ghost use Rattle.comet_meaning.specs.Parts as parts;
 ghost use Rattle.comet_meaning.specs.Program.{level};
-ghost use Rattle.run_outside.specs.Told.{Told};
-ghost use Rattle.run_state.specs.Views.{state_seen};
+ghost use Rattle.run_objects.specs.OfRunOutside.Told.{Told};
+ghost use Rattle.run_objects.specs.OfRunState.Views.{state_seen};
 ghost use Rattle.run_steps.specs.Spending.{GivesNumbers, IsAlone, IsReturn, Spends, TakesFuel};
 ghost use Rattle.run_steps.specs.Views.{code_seen, links_seen, part, row};
 
 use crate::code::{Code, function_at, is_handed_itself, parameter_at};
 use crate::plain::{number_itself, result_of};
 use checked_tree::{Act, Action, Form, Kind, Link, Task, Typed};
-use run_state::State;
+use run_objects::state_of_runs::State;
 use run_values::Value;
 use std::mem;
 

@@ -4,15 +4,15 @@ ghost use Rattle.comet_meaning.specs.Generators.{with_bound, bind};
 ghost use Rattle.comet_meaning.specs.Odometer as odometer;
 ghost use Rattle.comet_meaning.specs.Odometer.{next_of, behind_next, begun};
 ghost use Rattle.comet_meaning.specs.Values.{Range};
-ghost use Rattle.run_state.specs.Views.{state_seen};
+ghost use Rattle.run_objects.specs.OfRunState.Views.{state_seen};
 ghost use Rattle.run_steps.specs.OpenTuples.{SameLeft, pending_seen, names_seen};
-ghost use Rattle.run_outside.specs.Told.{Told};
+ghost use Rattle.run_objects.specs.OfRunOutside.Told.{Told};
 ghost use Rattle.run_values.specs.Did.{Did};
 ghost use Rattle.run_values.specs.Views.{bounds_seen, value_seen};
 
 use cbl_base::{IntSet, Place};
 use checked_tree::Slot;
-use run_state::State;
+use run_objects::state_of_runs::State;
 use run_values::{Bounds, Stop, Value};
 
 /// The values that an open generator has left.

@@ -12,6 +12,11 @@ mod scanning;
 mod selectors;
 mod watching;
 
+pub use declaration_forms as declaring;
+pub use declaration_forms::{
+    noticing as noticing, objects_of_runs as objects_of_runs, state_of_runs as state_of_runs,
+    steps_of_runs as steps_of_runs,
+};
 pub use moves::{call_move, execute_neighbor};
 pub use selectors::{execute_select, execute_select_by};
 pub use watching::execute_whenever;

@@ -1,1 +1,2 @@
 mod WriteLaws
+pub mod OfRunSteps

@@ -12,8 +12,8 @@ use Rattle.comet_meaning.specs.Parts.{value}
 use Rattle.comet_meaning.specs.State.{State}
 use Rattle.comet_meaning.specs.Values.{Value, as_kind}
 use Rattle.comet_meaning.specs.Writes.{assign_form, write}
-use Rattle.run_steps.specs.Does.{Does}
-use Rattle.run_steps.specs.Following.{Follows}
+use Rattle.search_forms.specs.OfRunSteps.Does.{Does}
+use Rattle.search_forms.specs.OfRunSteps.Following.{Follows}
 use Rattle.run_values.specs.declared.stop.Stop.{Stop}
 
 -- one after another, in either grouping

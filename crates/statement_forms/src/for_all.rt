@@ -5,19 +5,19 @@ ghost use Rattle.checked_tree.specs.Tasks.{work_of};
 ghost use Rattle.comet_meaning.specs.Levels as levels;
 ghost use Rattle.comet_meaning.specs.Loops.{for_all_form, visited};
 ghost use Rattle.comet_meaning.specs.Program.{level};
-ghost use Rattle.run_steps.specs.Does.{Does};
-ghost use Rattle.run_steps.specs.Views.{flow_seen};
-ghost use Rattle.run_state.specs.Views.{state_seen};
+ghost use Rattle.search_forms.specs.OfRunSteps.Does.{Does};
+ghost use Rattle.search_forms.specs.OfRunSteps.Views.{flow_seen};
+ghost use Rattle.search_forms.specs.OfRunState.Views.{state_seen};
 
 use cbl_base::Place;
 use checked_tree::{Generator, Task, Typed};
-use declaration_forms::evaluating::expressions::{condition, value_of};
-use declaration_forms::evaluating::tuples::next_tuple;
-use run_state::{Outside, State};
-use run_steps::code::Flow;
-use run_steps::inside::Within;
-use run_steps::tuples::{Tuples, pending_of};
 use run_values::Stop;
+use search_forms::declaring::evaluating::expressions::{condition, value_of};
+use search_forms::declaring::evaluating::tuples::next_tuple;
+use search_forms::state_of_runs::{Outside, State};
+use search_forms::steps_of_runs::code::Flow;
+use search_forms::steps_of_runs::inside::Within;
+use search_forms::steps_of_runs::tuples::{Tuples, pending_of};
 
 /// A `forall`: the body for each tuple, to the first that returns.
 pub(crate) fn execute_for_all<O: Outside, W: Within<O>>(

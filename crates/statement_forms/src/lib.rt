@@ -9,9 +9,12 @@ mod for_all;
 mod loops;
 mod printing;
 
-pub use declaration_forms::evaluating as evaluating;
+pub use search_forms::declaring::evaluating as evaluating;
 
 pub mod statements;
 pub mod targets;
 mod together;
 mod writes;
+
+pub use run_values as values_of_runs;
+pub use search_forms::{state_of_runs as state_of_runs, steps_of_runs as steps_of_runs};

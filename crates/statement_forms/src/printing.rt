@@ -3,16 +3,16 @@ ghost use Rattle.std.specs.Prelude.{◌≡◌, ℕ, List, map};
 ghost use Rattle.checked_tree.specs.Actions.{printed_of};
 ghost use Rattle.comet_meaning.specs.Printing.{print_form, shown_form};
 ghost use Rattle.comet_meaning.specs.Program.{level};
-ghost use Rattle.run_steps.specs.Does.{Does};
-ghost use Rattle.run_state.specs.Views.{state_seen};
+ghost use Rattle.search_forms.specs.OfRunSteps.Does.{Does};
+ghost use Rattle.search_forms.specs.OfRunState.Views.{state_seen};
 
 use checked_tree::Printed;
-use declaration_forms::evaluating::expressions::value_of;
-use run_state::out::print;
-use run_state::{Outside, State};
-use run_steps::effects::show_part;
-use run_steps::inside::Within;
 use run_values::Stop;
+use search_forms::declaring::evaluating::expressions::value_of;
+use search_forms::state_of_runs::out::print;
+use search_forms::state_of_runs::{Outside, State};
+use search_forms::steps_of_runs::effects::show_part;
+use search_forms::steps_of_runs::inside::Within;
 
 /// Evaluates and prints items, each before the next one.
 pub(crate) fn print_all<O: Outside, W: Within<O>>(

@@ -7,9 +7,9 @@ ghost use Rattle.comet_meaning.specs.Limits.{most_depth};
 ghost use Rattle.comet_meaning.specs.Loops.{if_form, if_else_form, tasks_form};
 ghost use Rattle.comet_meaning.specs.Program.{level};
 ghost use Rattle.comet_meaning.specs.Statements.{action_form, alone_form, deed_form, meaning_of_form, return_form};
-ghost use Rattle.run_steps.specs.Does.{Does};
-ghost use Rattle.run_steps.specs.Views.{flow_seen};
-ghost use Rattle.run_state.specs.Views.{state_seen};
+ghost use Rattle.search_forms.specs.OfRunSteps.Does.{Does};
+ghost use Rattle.search_forms.specs.OfRunSteps.Views.{flow_seen};
+ghost use Rattle.search_forms.specs.OfRunState.Views.{state_seen};
 
 use crate::for_all::execute_for_all;
 use crate::loops::{execute_for, execute_while};
@@ -18,16 +18,16 @@ use crate::together::execute_together;
 use crate::writes::{step_target, swap_values, write_value};
 use cbl_base::Place;
 use checked_tree::{Act, Action, Task, Typed};
-use declaration_forms::array_declarations::declare_array;
-use declaration_forms::declarations::{declare, declare_variable};
-use declaration_forms::evaluating::expressions::{truth_of, value_of};
-use declaration_forms::objects::declare_object;
-use run_state::{Outside, State};
-use run_steps::code::Flow;
-use run_steps::effects::{as_done, as_next, as_returned};
-use run_steps::inside::{Around, Within};
-use run_steps::leaves::returned;
 use run_values::Stop;
+use search_forms::declaring::array_declarations::declare_array;
+use search_forms::declaring::declarations::{declare, declare_variable};
+use search_forms::declaring::evaluating::expressions::{truth_of, value_of};
+use search_forms::declaring::objects::declare_object;
+use search_forms::state_of_runs::{Outside, State};
+use search_forms::steps_of_runs::code::Flow;
+use search_forms::steps_of_runs::effects::{as_done, as_next, as_returned};
+use search_forms::steps_of_runs::inside::{Around, Within};
+use search_forms::steps_of_runs::leaves::returned;
 use search_forms::{
     call_move, execute_neighbor, execute_select, execute_select_by, execute_whenever,
 };

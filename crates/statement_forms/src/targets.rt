@@ -3,20 +3,20 @@ ghost use Rattle.std.specs.Prelude.{◌≡◌, ℕ, List, []};
 ghost use Rattle.checked_tree.specs.Shape.{shape_of};
 ghost use Rattle.comet_meaning.specs.Program.{level};
 ghost use Rattle.comet_meaning.specs.Writes as writes;
-ghost use Rattle.run_steps.specs.Does.{Does};
-ghost use Rattle.run_steps.specs.Inside.{Locates};
-ghost use Rattle.run_steps.specs.Views.{part};
-ghost use Rattle.run_state.specs.Targets.{target_seen};
-ghost use Rattle.run_state.specs.Views.{state_seen};
+ghost use Rattle.search_forms.specs.OfRunSteps.Does.{Does};
+ghost use Rattle.search_forms.specs.OfRunSteps.Inside.{Locates};
+ghost use Rattle.search_forms.specs.OfRunSteps.Views.{part};
+ghost use Rattle.search_forms.specs.OfRunState.Targets.{target_seen};
+ghost use Rattle.search_forms.specs.OfRunState.Views.{state_seen};
 
 use cbl_base::Place;
 use checked_tree::{Form, Kind, Typed};
-use declaration_forms::evaluating::expressions::{number_of, value_of};
-use run_state::{Outside, State, Target};
-use run_steps::inside::{Around, Within};
-use run_steps::operands::{target_in_array, target_in_grid};
-use run_steps::plain::plain_target;
 use run_values::Stop;
+use search_forms::declaring::evaluating::expressions::{number_of, value_of};
+use search_forms::state_of_runs::{Outside, State, Target};
+use search_forms::steps_of_runs::inside::{Around, Within};
+use search_forms::steps_of_runs::operands::{target_in_array, target_in_grid};
+use search_forms::steps_of_runs::plain::plain_target;
 
 /// What an expression of this kind at this place stands for, by its form.
 #[tactic(auto, unfolding(checked_tree::specs::Shape::shape_of, comet_meaning::specs::Writes::target_of_form))]

@@ -4,21 +4,21 @@ ghost use Rattle.checked_tree.specs.Tasks.{work_of};
 ghost use Rattle.comet_meaning.specs.Blocks.{together_form};
 ghost use Rattle.comet_meaning.specs.Program.{level};
 ghost use Rattle.comet_meaning.specs.Values.{solver_of};
-ghost use Rattle.run_objects.specs.WithBlocks.{block};
-ghost use Rattle.run_state.specs.Views.{state_seen};
-ghost use Rattle.run_steps.specs.Does.{Does};
-ghost use Rattle.run_steps.specs.Views.{flow_seen};
+ghost use Rattle.search_forms.specs.OfRunObjects.WithBlocks.{block};
+ghost use Rattle.search_forms.specs.OfRunState.Views.{state_seen};
+ghost use Rattle.search_forms.specs.OfRunSteps.Does.{Does};
+ghost use Rattle.search_forms.specs.OfRunSteps.Views.{flow_seen};
 ghost use Rattle.run_values.specs.Views.{value_seen};
 
 use cbl_base::Place;
 use checked_tree::{Slot, Task};
-use event_forms::behind_block;
-use run_objects::open_with;
-use run_state::{Outside, State};
-use run_steps::blocks::commit_part;
-use run_steps::code::Flow;
-use run_steps::inside::Within;
 use run_values::{Stop, Value};
+use search_forms::noticing::behind_block;
+use search_forms::objects_of_runs::open_with;
+use search_forms::state_of_runs::{Outside, State};
+use search_forms::steps_of_runs::blocks::commit_part;
+use search_forms::steps_of_runs::code::Flow;
+use search_forms::steps_of_runs::inside::Within;
 
 /// A `with` on the solver that a name has. `NotClosed` at this place exactly where the solver is open.
 pub(crate) fn execute_together<O: Outside, W: Within<O>>(

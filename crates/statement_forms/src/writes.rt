@@ -8,23 +8,25 @@ ghost use Rattle.comet_meaning.specs.Parts as parts;
 ghost use Rattle.comet_meaning.specs.Program.{level};
 ghost use Rattle.comet_meaning.specs.Values.{as_kind};
 ghost use Rattle.comet_meaning.specs.Writes.{add_form, assign_form, define_form, step_form, swap_form, write, write_form};
-ghost use Rattle.run_steps.specs.Does.{Does};
-ghost use Rattle.run_state.specs.Targets.{target_seen};
-ghost use Rattle.run_state.specs.Views.{state_seen};
-ghost use Rattle.run_steps.specs.Views.{part};
+ghost use Rattle.search_forms.specs.OfRunSteps.Does.{Does};
+ghost use Rattle.search_forms.specs.OfRunState.Targets.{target_seen};
+ghost use Rattle.search_forms.specs.OfRunState.Views.{state_seen};
+ghost use Rattle.search_forms.specs.OfRunSteps.Views.{part};
 
 use crate::targets::target_of;
 use cbl_base::Place;
 use checked_tree::{Kind, Slot, Typed};
 use comet_syntax::tree::{Step, WriteOperator};
-use declaration_forms::evaluating::expressions::{number_of, other_value_of, value_of};
-use declaration_forms::evaluating::parts::single_term;
-use event_forms::behind_commit;
-use run_state::{Outside, State, Target};
-use run_steps::effects::{add_part, assign_part, define_part, step_part, subtract_part, swap_part};
-use run_steps::inside::{Around, Within};
-use run_steps::plain::{number_itself, plain_slot};
 use run_values::{Stop, Value};
+use search_forms::declaring::evaluating::expressions::{number_of, other_value_of, value_of};
+use search_forms::declaring::evaluating::parts::single_term;
+use search_forms::noticing::behind_commit;
+use search_forms::state_of_runs::{Outside, State, Target};
+use search_forms::steps_of_runs::effects::{
+    add_part, assign_part, define_part, step_part, subtract_part, swap_part,
+};
+use search_forms::steps_of_runs::inside::{Around, Within};
+use search_forms::steps_of_runs::plain::{number_itself, plain_slot};
 
 /// `target = value` and its like, at a place.
 #[tactic(auto, unfolding(comet_meaning::specs::Writes::write_form))]

@@ -11,7 +11,7 @@ use Rattle.comet_meaning.specs.Program.{level}
 use Rattle.comet_meaning.specs.Purity.{is_pure, pure_functions}
 use Rattle.comet_meaning.specs.Spending.{IsSpent, Outside, with_outside, leaving, OnlySpends}
 use Rattle.comet_meaning.proofs.SpendingPrograms.{pure_spends}
-use Rattle.run_steps.specs.Does.{Does}
+use Rattle.interpreter.specs.OfRunSteps.Does.{Does}
 use Rattle.run_standing.specs.Seen.{plain_with}
 use Rattle.run_values.specs.Views.{value_seen}
 use Rattle.run_values.specs.declared.values.Value.{Value}

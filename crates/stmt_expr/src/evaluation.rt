@@ -2,16 +2,16 @@
 ghost use Rattle.std.specs.Prelude.{◌≡◌, ℕ, List, true};
 ghost use Rattle.comet_meaning.specs.Program.{level};
 ghost use Rattle.comet_meaning.specs.Purity.{is_pure, pure_functions};
-ghost use Rattle.run_steps.specs.Views.{code_seen, part};
+ghost use Rattle.interpreter.specs.OfRunSteps.Views.{code_seen, part};
 ghost use Rattle.run_standing.specs.Seen.{standing_seen};
 ghost use Rattle.stmt_expr.specs.Evaluation.{Evaluates, answer_seen};
 
 use cbl_base::{Fuel, Place, RunFault, Steps};
 use checked_tree::Typed;
 use interpreter::{Code, evaluate};
-use ls_solver::Trial;
 use run_standing::Standing;
-use run_state::{Bytes, Stage};
+use run_standing::solving::Trial;
+use run_standing::state_of_runs::{Bytes, Stage};
 use run_values::{Stop, Value};
 use std::sync::ledger::Ledger;
 use user_constraint::LocalConstraint;

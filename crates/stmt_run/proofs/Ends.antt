@@ -13,9 +13,9 @@ use Rattle.comet_meaning.specs.Loops.{tasks_form}
 use Rattle.comet_meaning.specs.Onward.{IsFront, left_by}
 use Rattle.comet_meaning.specs.Program.{meant, meaning_of_program, run, level, code_of}
 use Rattle.comet_meaning.specs.Purity.{pure_functions}
-use Rattle.run_steps.specs.Does.{Does}
-use Rattle.run_steps.specs.Views.{flow_seen}
-use Rattle.run_steps.specs.declared.code.Flow.{Flow}
+use Rattle.interpreter.specs.OfRunSteps.Does.{Does}
+use Rattle.interpreter.specs.OfRunSteps.Views.{flow_seen}
+use Rattle.interpreter.specs.OfRunSteps.declared.code.Flow.{Flow}
 use Rattle.run_values.specs.declared.stop.OutStop.{OutStop}
 use Rattle.run_values.specs.declared.stop.OutStop.TheVariants as outputs
 use Rattle.run_values.specs.declared.stop.Stop.{Stop}

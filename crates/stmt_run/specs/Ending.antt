@@ -6,7 +6,7 @@ use Rattle.comet_meaning.specs.Outcome as outcomes
 use Rattle.comet_meaning.specs.Onward.{IsFront}
 use Rattle.comet_meaning.specs.Program.{End, Meant}
 use Rattle.comet_meaning.specs.Program as programs
-use Rattle.run_steps.specs.declared.code.Flow.{Flow}
+use Rattle.interpreter.specs.OfRunSteps.declared.code.Flow.{Flow}
 use Rattle.run_values.specs.declared.stop.OutStop.{OutStop}
 use Rattle.run_values.specs.declared.stop.OutStop.TheVariants as outputs
 use Rattle.run_values.specs.declared.stop.Stop.{Stop}

@@ -1,7 +1,7 @@
 //! Outputs that can tell how often they have failed.
 ghost use Rattle.std.specs.Prelude.{◌≡◌};
 
-use run_state::{Bytes, Out};
+use run_standing::state_of_runs::{Bytes, Out};
 
 /// An output that counts its failures.
 pub trait CountedOut: Out {

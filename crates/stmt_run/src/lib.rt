@@ -9,3 +9,5 @@ mod execution;
 
 pub use counted::CountedOut;
 pub use execution::{Ended, RunEnd, run};
+pub use run_standing as standing_of_runs;
+pub use run_standing::{outside_of_runs as outside_of_runs, state_of_runs as state_of_runs};

@@ -27,11 +27,11 @@ use Rattle.comet_meaning.proofs.Rows.{items_rows}
 use Rattle.comet_meaning.proofs.TupleSteps as steps
 use Rattle.comet_meaning.proofs.TupleStack.{IsGenerator, is_generator, tuples_none, tuples_open}
 use Rattle.run_values.specs.declared.stop.Stop.{Stop}
-use Rattle.run_steps.specs.Does.{Ends}
-use Rattle.run_steps.specs.OpenTuples.{bodies, Visits, Remains, Found}
-use Rattle.run_steps.specs.Views.{generators_seen}
-use Rattle.run_steps.proofs.Exits.{ends_passes}
-use Rattle.run_steps.proofs.Forms.{generator_is}
+use Rattle.expression_forms.specs.OfRunSteps.Does.{Ends}
+use Rattle.expression_forms.specs.OfRunSteps.OpenTuples.{bodies, Visits, Remains, Found}
+use Rattle.expression_forms.specs.OfRunSteps.Views.{generators_seen}
+use Rattle.expression_forms.proofs.OfRunSteps.Exits.{ends_passes}
+use Rattle.expression_forms.proofs.OfRunSteps.Forms.{generator_is}
 use Rattle.term_forms.specs.Bodies.{body_node, body_seen, body_terms, extreme_node}
 use Rattle.term_forms.specs.declared.bodies.Body.{Body}
 

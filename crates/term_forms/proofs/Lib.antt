@@ -3,3 +3,4 @@ pub mod ChainLaws
 pub mod IndexLaws
 pub mod BodyLaws
 pub mod CallLaws
+pub mod OfRunSteps

@@ -5,10 +5,10 @@ ghost use Rattle.comet_meaning.specs.Outcome.{always};
 ghost use Rattle.comet_meaning.specs.Parts as parts;
 ghost use Rattle.comet_meaning.specs.Program.{level};
 ghost use Rattle.comet_meaning.specs.TermForms as forms;
-ghost use Rattle.run_state.specs.InTerms.{in_term_seen};
-ghost use Rattle.run_state.specs.Views.{state_seen};
-ghost use Rattle.run_steps.specs.Does.{Does};
-ghost use Rattle.run_steps.specs.Views.{generators_seen, part, part_or_none};
+ghost use Rattle.expression_forms.specs.OfRunState.InTerms.{in_term_seen};
+ghost use Rattle.expression_forms.specs.OfRunState.Views.{state_seen};
+ghost use Rattle.expression_forms.specs.OfRunSteps.Does.{Does};
+ghost use Rattle.expression_forms.specs.OfRunSteps.Views.{generators_seen, part, part_or_none};
 ghost use Rattle.term_forms.specs.Bodies.{body_seen};
 
 use crate::bodies::{Body, aggregated, push_body};
@@ -17,10 +17,10 @@ use checked_tree::{Generator, Typed};
 use comet_syntax::tree::Aggregate;
 use expression_forms::expressions::{truth_of, value_of};
 use expression_forms::parts::single_term;
+use expression_forms::state_of_runs::{InTerm, Outside, State};
+use expression_forms::steps_of_runs::inside::{Defining, Within};
+use expression_forms::steps_of_runs::tuples::{Tuples, pending_of};
 use expression_forms::tuples::next_tuple;
-use run_state::{InTerm, Outside, State};
-use run_steps::inside::{Defining, Within};
-use run_steps::tuples::{Tuples, pending_of};
 use run_values::Stop;
 
 /// What an aggregate stands for in a term. The names of its generators end with it.

@@ -3,9 +3,9 @@ ghost use Rattle.std.specs.Prelude.{◌≡◌, ℕ, List, []};
 ghost use Rattle.checked_tree.specs.declared.expressions.Builtin.TheVariants.{Count};
 ghost use Rattle.comet_meaning.specs.Program.{level};
 ghost use Rattle.comet_meaning.specs.TermForms as forms;
-ghost use Rattle.run_state.specs.Views.{state_seen};
-ghost use Rattle.run_steps.specs.Does.{Does};
-ghost use Rattle.run_steps.specs.Views.{part, row};
+ghost use Rattle.expression_forms.specs.OfRunState.Views.{state_seen};
+ghost use Rattle.expression_forms.specs.OfRunSteps.Does.{Does};
+ghost use Rattle.expression_forms.specs.OfRunSteps.Views.{part, row};
 ghost use Rattle.term_forms.specs.Steps.{plain_call};
 
 use crate::nodes::{call_with, count_with};
@@ -13,9 +13,9 @@ use crate::parts::terms_of;
 use cbl_base::Place;
 use checked_tree::{Builtin, Typed};
 use expression_forms::parts::{single_term, term_cells};
-use run_solvers::Built;
-use run_state::{Outside, State};
-use run_steps::inside::Defining;
+use expression_forms::solvers_of_runs::Built;
+use expression_forms::state_of_runs::{Outside, State};
+use expression_forms::steps_of_runs::inside::Defining;
 use run_values::Stop;
 
 /// A call of a function of the language.

@@ -15,3 +15,8 @@ pub mod nodes;
 pub mod operators;
 pub mod parts;
 pub mod terms;
+
+pub use expression_forms::{
+    solvers_of_runs as solvers_of_runs, state_of_runs as state_of_runs,
+    steps_of_runs as steps_of_runs,
+};

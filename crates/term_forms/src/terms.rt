@@ -4,12 +4,12 @@ ghost use Rattle.checked_tree.specs.Shape.{shape_of};
 ghost use Rattle.comet_meaning.specs.Program.{level};
 ghost use Rattle.comet_meaning.specs.TermForms as forms;
 ghost use Rattle.comet_meaning.specs.Terms.{Single};
-ghost use Rattle.model_view.specs.Building.{constant};
-ghost use Rattle.run_state.specs.InTerms.{in_term_seen};
-ghost use Rattle.run_state.specs.Views.{state_seen};
-ghost use Rattle.run_steps.specs.Does.{Does};
-ghost use Rattle.run_steps.specs.Parts.{constant_form};
-ghost use Rattle.run_steps.specs.Views.{code_seen};
+ghost use Rattle.comet_meaning.specs.OfModelView.Building.{constant};
+ghost use Rattle.expression_forms.specs.OfRunState.InTerms.{in_term_seen};
+ghost use Rattle.expression_forms.specs.OfRunState.Views.{state_seen};
+ghost use Rattle.expression_forms.specs.OfRunSteps.Does.{Does};
+ghost use Rattle.expression_forms.specs.OfRunSteps.Parts.{constant_form};
+ghost use Rattle.expression_forms.specs.OfRunSteps.Views.{code_seen};
 
 use crate::aggregates::aggregate_term;
 use crate::arrays::{cell_term, index_term, list_term};
@@ -19,11 +19,11 @@ use crate::operators::{chain_term, compare_term, unary_term};
 use cbl_base::Place;
 use checked_tree::{Form, Kind};
 use expression_forms::expressions::evaluate_form;
-use run_solvers::Built;
-use run_state::{InTerm, Outside, State};
-use run_steps::code::Code;
-use run_steps::inside::Defining;
-use run_steps::operands::{as_standing, name_term};
+use expression_forms::solvers_of_runs::Built;
+use expression_forms::state_of_runs::{InTerm, Outside, State};
+use expression_forms::steps_of_runs::code::Code;
+use expression_forms::steps_of_runs::inside::Defining;
+use expression_forms::steps_of_runs::operands::{as_standing, name_term};
 use run_values::Stop;
 
 /// What an expression without incremental variables stands for: its value now.

@@ -12,11 +12,11 @@ use Rattle.term_model.specs.declared.model.Total.{Total}
 use Rattle.term_model.specs.declared.model.VarDecl.{VarDecl}
 use Rattle.term_model.specs.declared.posting.Side.TheVariants.{Systems, Objectives}
 use Rattle.model_values.specs.declared.wholes.Whole.TheVariants.{System, Objective}
-use Rattle.model_view.specs.Plain.{plain_definition, plain_member, plain_model, plain_total}
-use Rattle.model_view.specs.Vectors.{vec_of}
-use Rattle.model_view.proofs.PlainModels.{mapped_items, plain_posted, plain_totals}
-use Rattle.model_view.proofs.PlainSubterms.{map_append}
-use Rattle.model_view.proofs.PlainTerms.{length_map}
+use Rattle.comet_meaning.specs.OfModelView.Plain.{plain_definition, plain_member, plain_model, plain_total}
+use Rattle.comet_meaning.specs.OfModelView.Vectors.{vec_of}
+use Rattle.comet_meaning.proofs.OfModelView.PlainModels.{mapped_items, plain_posted, plain_totals}
+use Rattle.comet_meaning.proofs.OfModelView.PlainSubterms.{map_append}
+use Rattle.comet_meaning.proofs.OfModelView.PlainTerms.{length_map}
 use Rattle.comet_meaning.specs.Members.{empty_total, grown, next_member, total_in, with_grown, with_member, with_objective, with_system}
 
 abbrev of_lists : List VarDecl → List Definition → List Total → List Total → List Posted → Model

@@ -12,10 +12,10 @@ use Rattle.model_values.specs.Outcomes.{Outcome, gathered}
 use Rattle.model_values.specs.Support.{member_in}
 use Rattle.model_values.specs.VarOutcomes.{outcome_of_var}
 use Rattle.model_values.specs.declared.wholes.Whole.TheVariants.{System}
-use Rattle.violation_shares.specs.VariableViolations.{Weighed, answered, arguments_of, gather_violation, node_share, none_weighed, share_of, share_step, variable_violations_of, violation_in_system, weigh_posted, weighed_in, weighted_violation, with_member}
-use Rattle.model_view.specs.Plain.{plain_term, plain_member, plain_model}
-use Rattle.model_view.proofs.PlainModels.{plain_posted, same_member_in, same_outcomes}
-use Rattle.model_view.proofs.PlainTerms.{same_fold}
+use Rattle.comet_meaning.specs.OfViolationShares.VariableViolations.{Weighed, answered, arguments_of, gather_violation, node_share, none_weighed, share_of, share_step, variable_violations_of, violation_in_system, weigh_posted, weighed_in, weighted_violation, with_member}
+use Rattle.comet_meaning.specs.OfModelView.Plain.{plain_term, plain_member, plain_model}
+use Rattle.comet_meaning.proofs.OfModelView.PlainModels.{plain_posted, same_member_in, same_outcomes}
+use Rattle.comet_meaning.proofs.OfModelView.PlainTerms.{same_fold}
 use Rattle.total_view.proofs.PlainTotals.{same_depends, same_value_of}
 
 same_share : (users : ℕ → NumberRule) (env : ℕ → Outcome) (depends : ℕ → Bool) (t : Term) → share_of users env depends (plain_term t) ≡ share_of users env depends t

@@ -32,11 +32,11 @@ use Rattle.model_values.specs.declared.deltas.Move.TheVariants.{Assign, Swap}
 use Rattle.model_values.specs.declared.failure.Failure.{Failure}
 use Rattle.model_values.specs.declared.wholes.Whole.{Whole}
 use Rattle.model_values.specs.declared.wholes.Whole.TheVariants.{System, Objective}
-use Rattle.model_view.specs.Plain.{plain_term, plain_definition, plain_member, plain_total, plain_model}
-use Rattle.model_view.proofs.Dependencies.{same_named}
-use Rattle.model_view.proofs.PlainModels.{first_same, joined_posted, plain_defs, plain_posted, plain_totals, plain_vars, same_definition, same_distinct, same_member_in, same_outcomes, sum_same}
-use Rattle.model_view.proofs.PlainParts.{same_vars}
-use Rattle.model_view.proofs.PlainSubterms.{any_plain}
+use Rattle.comet_meaning.specs.OfModelView.Plain.{plain_term, plain_definition, plain_member, plain_total, plain_model}
+use Rattle.comet_meaning.proofs.OfModelView.Dependencies.{same_named}
+use Rattle.comet_meaning.proofs.OfModelView.PlainModels.{first_same, joined_posted, plain_defs, plain_posted, plain_totals, plain_vars, same_definition, same_distinct, same_member_in, same_outcomes, sum_same}
+use Rattle.comet_meaning.proofs.OfModelView.PlainParts.{same_vars}
+use Rattle.comet_meaning.proofs.OfModelView.PlainSubterms.{any_plain}
 
 -- which variables depend on one
 

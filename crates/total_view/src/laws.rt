@@ -7,12 +7,12 @@ ghost use Rattle.model_values.specs.Delta.{delta_of, value_of};
 ghost use Rattle.model_values.specs.declared.deltas.Move.{Move};
 ghost use Rattle.model_values.specs.declared.wholes.Whole.{Whole};
 ghost use Rattle.model_values.specs.declared.wholes.Whole.TheVariants.{Objective, System};
-ghost use Rattle.model_view.specs.Plain.{plain_member, plain_model};
+ghost use Rattle.comet_meaning.specs.OfModelView.Plain.{plain_member, plain_model};
 ghost use Rattle.term_model.specs.declared.model.Member.{Member};
 ghost use Rattle.term_model.specs.declared.model.Model.{Model};
 ghost use Rattle.term_model.specs.declared.model.Posted.TheVariants.{Constrain, Part};
 ghost use Rattle.term_model.specs.declared.model.Total.{Total};
-ghost use Rattle.violation_shares.specs.VariableViolations.{variable_violations_of};
+ghost use Rattle.comet_meaning.specs.OfViolationShares.VariableViolations.{variable_violations_of};
 
 /// Systems and objectives have the values, the deltas and the variables' violations that they have where it isn't told
 /// where lists lie.

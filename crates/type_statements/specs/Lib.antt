@@ -1,3 +1,4 @@
 pub mod Inside
 pub mod Statements
 pub mod View
+pub mod OfTypeHeads

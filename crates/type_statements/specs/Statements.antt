@@ -25,7 +25,7 @@ use Rattle.type_expressions.specs.Expressions.{Judge, judge, Generating, judge_g
 use Rattle.type_declarations.specs.Parts.{ruled}
 use Rattle.type_declarations.specs.Declarations.{declaration_form, declaration_place}
 use Rattle.type_heads.specs.Heads.{Does, deed_form, acted_form, truth_fault, head_form, chosen_form, condition_fault, key_fault, written_name, apart, events_form, watched_form, in_parall, shared_form}
-use Rattle.type_simples.specs.Simples.{simple_form, return_form}
+use Rattle.type_heads.specs.OfTypeSimples.Simples.{simple_form, return_form}
 
 -- a statement inside another one, in a scope of its own
 unfoldable pub within_own : Does → Does

@@ -4,3 +4,5 @@
 #![tactic(auto)]
 
 pub mod laws;
+
+pub use comet_types as typing_programs;

@@ -7,9 +7,9 @@ ghost use Rattle.model_values.specs.Settling.{AreTables};
 ghost use Rattle.term_model.specs.Wellformed.{IsWellFormed};
 
 use cbl_base::NoMemory;
+use model_values::computing::UserValues;
 use model_values::dependence::is_one_marked;
 use model_values::settling::Tables;
-use operation_values::UserValues;
 use term_model::order_of;
 
 /// Whether a variable is `var`, or names one that has a mark.

@@ -13,9 +13,9 @@ ghost use Rattle.violation_shares.specs.VariableViolations.{combination_of, gath
 use cbl_base::{Input, NoMemory, RunFault};
 use cbl_operations::{Op, greatest_value};
 use cbl_violations::all_of_violations;
+use model_values::computing::{UserValues, number_of, value_of, violation_at};
 use model_values::dependence::is_marked;
 use model_values::evaluation::{Outcome, Setting, copied_set, gather, outcome_at};
-use operation_values::{UserValues, number_of, value_of, violation_at};
 use std::alloc::Global;
 use term_model::Term;
 

@@ -14,11 +14,11 @@ use crate::shares::{gather_violation, term_share};
 use cbl_base::{NoMemory, RunFault};
 use cbl_violations::weighted_total_value;
 use model_values::asked::AskStop;
+use model_values::computing::UserValues;
 use model_values::deltas::whole_outcome;
 use model_values::evaluation::Setting;
 use model_values::settling::{outcomes_of, tables_of};
 use model_values::wholes::{Sum, Whole, member_in, place_of};
-use operation_values::UserValues;
 use std::alloc::Global;
 use term_model::{Model, Posted};
 

@@ -1,7 +1,7 @@
 use Rattle.std.proofs.Common.{◌≡◌, subst}
 use Rattle.checked_tree.specs.Tasks.{program_of}
 use Rattle.comet_meaning.specs.Program.{run}
-use Rattle.run_standing.specs.Seen.{standing_seen}
+use Rattle.stmt_run.specs.OfRunStanding.Seen.{standing_seen}
 use Rattle.stmt_run.specs.Ending.{EndsAs}
 use Rattle.comet.proofs.Ending.{front_of_front, prints_front}
 use Rattle.comet.proofs.Pieces.{whole_front}

@@ -4,8 +4,8 @@ use Rattle.std.specs.Prelude.{[]}
 use Rattle.cbl_io.specs.Appended.{Appends, AppendsFront}
 use Rattle.checked_tree.specs.Tasks.{program_of}
 use Rattle.comet_meaning.specs.Program.{run}
-use Rattle.run_outside.specs.HandedIn.{users_seen}
-use Rattle.run_standing.specs.Seen.{standing_seen}
+use Rattle.stmt_run.specs.OfRunOutside.HandedIn.{users_seen}
+use Rattle.stmt_run.specs.OfRunStanding.Seen.{standing_seen}
 use Rattle.comet.specs.Output.{start_with}
 use Rattle.comet.specs.Status.{cause_of}
 use Rattle.comet.proofs.Pieces.{appends_nothing}

@@ -3,8 +3,8 @@ use Rattle.comet_meaning.specs.Program.{level}
 use Rattle.comet_meaning.proofs.GoingStatements.{goes_level}
 use Rattle.event_forms.specs.Bindings.{bound_by}
 use Rattle.event_forms.proofs.QueueLaws.{closure_ends, closure_unbound, closure_went, goes_bound}
-use Rattle.run_search.specs.Searches.{closure_seen}
-use Rattle.run_state.specs.Views.{state_seen}
+use Rattle.run_steps.specs.OfRunSearch.Searches.{closure_seen}
+use Rattle.run_steps.specs.OfRunState.Views.{state_seen}
 use Rattle.run_steps.proofs.Exits.{act_ends, exit}
 use Rattle.run_steps.proofs.Trees.{work_of_task}
 use Rattle.event_forms.proofs.closures.run_closure.Goals as goal

@@ -6,8 +6,8 @@ use Rattle.comet_meaning.specs.Program.{level}
 use Rattle.comet_meaning.specs.Search.{no_reaction}
 use Rattle.comet_meaning.proofs.GoingEvents.{goes_react}
 use Rattle.comet_meaning.proofs.GoingStatements.{goes_level}
-use Rattle.run_search.specs.Searches.{event_seen}
-use Rattle.run_state.specs.Views.{state_seen}
+use Rattle.run_steps.specs.OfRunSearch.Searches.{event_seen}
+use Rattle.run_steps.specs.OfRunState.Views.{state_seen}
 use Rattle.run_steps.specs.Does.{Ends}
 use Rattle.run_steps.proofs.Exits.{exit}
 use Rattle.run_steps.proofs.Stops.{unprinted}

@@ -1,7 +1,7 @@
 -- The run of the queue ended the run of the program, or the queue was run.
 use Rattle.comet_meaning.specs.Program.{level}
 use Rattle.event_forms.proofs.QueueLaws.{all_run, all_stops}
-use Rattle.run_state.specs.Views.{state_seen}
+use Rattle.run_steps.specs.OfRunState.Views.{state_seen}
 use Rattle.run_steps.proofs.Exits.{exit}
 use Rattle.event_forms.proofs.queue.run_all.Goals as goal
 

@@ -5,8 +5,8 @@ use Rattle.comet_meaning.proofs.GoingEvents.{goes_next_event}
 use Rattle.comet_meaning.proofs.GoingStatements.{goes_level}
 use Rattle.comet_meaning.proofs.QueueTurns.{takes_event}
 use Rattle.event_forms.proofs.QueueLaws.{event_ends, event_went, no_event}
-use Rattle.run_search.specs.Searches.{event_seen, search_seen}
-use Rattle.run_state.specs.Views.{state_seen}
+use Rattle.run_steps.specs.OfRunSearch.Searches.{event_seen, search_seen}
+use Rattle.run_steps.specs.OfRunState.Views.{state_seen}
 use Rattle.run_steps.proofs.Exits.{exit}
 use Rattle.run_steps.proofs.Steps.{turn_ends, turn_goes_on, turn_spends, turn_stops}
 use Rattle.event_forms.proofs.queue.run_events.Goals as goal

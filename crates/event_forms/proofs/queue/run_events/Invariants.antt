@@ -1,7 +1,7 @@
 use Rattle.comet_meaning.specs.Events.{next_event}
 use Rattle.comet_meaning.specs.Loops.{repeated}
 use Rattle.comet_meaning.specs.Program.{level}
-use Rattle.run_state.specs.Views.{state_seen}
+use Rattle.run_steps.specs.OfRunState.Views.{state_seen}
 use Rattle.run_steps.proofs.Steps.{TurnsLeft}
 use Rattle.event_forms.proofs.queue.run_events.Given as goal
 

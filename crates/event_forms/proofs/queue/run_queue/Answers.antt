@@ -2,7 +2,7 @@
 use Rattle.std.proofs.Common.{sym, ◌∙◌}
 use Rattle.comet_meaning.specs.Program.{level}
 use Rattle.event_forms.proofs.QueueLaws.{queue_idle, queue_runs}
-use Rattle.run_state.specs.Views.{state_seen}
+use Rattle.run_steps.specs.OfRunState.Views.{state_seen}
 use Rattle.event_forms.proofs.queue.run_queue.Goals as goal
 
 pub returns-then-is_running : goal.returns-then-is_running

@@ -2,9 +2,9 @@ use Rattle.std.proofs.Common.{rules, FitsSigned, w64, subst}
 use Rattle.std.proofs.lemmas.Int.{to_z-of_z}
 use Rattle.comet_meaning.specs.Parts.{value}
 use Rattle.comet_meaning.specs.Program.{level}
-use Rattle.run_state.specs.Views.{state_seen}
-use Rattle.run_steps.specs.Does.{Does}
-use Rattle.run_steps.specs.Views.{part}
+use Rattle.event_forms.specs.OfRunState.Views.{state_seen}
+use Rattle.event_forms.specs.OfRunSteps.Does.{Does}
+use Rattle.event_forms.specs.OfRunSteps.Views.{part}
 use Rattle.run_values.specs.Views.{value_seen}
 use Rattle.expression_forms.proofs.expressions.called_value_of.Goals as goal
 

@@ -1,5 +1,5 @@
 use Rattle.std.proofs.Common.{sym, subst}
-use Rattle.run_steps.specs.Does.{Does}
+use Rattle.event_forms.specs.OfRunSteps.Does.{Does}
 use Rattle.expression_forms.proofs.PostLaws.{constraint_moves, constraint_stays}
 use Rattle.expression_forms.proofs.parts.constraint_part.Goals as goal
 

@@ -1,12 +1,12 @@
 use Rattle.std.proofs.Common.{◌≡◌, ◌+◌, subst, arith, length, get_or, w64}
-use Rattle.run_steps.specs.OpenTuples.{pending_seen}
+use Rattle.event_forms.specs.OfRunSteps.OpenTuples.{pending_seen}
 use Rattle.std.proofs.lemmas.Int.{to_z-of_z}
-use Rattle.run_steps.proofs.TupleLaws.{tuple_found, tuple_ends, opening_ends, domain_ends, next_opens, remains_front, entered_push, entering_ends, went_fuel, get_or_again}
+use Rattle.event_forms.proofs.OfRunSteps.TupleLaws.{tuple_found, tuple_ends, opening_ends, domain_ends, next_opens, remains_front, entered_push, entering_ends, went_fuel, get_or_again}
 use Rattle.comet_meaning.proofs.TupleSteps.{goes_begun}
 use Rattle.run_values.specs.declared.stop.Stop.TheVariants.{NoMemory}
 use Rattle.comet_meaning.proofs.GoingParts.{goes_value}
 use Rattle.comet_meaning.proofs.GoingStatements.{goes_level}
-use Rattle.run_steps.proofs.Exits.{act_ends}
+use Rattle.event_forms.proofs.OfRunSteps.Exits.{act_ends}
 use Rattle.expression_forms.proofs.tuples.enter.Goals as goal
 
 pub returns-in_err-begin-clause-did : goal.returns-in_err-begin-clause-did

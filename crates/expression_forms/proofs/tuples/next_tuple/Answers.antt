@@ -1,7 +1,7 @@
 use Rattle.std.proofs.Common.{◌≡◌, sym, ap, arith, [], ◌∷◌, ◌++◌, length}
 use Rattle.std.proofs.lemmas.List.{length_push}
-use Rattle.run_steps.specs.OpenTuples.{pending_seen}
-use Rattle.run_steps.proofs.TupleLaws.{all_close, one_closes, empty}
+use Rattle.event_forms.specs.OfRunSteps.OpenTuples.{pending_seen}
+use Rattle.event_forms.proofs.OfRunSteps.TupleLaws.{all_close, one_closes, empty}
 use Rattle.expression_forms.proofs.tuples.next_tuple.Goals as goal
 
 pub loop-value-preserved-in-Some-pop : goal.loop-value-preserved-in-Some-pop

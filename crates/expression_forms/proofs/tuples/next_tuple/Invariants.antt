@@ -1,7 +1,7 @@
-use Rattle.run_steps.specs.OpenTuples.{Visits, Remains, bounds_of, stack_seen}
+use Rattle.event_forms.specs.OfRunSteps.OpenTuples.{Visits, Remains, bounds_of, stack_seen}
 use Rattle.std.proofs.Common.{◌≤◌, ◌<◌, ◌+◌, ◌*◌, length}
 use Rattle.comet_meaning.specs.Program.{level}
-use Rattle.run_state.specs.Views.{state_seen}
+use Rattle.event_forms.specs.OfRunState.Views.{state_seen}
 use Rattle.expression_forms.proofs.tuples.next_tuple.Given as goal
 
 abbrev pub invariant-loop-value : goal.invariant-loop-value

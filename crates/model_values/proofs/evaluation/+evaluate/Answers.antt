@@ -2,7 +2,7 @@ use Rattle.std.proofs.Common.{rules, ◌<◌, ◌≡◌, ◌∙◌, ◌≤◌, �
 use Rattle.std.specs.Prelude.{filter}
 use Rattle.std.proofs.lemmas.List.{take_all}
 use Rattle.cbl_base.specs.Inputs.{kinds_of}
-use Rattle.cbl_operations.specs.RuleOf.{rule_of}
+use Rattle.operation_values.specs.OfCblOperations.RuleOf.{rule_of}
 use Rattle.model_values.specs.Failing.{AreFailing}
 use Rattle.model_values.specs.Failures.{failure_by, failure_in, fails}
 use Rattle.model_values.specs.Outcomes.{AreKinds, env_of, gathered, listed, outcome_of}

@@ -1,6 +1,6 @@
 -- Of what is no variable nothing is given.
 use Rattle.run_objects.proofs.SystemLaws.{swapped_nothing}
-use Rattle.run_outside.specs.Told.{beside}
+use Rattle.run_state.specs.OfRunOutside.Told.{beside}
 use Rattle.run_objects.proofs.systems.delta_of_swapped.Goals as goal
 
 pub returns-in-Variable-clause-did : goal.returns-in-Variable-clause-did

@@ -1,5 +1,5 @@
 use Rattle.std.proofs.Common.{◌≡◌, map, take}
-use Rattle.model_view.specs.Building.{constant}
+use Rattle.comet_meaning.specs.OfModelView.Building.{constant}
 use Rattle.run_state.proofs.standing.constants_of.Given as goal
 
 abbrev pub invariant-loop-number : goal.invariant-loop-number

@@ -1,5 +1,5 @@
 use Rattle.std.proofs.Common.{◌≡◌, map, take}
-use Rattle.model_view.specs.Building.{variable}
+use Rattle.comet_meaning.specs.OfModelView.Building.{variable}
 use Rattle.run_state.proofs.standing.variables_of.Given as goal
 
 abbrev pub invariant-loop-variable : goal.invariant-loop-variable

@@ -6,7 +6,7 @@ use Rattle.comet_meaning.proofs.GoingVariables.{goes_commit_waiting}
 use Rattle.run_steps.specs.Views.{flow_seen}
 use Rattle.run_steps.proofs.Exits.{act_ends, ends_passes}
 use Rattle.run_steps.proofs.Stops.{stays}
-use Rattle.run_state.specs.Views.{state_seen}
+use Rattle.run_objects.specs.OfRunState.Views.{state_seen}
 use Rattle.run_steps.proofs.blocks.close_block.Goals as goal
 
 pub returns-in-Err : goal.returns-in-Err

@@ -1,8 +1,8 @@
 use Rattle.checked_tree.specs.Actions.{variable_of}
 use Rattle.comet_meaning.proofs.GoingOn.{goes_put}
 use Rattle.comet_meaning.proofs.GoingVariables.{goes_variable_in}
-use Rattle.run_solvers.specs.Views.{beginning_seen}
-use Rattle.run_state.specs.Views.{state_seen}
+use Rattle.run_objects.specs.OfRunSolvers.Views.{beginning_seen}
+use Rattle.run_objects.specs.OfRunState.Views.{state_seen}
 use Rattle.run_values.specs.Views.{bounds_seen}
 use Rattle.run_steps.proofs.AggregateLaws.{memory_ends}
 use Rattle.run_steps.proofs.Exits.{act_does, act_exit, after, exit}

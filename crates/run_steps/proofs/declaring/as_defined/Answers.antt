@@ -2,8 +2,8 @@ use Rattle.std.proofs.Common.{refl}
 use Rattle.comet_meaning.specs.Outcome.{give}
 use Rattle.comet_meaning.specs.Variables.{defined}
 use Rattle.comet_meaning.proofs.GoingOn.{goes_give}
-use Rattle.run_solvers.specs.declared.beginning.Beginning.TheVariants.{Defined}
-use Rattle.run_solvers.specs.Views.{beginning_seen}
+use Rattle.run_objects.specs.OfRunSolvers.declared.beginning.Beginning.TheVariants.{Defined}
+use Rattle.run_objects.specs.OfRunSolvers.Views.{beginning_seen}
 use Rattle.term_model.specs.declared.term.Term.{Term}
 use Rattle.run_steps.proofs.Behind.{err_passes, ok_gives}
 use Rattle.run_steps.proofs.declaring.as_defined.Goals as goal

@@ -3,7 +3,7 @@ use Rattle.std.proofs.lemmas.Int.{to_z-of_z}
 use Rattle.comet_meaning.specs.Outcome.{give}
 use Rattle.comet_meaning.specs.Variables.{beginning_with}
 use Rattle.comet_meaning.proofs.GoingOn.{goes_give}
-use Rattle.run_solvers.specs.Views.{beginning_seen}
+use Rattle.run_objects.specs.OfRunSolvers.Views.{beginning_seen}
 use Rattle.run_steps.proofs.Behind.{err_passes, ok_gives}
 use Rattle.run_steps.proofs.declaring.as_free.Goals as goal
 

@@ -1,5 +1,5 @@
 use Rattle.checked_tree.specs.Actions.{variable_of}
-use Rattle.run_solvers.specs.Views.{beginning_seen}
+use Rattle.run_objects.specs.OfRunSolvers.Views.{beginning_seen}
 use Rattle.run_values.specs.Views.{bounds_seen}
 use Rattle.run_steps.specs.Operands.{added_variable}
 use Rattle.run_steps.proofs.Behind.{err_passes, ok_does}

@@ -2,7 +2,7 @@ use Rattle.std.proofs.Common.{refl}
 use Rattle.comet_meaning.specs.Values.{as_kind}
 use Rattle.comet_meaning.specs.Writes.{write}
 use Rattle.comet_meaning.proofs.GoingStatements.{goes_write}
-use Rattle.run_state.specs.Targets.{target_seen}
+use Rattle.run_objects.specs.OfRunState.Targets.{target_seen}
 use Rattle.run_values.specs.Views.{value_seen}
 use Rattle.run_steps.proofs.Behind.{err_passes, ok_acts}
 use Rattle.run_steps.proofs.effects.assign_part.Goals as goal

@@ -2,7 +2,7 @@ use Rattle.std.proofs.Common.{refl}
 use Rattle.comet_meaning.specs.Writes.{defined_at}
 use Rattle.comet_meaning.proofs.GoingStatements.{goes_defined_at}
 use Rattle.term_model.specs.declared.term.Term.{Term}
-use Rattle.run_state.specs.Targets.{target_seen}
+use Rattle.run_objects.specs.OfRunState.Targets.{target_seen}
 use Rattle.run_steps.proofs.Behind.{err_passes, ok_acts}
 use Rattle.run_steps.proofs.effects.define_part.Goals as goal
 

@@ -1,6 +1,6 @@
 use Rattle.comet_meaning.proofs.GoingOn.{goes_then}
 use Rattle.comet_meaning.proofs.GoingStatements.{goes_print, goes_value_text}
-use Rattle.run_state.specs.Acts.{shown}
+use Rattle.run_objects.specs.OfRunState.Acts.{shown}
 use Rattle.run_values.specs.Views.{value_seen}
 use Rattle.run_steps.proofs.Behind.{err_passes, ok_does}
 use Rattle.run_steps.proofs.Steps.{shows}

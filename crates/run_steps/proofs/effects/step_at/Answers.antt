@@ -3,11 +3,11 @@ use Rattle.std.proofs.lemmas.Int.{to_z-of_z}
 use Rattle.comet_meaning.specs.Values.{number_of}
 use Rattle.comet_meaning.specs.Writes.{stepped}
 use Rattle.comet_meaning.proofs.GoingStatements.{goes_changed, goes_old_value}
-use Rattle.run_state.specs.Targets.{target_seen}
+use Rattle.run_objects.specs.OfRunState.Targets.{target_seen}
 use Rattle.run_values.specs.Views.{value_seen}
 use Rattle.run_steps.proofs.Exits.{act_does, act_exit, after}
 use Rattle.run_steps.proofs.Stops.{stays}
-use Rattle.run_state.specs.Views.{state_seen}
+use Rattle.run_objects.specs.OfRunState.Views.{state_seen}
 use Rattle.run_steps.proofs.effects.step_at.Goals as goal
 
 pub returns-in_err-old : goal.returns-in_err-old

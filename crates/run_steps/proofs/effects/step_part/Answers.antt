@@ -2,7 +2,7 @@ use Rattle.comet_meaning.specs.Values.{number_of}
 use Rattle.comet_meaning.specs.Writes.{stepped}
 use Rattle.comet_meaning.proofs.GoingOn.{goes_then}
 use Rattle.comet_meaning.proofs.GoingStatements.{goes_changed, goes_old_value}
-use Rattle.run_state.specs.Targets.{target_seen}
+use Rattle.run_objects.specs.OfRunState.Targets.{target_seen}
 use Rattle.run_steps.specs.Operands.{stepped_target}
 use Rattle.run_steps.proofs.Behind.{err_passes, ok_does}
 use Rattle.run_steps.proofs.effects.step_part.Goals as goal

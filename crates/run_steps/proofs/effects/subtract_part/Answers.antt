@@ -3,7 +3,7 @@ use Rattle.std.proofs.lemmas.Int.{to_z-of_z}
 use Rattle.comet_meaning.specs.Values.{number_of}
 use Rattle.comet_meaning.specs.Writes.{changed}
 use Rattle.comet_meaning.proofs.GoingStatements.{goes_changed}
-use Rattle.run_state.specs.Targets.{target_seen}
+use Rattle.run_objects.specs.OfRunState.Targets.{target_seen}
 use Rattle.run_values.specs.Views.{value_seen}
 use Rattle.run_steps.proofs.Behind.{err_passes, ok_acts}
 use Rattle.run_steps.proofs.effects.subtract_part.Goals as goal

@@ -1,7 +1,7 @@
 use Rattle.std.proofs.Common.{refl}
 use Rattle.comet_meaning.specs.Writes.{swapped_at}
 use Rattle.comet_meaning.proofs.GoingStatements.{goes_swapped_at}
-use Rattle.run_state.specs.Targets.{target_seen}
+use Rattle.run_objects.specs.OfRunState.Targets.{target_seen}
 use Rattle.run_steps.proofs.Behind.{err_passes, ok_acts}
 use Rattle.run_steps.proofs.effects.swap_part.Goals as goal
 

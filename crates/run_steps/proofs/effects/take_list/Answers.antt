@@ -1,5 +1,5 @@
 use Rattle.std.proofs.Common.{refl}
-use Rattle.run_state.specs.Acts.{listed}
+use Rattle.run_objects.specs.OfRunState.Acts.{listed}
 use Rattle.run_values.specs.Views.{value_seen}
 use Rattle.run_steps.proofs.Behind.{err_passes, ok_acts}
 use Rattle.run_steps.proofs.Steps.{goes_listed_of}

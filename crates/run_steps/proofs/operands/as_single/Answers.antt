@@ -2,7 +2,7 @@ use Rattle.comet_meaning.specs.Outcome.{give}
 use Rattle.comet_meaning.specs.Terms.{single_of}
 use Rattle.comet_meaning.proofs.GoingOn.{goes_give}
 use Rattle.term_model.specs.declared.term.Term.{Term}
-use Rattle.run_state.specs.InTerms.{in_term_seen}
+use Rattle.run_objects.specs.OfRunState.InTerms.{in_term_seen}
 use Rattle.run_steps.proofs.Behind.{err_passes, ok_gives}
 use Rattle.run_steps.proofs.operands.as_single.Goals as goal
 

@@ -1,6 +1,6 @@
 use Rattle.comet_meaning.specs.Terms.{standing}
 use Rattle.comet_meaning.proofs.GoingTerms.{goes_standing}
-use Rattle.run_state.specs.InTerms.{in_term_seen}
+use Rattle.run_objects.specs.OfRunState.InTerms.{in_term_seen}
 use Rattle.run_values.specs.Views.{value_seen}
 use Rattle.run_steps.proofs.Behind.{err_passes, ok_does}
 use Rattle.run_steps.proofs.operands.as_standing.Goals as goal

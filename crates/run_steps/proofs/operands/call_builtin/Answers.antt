@@ -2,7 +2,7 @@ use Rattle.std.proofs.Common.{map}
 use Rattle.comet_meaning.specs.Builtins.{builtin_value}
 use Rattle.comet_meaning.proofs.GoingOn.{goes_then, goes_charge}
 use Rattle.comet_meaning.proofs.GoingExpressions.{goes_builtin_value}
-use Rattle.run_state.specs.Views.{state_seen}
+use Rattle.run_objects.specs.OfRunState.Views.{state_seen}
 use Rattle.run_values.specs.Views.{value_seen}
 use Rattle.run_steps.specs.Operands.{called_builtin}
 use Rattle.run_steps.proofs.Behind.{err_passes, ok_does}

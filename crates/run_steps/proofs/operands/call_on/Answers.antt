@@ -8,7 +8,7 @@ use Rattle.run_steps.specs.Operands.{called_method}
 use Rattle.run_steps.proofs.Behind.{err_passes, ok_does}
 use Rattle.run_steps.proofs.Exits.{act_does, act_exit, after}
 use Rattle.run_steps.proofs.Stops.{stays}
-use Rattle.run_state.specs.Views.{state_seen}
+use Rattle.run_objects.specs.OfRunState.Views.{state_seen}
 use Rattle.run_steps.proofs.operands.call_on.Goals as goal
 
 pub returns-in-Err : goal.returns-in-Err

@@ -1,6 +1,6 @@
 use Rattle.std.proofs.Common.{refl, rules, ℤ, w64, FitsSigned}
 use Rattle.std.proofs.lemmas.Int.{to_z-of_z}
-use Rattle.run_state.specs.Acts.{indexed}
+use Rattle.run_objects.specs.OfRunState.Acts.{indexed}
 use Rattle.run_values.specs.Views.{value_seen}
 use Rattle.run_steps.proofs.Behind.{err_passes, ok_acts}
 use Rattle.run_steps.proofs.Goes.{goes_indexed}

@@ -1,7 +1,7 @@
 use Rattle.comet_meaning.specs.Terms.{standing}
 use Rattle.comet_meaning.proofs.GoingOn.{goes_look}
 use Rattle.comet_meaning.proofs.GoingTerms.{goes_standing}
-use Rattle.run_state.specs.InTerms.{in_term_seen}
+use Rattle.run_objects.specs.OfRunState.InTerms.{in_term_seen}
 use Rattle.run_steps.proofs.Exits.{act_ends, after, ends_passes}
 use Rattle.run_steps.proofs.operands.name_term.Goals as goal
 

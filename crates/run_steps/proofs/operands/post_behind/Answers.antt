@@ -6,7 +6,7 @@ use Rattle.comet_meaning.proofs.GoingSystems.{goes_post}
 use Rattle.run_values.specs.Views.{value_seen}
 use Rattle.run_steps.proofs.Exits.{act_does, act_exit, after}
 use Rattle.run_steps.proofs.Stops.{stays}
-use Rattle.run_state.specs.Views.{state_seen}
+use Rattle.run_objects.specs.OfRunState.Views.{state_seen}
 use Rattle.run_steps.proofs.operands.post_behind.Goals as goal
 
 pub returns-in_err-charge : goal.returns-in_err-charge

@@ -1,7 +1,7 @@
 use Rattle.std.proofs.Common.{rules, FitsSigned, w64}
 use Rattle.std.proofs.lemmas.Int.{to_z-of_z}
 use Rattle.comet_meaning.specs.Program.{level}
-use Rattle.run_state.specs.Views.{state_seen}
+use Rattle.run_objects.specs.OfRunState.Views.{state_seen}
 use Rattle.run_steps.specs.Views.{part}
 use Rattle.run_steps.proofs.PlainLaws.{literal_value, named_plain, cell_plain, cell_value, chained, chain_start, chain_step}
 use Rattle.comet_meaning.proofs.Rows.{links_end}

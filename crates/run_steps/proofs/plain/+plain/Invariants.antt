@@ -5,7 +5,7 @@ use Rattle.comet_meaning.specs.Operators.{chain_form}
 use Rattle.comet_meaning.specs.Program.{level}
 use Rattle.comet_meaning.specs.Values.{Number}
 use Rattle.comet_meaning.proofs.Rows.{LinksLeft}
-use Rattle.run_state.specs.Views.{state_seen}
+use Rattle.run_objects.specs.OfRunState.Views.{state_seen}
 use Rattle.run_steps.specs.Views.{links_seen, part}
 use Rattle.run_steps.proofs.plain.+plain.Given as goal
 

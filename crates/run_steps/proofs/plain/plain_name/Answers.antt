@@ -1,4 +1,4 @@
-use Rattle.run_state.specs.Views.{state_seen}
+use Rattle.run_objects.specs.OfRunState.Views.{state_seen}
 use Rattle.run_steps.proofs.PlainLaws.{named_value}
 use Rattle.run_steps.proofs.plain.plain_name.Goals as goal
 

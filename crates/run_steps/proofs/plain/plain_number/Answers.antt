@@ -1,4 +1,4 @@
-use Rattle.run_state.specs.Views.{state_seen}
+use Rattle.run_objects.specs.OfRunState.Views.{state_seen}
 use Rattle.run_steps.specs.Views.{part}
 use Rattle.run_steps.proofs.PlainLaws.{whole_plain}
 use Rattle.run_steps.proofs.plain.plain_number.Goals as goal

@@ -1,6 +1,6 @@
 use Rattle.std.proofs.Common.{rules, FitsSigned, w64}
 use Rattle.std.proofs.lemmas.Int.{to_z-of_z}
-use Rattle.run_state.specs.Views.{state_seen}
+use Rattle.run_objects.specs.OfRunState.Views.{state_seen}
 use Rattle.run_steps.proofs.PlainLaws.{compared}
 use Rattle.run_steps.proofs.plain.plain_truth.Goals as goal
 

@@ -1,7 +1,7 @@
 use Rattle.std.proofs.Common.{sym, map}
 use Rattle.checked_tree.specs.Shape.{seen}
 use Rattle.checked_tree.specs.Tasks.{function_of}
-use Rattle.run_state.specs.Views.{state_seen}
+use Rattle.run_objects.specs.OfRunState.Views.{state_seen}
 use Rattle.run_values.specs.Views.{value_seen}
 use Rattle.run_steps.specs.Views.{code_seen, row}
 use Rattle.run_steps.proofs.ShortLaws.{short_call}

@@ -2,7 +2,7 @@ use Rattle.std.proofs.Common.{rules, FitsSigned, w64}
 use Rattle.std.proofs.lemmas.Int.{to_z-of_z}
 use Rattle.comet_meaning.specs.Program.{level}
 use Rattle.comet_meaning.proofs.Rows.{links_end}
-use Rattle.run_state.specs.Views.{state_seen}
+use Rattle.run_objects.specs.OfRunState.Views.{state_seen}
 use Rattle.run_steps.specs.Views.{code_seen, part}
 use Rattle.run_steps.proofs.ShortLaws.{spending_lost, spending_start, spending_step, spent_more}
 use Rattle.run_steps.proofs.short_calls.chain_spending.Goals as goal

@@ -1,7 +1,7 @@
 use Rattle.std.proofs.Common.{ℕ, List}
 use Rattle.comet_meaning.specs.Operators.{chain_form}
 use Rattle.comet_meaning.specs.Program.{level}
-use Rattle.run_state.specs.Views.{state_seen}
+use Rattle.run_objects.specs.OfRunState.Views.{state_seen}
 use Rattle.run_steps.specs.Views.{code_seen, links_seen, part}
 use Rattle.run_steps.proofs.ShortLaws.{ChainLeft}
 use Rattle.run_steps.proofs.short_calls.chain_spending.Given as goal

@@ -1,4 +1,4 @@
-use Rattle.run_state.specs.Views.{state_seen}
+use Rattle.run_objects.specs.OfRunState.Views.{state_seen}
 use Rattle.run_steps.specs.Views.{code_seen}
 use Rattle.run_steps.proofs.ShortLaws.{spending_call, spending_chain}
 use Rattle.run_steps.proofs.short_calls.number_spending.Goals as goal

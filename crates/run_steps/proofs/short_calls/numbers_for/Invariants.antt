@@ -3,7 +3,7 @@ use Rattle.comet_meaning.specs.Calls.{arguments_form}
 use Rattle.comet_meaning.specs.Levels.{Code}
 use Rattle.comet_meaning.specs.Program.{level}
 use Rattle.comet_meaning.proofs.Rows.{ArgumentsLeft}
-use Rattle.run_state.specs.Views.{state_seen}
+use Rattle.run_objects.specs.OfRunState.Views.{state_seen}
 use Rattle.run_steps.specs.Spending.{AreNumbers}
 use Rattle.run_steps.specs.Views.{part, row}
 use Rattle.run_values.specs.Views.{value_seen}

@@ -2,7 +2,7 @@ use Rattle.comet_meaning.proofs.Rows.{NamesLeft}
 use Rattle.comet_meaning.specs.Generators.{bind}
 use Rattle.run_steps.specs.OpenTuples.{bound_seen, names_seen}
 use Rattle.std.proofs.Common.{◌≡◌, ℕ, List}
-use Rattle.run_state.specs.Views.{state_seen}
+use Rattle.run_objects.specs.OfRunState.Views.{state_seen}
 use Rattle.run_steps.proofs.tuples.bind_names.Given as goal
 
 abbrev pub invariant-loop-entered : goal.invariant-loop-entered

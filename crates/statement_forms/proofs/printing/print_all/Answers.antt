@@ -2,7 +2,7 @@ use Rattle.std.proofs.Common.{refl, arith}
 use Rattle.comet_meaning.proofs.GoingStatements.{goes_level}
 use Rattle.comet_meaning.proofs.Rows.{prints_end, prints_start, prints_step}
 use Rattle.std.proofs.lemmas.Result.{err_from_is_err_and}
-use Rattle.run_steps.proofs.Steps.{prints_stop}
+use Rattle.search_forms.proofs.OfRunSteps.Steps.{prints_stop}
 use Rattle.statement_forms.proofs.printing.print_all.Goals as goal
 
 pub loop-item-init : goal.loop-item-init

@@ -1,7 +1,7 @@
 use Rattle.std.proofs.Common.{map}
 use Rattle.comet_meaning.specs.Program.{level}
 use Rattle.comet_meaning.proofs.Rows.{PrintsLeft}
-use Rattle.run_state.specs.Views.{state_seen}
+use Rattle.search_forms.specs.OfRunState.Views.{state_seen}
 use Rattle.checked_tree.specs.Actions.{printed_of}
 use Rattle.comet_meaning.specs.Printing.{print_form}
 use Rattle.statement_forms.proofs.printing.print_all.Given as goal

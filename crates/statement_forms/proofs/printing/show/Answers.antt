@@ -1,6 +1,6 @@
 use Rattle.comet_meaning.specs.Printing.{shown_form}
-use Rattle.run_steps.proofs.Steps.{prints}
-use Rattle.run_state.specs.Views.{state_seen}
+use Rattle.search_forms.proofs.OfRunSteps.Steps.{prints}
+use Rattle.search_forms.specs.OfRunState.Views.{state_seen}
 use Rattle.statement_forms.proofs.printing.show.Goals as goal
 
 pub returns-in-Value : goal.returns-in-Value

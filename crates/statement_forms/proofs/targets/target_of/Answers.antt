@@ -1,4 +1,4 @@
-use Rattle.run_state.specs.Views.{state_seen}
+use Rattle.search_forms.specs.OfRunState.Views.{state_seen}
 use Rattle.statement_forms.proofs.targets.target_of.Goals as goal
 
 pub returns-in-Some : goal.returns-in-Some

@@ -1,6 +1,6 @@
 use Rattle.comet_meaning.proofs.GoingStatements.{goes_name_target}
-use Rattle.run_steps.proofs.Exits.{act_does}
-use Rattle.run_steps.proofs.Shapes.{form_name}
+use Rattle.search_forms.proofs.OfRunSteps.Exits.{act_does}
+use Rattle.search_forms.proofs.OfRunSteps.Shapes.{form_name}
 use Rattle.comet_meaning.specs.Writes.{target_of_form}
 use Rattle.statement_forms.proofs.targets.target_of_form.Goals as goal
 

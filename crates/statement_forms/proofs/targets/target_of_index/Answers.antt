@@ -1,8 +1,8 @@
 use Rattle.comet_meaning.proofs.GoingOn.{goes_then}
 use Rattle.comet_meaning.proofs.GoingParts.{goes_number}
 use Rattle.comet_meaning.proofs.GoingStatements.{goes_level}
-use Rattle.run_steps.proofs.Exits.{after, call_exit}
-use Rattle.run_steps.proofs.Goes.{goes_index_written}
+use Rattle.search_forms.proofs.OfRunSteps.Exits.{after, call_exit}
+use Rattle.search_forms.proofs.OfRunSteps.Goes.{goes_index_written}
 use Rattle.comet_meaning.specs.Writes.{index_target}
 use Rattle.statement_forms.proofs.targets.target_of_index.Goals as goal
 

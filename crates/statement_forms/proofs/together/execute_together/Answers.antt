@@ -5,12 +5,12 @@ use Rattle.comet_meaning.proofs.Endings.{went_then}
 use Rattle.comet_meaning.proofs.GoingOn.{goes_look}
 use Rattle.comet_meaning.proofs.GoingStatements.{goes_level}
 use Rattle.run_values.specs.Views.{value_seen}
-use Rattle.run_state.specs.Views.{state_seen}
-use Rattle.run_objects.proofs.WithLaws.{together_law}
-use Rattle.run_steps.specs.Does.{Does}
-use Rattle.run_steps.proofs.Exits.{act_exit, after}
-use Rattle.run_steps.proofs.Goes.{goes_block, goes_opened, goes_together_in}
-use Rattle.run_steps.proofs.Stops.{stays}
+use Rattle.search_forms.specs.OfRunState.Views.{state_seen}
+use Rattle.search_forms.proofs.OfRunObjects.WithLaws.{together_law}
+use Rattle.search_forms.specs.OfRunSteps.Does.{Does}
+use Rattle.search_forms.proofs.OfRunSteps.Exits.{act_exit, after}
+use Rattle.search_forms.proofs.OfRunSteps.Goes.{goes_block, goes_opened, goes_together_in}
+use Rattle.search_forms.proofs.OfRunSteps.Stops.{stays}
 use Rattle.statement_forms.proofs.together.execute_together.Goals as goal
 
 pub returns-in_err-solver : goal.returns-in_err-solver

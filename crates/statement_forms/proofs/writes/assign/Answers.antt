@@ -1,6 +1,6 @@
 use Rattle.checked_tree.specs.Shape.{seen}
 use Rattle.comet_meaning.specs.Program.{level}
-use Rattle.run_state.specs.Views.{state_seen}
+use Rattle.search_forms.specs.OfRunState.Views.{state_seen}
 use Rattle.statement_forms.proofs.WriteLaws.{assigned_number}
 use Rattle.statement_forms.proofs.writes.assign.Goals as goal
 

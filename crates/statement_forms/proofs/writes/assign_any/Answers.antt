@@ -8,9 +8,9 @@ use Rattle.comet_meaning.specs.Levels.{Level, Target}
 use Rattle.comet_meaning.specs.Program.{level}
 use Rattle.comet_meaning.specs.Values.{as_kind}
 use Rattle.comet_meaning.specs.Writes.{assign_form, write}
-use Rattle.run_state.specs.Targets.{target_seen}
+use Rattle.search_forms.specs.OfRunState.Targets.{target_seen}
 use Rattle.std.proofs.lemmas.Result.{err_from_is_err_and}
-use Rattle.run_steps.proofs.Stops.{ended_then}
+use Rattle.search_forms.proofs.OfRunSteps.Stops.{ended_then}
 use Rattle.statement_forms.proofs.writes.assign_any.Goals as goal
 
 pub returns-in_err-target : goal.returns-in_err-target

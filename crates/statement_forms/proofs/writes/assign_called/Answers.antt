@@ -8,11 +8,11 @@ use Rattle.comet_meaning.specs.Parts.{value}
 use Rattle.comet_meaning.specs.Program.{level}
 use Rattle.comet_meaning.specs.Values.{Number, as_kind}
 use Rattle.comet_meaning.specs.Writes.{write}
-use Rattle.run_state.specs.Views.{state_seen}
+use Rattle.search_forms.specs.OfRunState.Views.{state_seen}
 use Rattle.comet_meaning.proofs.GoingOn.{goes_put}
-use Rattle.run_steps.specs.Does.{Does}
-use Rattle.run_steps.specs.Views.{part}
-use Rattle.run_steps.proofs.Exits.{act_does}
+use Rattle.search_forms.specs.OfRunSteps.Does.{Does}
+use Rattle.search_forms.specs.OfRunSteps.Views.{part}
+use Rattle.search_forms.proofs.OfRunSteps.Exits.{act_does}
 use Rattle.statement_forms.proofs.writes.assign_called.Goals as goal
 
 pub returns-in-Some : goal.returns-in-Some

@@ -3,9 +3,9 @@ use Rattle.std.proofs.lemmas.Int.{to_z-of_z}
 use Rattle.comet_meaning.specs.Cells.{put}
 use Rattle.comet_meaning.specs.Values.{Number}
 use Rattle.comet_meaning.specs.Writes.{write}
-use Rattle.run_state.specs.Views.{state_seen}
+use Rattle.search_forms.specs.OfRunState.Views.{state_seen}
 use Rattle.comet_meaning.proofs.GoingOn.{goes_put}
-use Rattle.run_steps.proofs.Exits.{act_does}
+use Rattle.search_forms.proofs.OfRunSteps.Exits.{act_does}
 use Rattle.statement_forms.proofs.writes.assign_name.Goals as goal
 
 pub returns-in-Some : goal.returns-in-Some

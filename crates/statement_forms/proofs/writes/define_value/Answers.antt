@@ -3,8 +3,8 @@ use Rattle.comet_meaning.proofs.GoingParts.{goes_one_term}
 use Rattle.comet_meaning.proofs.GoingStatements.{goes_level, goes_defined_at}
 use Rattle.comet_meaning.specs.Writes.{define_form}
 use Rattle.std.proofs.lemmas.Result.{err_from_is_err_and}
-use Rattle.run_steps.proofs.Stops.{ended_then}
-use Rattle.run_state.specs.Views.{state_seen}
+use Rattle.search_forms.proofs.OfRunSteps.Stops.{ended_then}
+use Rattle.search_forms.specs.OfRunState.Views.{state_seen}
 use Rattle.statement_forms.proofs.writes.define_value.Goals as goal
 
 pub returns-in_err-target : goal.returns-in_err-target

@@ -5,8 +5,8 @@ use Rattle.comet_meaning.proofs.GoingStatements.{goes_level, goes_changed, goes_
 use Rattle.comet_meaning.specs.Writes.{add_form}
 use Rattle.std.proofs.lemmas.Result.{err_from_is_err_and}
 use Rattle.comet_meaning.specs.Values.{number_of}
-use Rattle.run_state.specs.Targets.{target_seen}
-use Rattle.run_steps.proofs.Stops.{ended_then, stopped_then}
+use Rattle.search_forms.specs.OfRunState.Targets.{target_seen}
+use Rattle.search_forms.proofs.OfRunSteps.Stops.{ended_then, stopped_then}
 use Rattle.statement_forms.proofs.writes.subtract_value.Goals as goal
 
 pub returns-in_err-target : goal.returns-in_err-target

@@ -6,9 +6,9 @@ use Rattle.comet_meaning.specs.Events.{behind_commit}
 use Rattle.comet_meaning.specs.Levels.{Level, Target}
 use Rattle.comet_meaning.specs.Program.{level}
 use Rattle.comet_meaning.specs.Writes.{swap_form, swapped_at}
-use Rattle.run_state.specs.Targets.{target_seen}
+use Rattle.search_forms.specs.OfRunState.Targets.{target_seen}
 use Rattle.std.proofs.lemmas.Result.{err_from_is_err_and}
-use Rattle.run_steps.proofs.Stops.{ended_then}
+use Rattle.search_forms.proofs.OfRunSteps.Stops.{ended_then}
 use Rattle.statement_forms.proofs.writes.swap_values.Goals as goal
 
 pub returns-in_err-left : goal.returns-in_err-left

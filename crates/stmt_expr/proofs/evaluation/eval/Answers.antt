@@ -1,8 +1,8 @@
 use Rattle.std.proofs.Common.{◌≡◌, subst, sym}
 use Rattle.std.specs.Prelude.{ℕ, List, []}
-use Rattle.run_steps.specs.Views.{code_seen, part}
+use Rattle.interpreter.specs.OfRunSteps.Views.{code_seen, part}
 use Rattle.run_standing.specs.Seen.{standing_seen}
-use Rattle.run_state.specs.Views.{state_seen}
+use Rattle.run_standing.specs.OfRunState.Views.{state_seen}
 use Rattle.stmt_expr.proofs.Apart.{spends_known, apart, evaluated_apart}
 use Rattle.stmt_expr.proofs.evaluation.eval.Goals as goal
 

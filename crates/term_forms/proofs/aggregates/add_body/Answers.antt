@@ -4,12 +4,12 @@ use Rattle.term_forms.proofs.BodyLaws.{body_adds}
 use Rattle.comet_meaning.specs.TermForms.{keyed_form}
 use Rattle.comet_meaning.proofs.GoingTerms.{goes_with_keyed}
 use Rattle.term_forms.specs.Bodies.{body_seen}
-use Rattle.run_steps.specs.Does.{Does}
+use Rattle.expression_forms.specs.OfRunSteps.Does.{Does}
 use Rattle.comet_meaning.proofs.GoingOn.{goes_then, goes_give, goes_if}
 use Rattle.comet_meaning.proofs.GoingParts.{goes_one_term}
 use Rattle.comet_meaning.proofs.GoingStatements.{goes_level}
-use Rattle.run_steps.proofs.Exits.{act_does, call_exit}
-use Rattle.run_state.specs.Views.{state_seen}
+use Rattle.expression_forms.proofs.OfRunSteps.Exits.{act_does, call_exit}
+use Rattle.expression_forms.specs.OfRunState.Views.{state_seen}
 use Rattle.term_forms.proofs.aggregates.add_body.Goals as goal
 
 pub returns-in_err-passes : goal.returns-in_err-passes

@@ -1,15 +1,15 @@
 use Rattle.std.proofs.Common.{◌<◌, arith, rules, map, w64, FitsSigned}
 use Rattle.std.specs.Prelude.{FitsSigned}
 use Rattle.std.proofs.lemmas.Int.{to_z-of_z}
-use Rattle.run_steps.proofs.AggregateLaws.{advances_none}
+use Rattle.expression_forms.proofs.OfRunSteps.AggregateLaws.{advances_none}
 use Rattle.term_forms.proofs.BodyLaws.{gathers, no_bodies, bodies_open, bodies_end, body_added, body_ends, all as all_bodies}
 use Rattle.comet_meaning.proofs.GoingTerms.{goes_keyed}
 use Rattle.term_forms.specs.Bodies.{body_seen}
-use Rattle.run_steps.specs.Views.{part_or_none, part}
-use Rattle.run_steps.proofs.TupleLaws.{went_fuel}
+use Rattle.expression_forms.specs.OfRunSteps.Views.{part_or_none, part}
+use Rattle.expression_forms.proofs.OfRunSteps.TupleLaws.{went_fuel}
 use Rattle.comet_meaning.proofs.GoingStatements.{goes_level}
-use Rattle.run_steps.proofs.Exits.{exit}
-use Rattle.run_state.specs.Views.{state_seen}
+use Rattle.expression_forms.proofs.OfRunSteps.Exits.{exit}
+use Rattle.expression_forms.specs.OfRunState.Views.{state_seen}
 use Rattle.term_forms.proofs.aggregates.bodies_of.Goals as goal
 
 pub returns-then-generators-eq0 : goal.returns-then-generators-eq0

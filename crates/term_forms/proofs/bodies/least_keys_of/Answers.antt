@@ -1,8 +1,8 @@
 use Rattle.std.proofs.Common.{map}
 use Rattle.comet_syntax.specs.declared.tree.expressions.Aggregate.TheVariants as aggregates
 use Rattle.comet_meaning.proofs.GoingTerms.{goes_aggregated}
-use Rattle.run_steps.proofs.AggregateLaws.{memory_ends}
-use Rattle.run_steps.proofs.Exits.{exit}
+use Rattle.expression_forms.proofs.OfRunSteps.AggregateLaws.{memory_ends}
+use Rattle.expression_forms.proofs.OfRunSteps.Exits.{exit}
 use Rattle.term_forms.specs.Bodies.{body_seen}
 use Rattle.term_forms.proofs.bodies.least_keys_of.Goals as goal
 

@@ -2,10 +2,10 @@ use Rattle.std.proofs.Common.{refl}
 use Rattle.comet_meaning.specs.Outcome.{give}
 use Rattle.comet_meaning.specs.Terms.{Single}
 use Rattle.comet_meaning.proofs.GoingOn.{goes_give}
-use Rattle.run_state.specs.InTerms.{in_term_seen}
-use Rattle.run_state.specs.declared.standing.InTerm.TheVariants as made
+use Rattle.expression_forms.specs.OfRunState.InTerms.{in_term_seen}
+use Rattle.expression_forms.specs.OfRunState.declared.standing.InTerm.TheVariants as made
 use Rattle.term_model.specs.declared.term.Term.{Term}
-use Rattle.run_steps.proofs.Behind.{err_passes, ok_gives}
+use Rattle.expression_forms.proofs.OfRunSteps.Behind.{err_passes, ok_gives}
 use Rattle.term_forms.proofs.nodes.as_in_term.Goals as goal
 
 pub returns-in-Err : goal.returns-in-Err

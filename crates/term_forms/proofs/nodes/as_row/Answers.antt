@@ -2,9 +2,9 @@ use Rattle.std.proofs.Common.{ap}
 use Rattle.comet_meaning.specs.Outcome.{give}
 use Rattle.comet_meaning.specs.Terms.{Several, term_row}
 use Rattle.comet_meaning.proofs.GoingOn.{goes_give}
-use Rattle.run_state.specs.InTerms.{in_term_seen}
-use Rattle.run_state.specs.declared.standing.InTerm.TheVariants as made
-use Rattle.run_steps.proofs.Behind.{err_passes, ok_gives}
+use Rattle.expression_forms.specs.OfRunState.InTerms.{in_term_seen}
+use Rattle.expression_forms.specs.OfRunState.declared.standing.InTerm.TheVariants as made
+use Rattle.expression_forms.proofs.OfRunSteps.Behind.{err_passes, ok_gives}
 use Rattle.term_forms.proofs.nodes.as_row.Goals as goal
 
 pub returns-in-Err : goal.returns-in-Err

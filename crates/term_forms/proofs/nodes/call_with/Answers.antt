@@ -2,7 +2,7 @@ use Rattle.comet_meaning.proofs.GoingOn.{goes_then, goes_charge}
 use Rattle.comet_meaning.proofs.GoingTerms.{goes_builtin_node}
 use Rattle.term_forms.specs.Steps.{called_node}
 use Rattle.term_model.specs.declared.term.Term.{Term}
-use Rattle.run_steps.proofs.Behind.{err_passes, ok_does}
+use Rattle.expression_forms.proofs.OfRunSteps.Behind.{err_passes, ok_does}
 use Rattle.term_forms.proofs.nodes.call_with.Goals as goal
 
 pub returns-in-Err : goal.returns-in-Err

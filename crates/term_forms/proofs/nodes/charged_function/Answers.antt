@@ -1,6 +1,6 @@
 use Rattle.comet_meaning.proofs.GoingOn.{goes_charge}
 use Rattle.comet_meaning.proofs.GoingTerms.{goes_builtin_node}
-use Rattle.run_steps.proofs.Exits.{act_exit, after}
+use Rattle.expression_forms.proofs.OfRunSteps.Exits.{act_exit, after}
 use Rattle.term_forms.proofs.nodes.charged_function.Goals as goal
 
 pub returns-in_err-charge : goal.returns-in_err-charge

@@ -1,9 +1,9 @@
 use Rattle.comet_meaning.proofs.GoingOn.{goes_then, goes_charge}
 use Rattle.comet_meaning.proofs.GoingTerms.{goes_node}
-use Rattle.run_state.specs.InTerms.{term_cells_seen}
+use Rattle.expression_forms.specs.OfRunState.InTerms.{term_cells_seen}
 use Rattle.term_forms.specs.Steps.{grid_node}
 use Rattle.term_model.specs.declared.term.Term.{Term}
-use Rattle.run_steps.proofs.Behind.{err_passes, ok_does}
+use Rattle.expression_forms.proofs.OfRunSteps.Behind.{err_passes, ok_does}
 use Rattle.term_forms.proofs.nodes.grid_with.Goals as goal
 
 pub returns-in-Err : goal.returns-in-Err

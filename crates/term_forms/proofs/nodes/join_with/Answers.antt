@@ -1,7 +1,7 @@
 use Rattle.comet_meaning.proofs.GoingTerms.{goes_node}
 use Rattle.term_forms.specs.Steps.{joined}
 use Rattle.term_model.specs.declared.term.Term.{Term}
-use Rattle.run_steps.proofs.Behind.{err_passes, ok_does}
+use Rattle.expression_forms.proofs.OfRunSteps.Behind.{err_passes, ok_does}
 use Rattle.term_forms.proofs.nodes.join_with.Goals as goal
 
 pub returns-in-Err : goal.returns-in-Err

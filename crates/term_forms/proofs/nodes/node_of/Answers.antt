@@ -1,5 +1,5 @@
 use Rattle.comet_meaning.proofs.GoingTerms.{goes_node}
-use Rattle.run_steps.proofs.Exits.{act_does}
+use Rattle.expression_forms.proofs.OfRunSteps.Exits.{act_does}
 use Rattle.term_forms.proofs.nodes.node_of.Goals as goal
 
 pub returns : goal.returns

@@ -1,5 +1,5 @@
 use Rattle.comet_meaning.proofs.GoingTerms.{goes_node}
-use Rattle.run_steps.proofs.Exits.{memory_exit}
+use Rattle.expression_forms.proofs.OfRunSteps.Exits.{memory_exit}
 use Rattle.term_forms.proofs.nodes.node_of_two.Goals as goal
 
 pub returns-in_err-push : goal.returns-in_err-push

@@ -5,11 +5,11 @@ use Rattle.comet_meaning.specs.Outcome.{give, then_do}
 use Rattle.comet_meaning.specs.Terms.{term_at}
 use Rattle.comet_meaning.specs.Values.{Extent}
 use Rattle.comet_meaning.proofs.GoingOn.{goes_then, goes_give, goes_found_at}
-use Rattle.run_state.specs.InTerms.{term_cells_seen}
+use Rattle.expression_forms.specs.OfRunState.InTerms.{term_cells_seen}
 use Rattle.term_forms.specs.Steps.{picked}
 use Rattle.term_model.specs.declared.term.Term.{Term}
-use Rattle.run_steps.specs.Does.{Does}
-use Rattle.run_steps.proofs.Behind.{err_passes, ok_does}
+use Rattle.expression_forms.specs.OfRunSteps.Does.{Does}
+use Rattle.expression_forms.proofs.OfRunSteps.Behind.{err_passes, ok_does}
 use Rattle.term_forms.proofs.nodes.pick.Goals as goal
 
 pub returns-in-Err : goal.returns-in-Err

@@ -1,5 +1,5 @@
 use Rattle.std.proofs.Common.{◌≡◌, ◌<◌, ◌∙◌, arith, rules, length, pos}
-use Rattle.model_view.specs.Building.{constant}
+use Rattle.comet_meaning.specs.OfModelView.Building.{constant}
 use Rattle.term_forms.proofs.NodeLaws.{same_at, past_at}
 use Rattle.term_forms.proofs.nodes.term_in.Goals as goal
 

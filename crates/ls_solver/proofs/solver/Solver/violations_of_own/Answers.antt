@@ -1,6 +1,6 @@
 use Rattle.std.proofs.Common.{◌<◌, length, [], ◌∷◌, subst, sym, ap, ◌∙◌}
 use Rattle.model_values.specs.Asked.{IsAnswer}
-use Rattle.violation_shares.specs.VariableViolations.{variable_violations_of}
+use Rattle.solver_models.specs.OfViolationShares.VariableViolations.{variable_violations_of}
 use Rattle.solver_models.specs.Replying.{reply_refusal}
 use Rattle.solver_models.specs.State.{SolverState}
 use Rattle.solver_models.specs.Totals.{of_system}

@@ -1,11 +1,11 @@
 -- What is given away is posted.
 use Rattle.std.proofs.Common.{◌≡◌, refl, subst, sym, w64, to_z, of_z, rules}
-use Rattle.comet_meaning.specs.Posting.{post_taken}
-use Rattle.comet_meaning.specs.Systems.{post_user}
-use Rattle.comet_meaning.specs.Users.{with_given}
-use Rattle.comet_meaning.specs.Values.{Nothing}
-use Rattle.run_values.specs.Did.{Did}
-use Rattle.run_values.specs.Views.{value_seen}
+use Rattle.run_solvers.specs.OfCometMeaning.Posting.{post_taken}
+use Rattle.run_solvers.specs.OfCometMeaning.Systems.{post_user}
+use Rattle.run_solvers.specs.OfCometMeaning.Users.{with_given}
+use Rattle.run_solvers.specs.OfCometMeaning.Values.{Nothing}
+use Rattle.run_solvers.specs.OfRunValues.Did.{Did}
+use Rattle.run_solvers.specs.OfRunValues.Views.{value_seen}
 use Rattle.run_outside.specs.Told.{beside, told_of}
 use Rattle.run_outside.proofs.stage.StageOutside.post_user.Goals as goal
 

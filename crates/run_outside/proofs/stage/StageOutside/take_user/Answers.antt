@@ -1,9 +1,9 @@
 -- What is found is taken.
 use Rattle.std.proofs.Common.{◌≡◌, ◌∙◌, ap, subst, sym}
 use Rattle.std.specs.Prelude.{Some, None}
-use Rattle.comet_meaning.specs.Outcome.{Faulted, Halted, Went}
-use Rattle.comet_meaning.specs.State.{left}
-use Rattle.comet_meaning.specs.Users.{first_free, is_known}
+use Rattle.run_solvers.specs.OfCometMeaning.Outcome.{Faulted, Halted, Went}
+use Rattle.run_solvers.specs.OfCometMeaning.State.{left}
+use Rattle.run_solvers.specs.OfCometMeaning.Users.{first_free, is_known}
 use Rattle.run_outside.specs.HandedIn.{refusal_of}
 use Rattle.run_outside.specs.Told.{beside, told_of}
 use Rattle.run_outside.proofs.TakingLaws.{refused, taken}

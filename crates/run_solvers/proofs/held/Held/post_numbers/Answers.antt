@@ -1,8 +1,8 @@
 -- The constraint is there, or stops as it is meant to.
 use Rattle.std.proofs.Common.{◌≡◌, ℤ, None, refl, sym, ap, ◌∙◌, subst, w64, to_z, of_z, rules, Result, length}
 use Rattle.posted_users.specs.KeptRule.{kept}
-use Rattle.solver_models.specs.UserPosting.{user_term}
-use Rattle.solver_models.specs.declared.totals.TotalId.{TotalId}
+use Rattle.ls_solver.specs.OfSolverModels.UserPosting.{user_term}
+use Rattle.ls_solver.specs.OfSolverModels.declared.totals.TotalId.{TotalId}
 use Rattle.ls_solver.specs.Adding.{member_refusal}
 use Rattle.ls_solver.specs.Answers.{IsRefusal}
 use Rattle.ls_solver.specs.Totals.{of_system, whole_of}

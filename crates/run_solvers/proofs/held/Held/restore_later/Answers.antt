@@ -2,7 +2,7 @@
 use Rattle.std.proofs.Common.{◌≡◌, ℕ, List, length, refl, ◌∙◌, ap, subst, arith}
 use Rattle.std.specs.Prelude.{zip}
 use Rattle.std.specs.Option.{option_map}
-use Rattle.solver_models.specs.FreeVariables.{free_places}
+use Rattle.ls_solver.specs.OfSolverModels.FreeVariables.{free_places}
 use Rattle.run_solvers.specs.Views.{held_seen, waits}
 use Rattle.run_solvers.specs.Waiting.{waiting_behind}
 use Rattle.run_solvers.proofs.SolutionLaws.{free_seen, restored_moves, waited_all, waiting_all, waits_closed, written_all}

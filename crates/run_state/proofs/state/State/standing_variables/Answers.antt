@@ -1,6 +1,6 @@
 -- The bounds of the array, and a term for each of its variables.
 use Rattle.std.proofs.Common.{◌≡◌, map, ◌∙◌, ap}
-use Rattle.model_view.specs.Building.{variable}
+use Rattle.comet_meaning.specs.OfModelView.Building.{variable}
 use Rattle.comet_meaning.specs.Cells.{variables_of}
 use Rattle.comet_meaning.specs.Values.{Variables}
 use Rattle.run_values.specs.Views.{extent_seen}

@@ -1,0 +1,2 @@
+-- What callers cite of violation_shares.
+pub use Rattle.solver_models.specs.OfViolationShares.VariableViolations

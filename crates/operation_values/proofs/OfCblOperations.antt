@@ -1,0 +1,2 @@
+-- What callers cite of cbl_operations.
+pub use Rattle.cbl_operations.proofs.KindLaws

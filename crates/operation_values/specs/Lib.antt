@@ -1,0 +1,3 @@
+pub mod OfCblOperations
+pub mod OfCblViolations
+pub mod OfTermModel

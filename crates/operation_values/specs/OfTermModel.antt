@@ -1,0 +1,2 @@
+-- What callers cite of term_model.
+pub use Rattle.term_model.specs.Users

@@ -1,0 +1,2 @@
+-- What callers cite of run_state.
+pub use Rattle.run_state.specs.Views

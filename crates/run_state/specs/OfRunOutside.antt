@@ -1,0 +1,3 @@
+-- What callers cite of run_outside.
+pub use Rattle.run_outside.specs.HandedIn
+pub use Rattle.run_outside.specs.Told

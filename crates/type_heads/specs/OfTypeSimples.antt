@@ -1,0 +1,2 @@
+-- What callers cite of type_simples.
+pub use Rattle.type_simples.specs.Simples

@@ -1,0 +1,2 @@
+-- What callers cite of type_heads.
+pub use Rattle.type_heads.specs.Heads
