@@ -13,12 +13,11 @@ pub mod writes;
 
 pub use methods::method;
 pub use objects::{make_objective, make_solver, make_sum, make_system};
+pub use run_state as state_of_runs;
+pub use run_state::solvers_of_runs as solvers_of_runs;
 pub use solutions::{make_solution, restore};
 pub use systems::post;
 pub use variables::{
     assign, close, commit_waiting, define, domain_of, new_variable, open_with, swap, variable_in,
 };
 pub use writes::{added, stepped, subtracted, write};
-
-pub use run_state as state_of_runs;
-pub use run_state::solvers_of_runs as solvers_of_runs;

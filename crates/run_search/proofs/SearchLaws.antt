@@ -2,15 +2,15 @@
 use Rattle.std.proofs.Common.{◌≡◌, refl, sym, ap, ◌∙◌, ℕ, ℤ, Bool, true, false, ◌&&◌, List, [], ◌∷◌, ◌++◌, Option, Some, None, length, map, filter, nat_eq, slice_get, drop}
 use Rattle.std.specs.Prelude.{cond, flat_map, option_map}
 use Rattle.cbl_base.specs.declared.ids.VarId.{VarId}
-use Rattle.run_solvers.specs.OfCometMeaning.Changes as meant
-use Rattle.run_solvers.specs.OfCometMeaning.Changes.{Change, queued_events}
-use Rattle.run_solvers.specs.OfCometMeaning.Draws.{below, next_word}
-use Rattle.run_solvers.specs.OfCometMeaning.Outcome.{Went}
-use Rattle.run_solvers.specs.OfCometMeaning.Search as meaning
-use Rattle.run_solvers.specs.OfCometMeaning.Search.{Search}
-use Rattle.run_solvers.specs.OfCometMeaning.Selection.{chosen_of}
-use Rattle.run_solvers.specs.OfCometMeaning.State.{State}
-use Rattle.run_solvers.specs.OfCometMeaning.Words.{share}
+use Rattle.comet_meaning.specs.Changes as meant
+use Rattle.comet_meaning.specs.Changes.{Change, queued_events}
+use Rattle.comet_meaning.specs.Draws.{below, next_word}
+use Rattle.comet_meaning.specs.Outcome.{Went}
+use Rattle.comet_meaning.specs.Search as meaning
+use Rattle.comet_meaning.specs.Search.{Search}
+use Rattle.comet_meaning.specs.Selection.{chosen_of}
+use Rattle.comet_meaning.specs.State.{State}
+use Rattle.comet_meaning.specs.Words.{share}
 use Rattle.ls_events.specs.Queueing as events
 use Rattle.ls_events.specs.declared.change.VarChange.{VarChange}
 use Rattle.ls_events.specs.declared.handlers.Handler.{Handler}

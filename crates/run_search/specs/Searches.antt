@@ -1,7 +1,7 @@
 -- What the code keeps of a search, as the meaning of programs has it. A rule of this project.
 use Rattle.std.specs.Prelude.{List, Option, map, option_map}
 use Rattle.checked_tree.specs.Tasks.{work_of_act}
-use Rattle.run_solvers.specs.OfCometMeaning.Search as meant
+use Rattle.comet_meaning.specs.Search as meant
 use Rattle.ls_events.specs.declared.handlers.Handler.{Handler}
 use Rattle.ls_events.specs.declared.queue.Event.{Event}
 use Rattle.ls_events.specs.declared.solution.Solution.{Solution}

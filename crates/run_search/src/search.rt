@@ -3,12 +3,12 @@
 #![tactic(auto, unfolding(crate::specs::Searches::search_seen))]
 
 ghost use Rattle.std.specs.Prelude.{◌≡◌, ◌<◌, ◌≤◌, ◌^◌, ℕ, List, IfErr, IfOk, OnOk, drop, length, map, option_map, slice_get, slice_index_or};
-ghost use Rattle.run_solvers.specs.OfCometMeaning.Changes.{Change, queued_events, with_events};
-ghost use Rattle.run_solvers.specs.OfCometMeaning.Draws.{without_word};
-ghost use Rattle.run_solvers.specs.OfCometMeaning.Events.{with_queue, with_reaction, while_running};
-ghost use Rattle.run_solvers.specs.OfCometMeaning.Search.{first_search, no_reaction};
-ghost use Rattle.run_solvers.specs.OfCometMeaning.Solutions.{with_solution};
-ghost use Rattle.run_solvers.specs.OfCometMeaning.Words.{share, word_of};
+ghost use Rattle.comet_meaning.specs.Changes.{Change, queued_events, with_events};
+ghost use Rattle.comet_meaning.specs.Draws.{without_word};
+ghost use Rattle.comet_meaning.specs.Events.{with_queue, with_reaction, while_running};
+ghost use Rattle.comet_meaning.specs.Search.{first_search, no_reaction};
+ghost use Rattle.comet_meaning.specs.Solutions.{with_solution};
+ghost use Rattle.comet_meaning.specs.Words.{share, word_of};
 ghost use Rattle.ls_select.specs.Picking.{picked};
 ghost use Rattle.run_solvers.specs.Told.{told};
 ghost use Rattle.run_search.specs.Searches.{closure_seen, event_seen, move_seen, reaction_seen, search_seen, solution_seen};
@@ -113,7 +113,7 @@ impl Search {
     }
 
     /// A number below `n`, of the next word. There must be a number below `n`, and `n` at most 2^64.
-    #[tactic(auto, unfolding(run_solvers::specs::OfCometMeaning::Words::share, crate::specs::Searches::search_seen))]
+    #[tactic(auto, unfolding(comet_meaning::specs::Words::share, crate::specs::Searches::search_seen))]
     pub fn below(&mut self, n: u128) -> u64
         requires some { 1 ≤ n }
         requires most { n ≤ 2 ^ 64 }

@@ -1,7 +1,7 @@
 -- The first event is taken off the queue.
 use Rattle.std.proofs.Common.{List, ap}
-use Rattle.run_solvers.specs.OfCometMeaning.Events.{with_queue}
-use Rattle.run_solvers.specs.OfCometMeaning.Search as meaning
+use Rattle.comet_meaning.specs.Events.{with_queue}
+use Rattle.comet_meaning.specs.Search as meaning
 use Rattle.run_search.specs.Searches.{search_seen}
 use Rattle.run_search.proofs.SearchLaws.{first_seen, rest_seen}
 use Rattle.run_search.proofs.search.Search.next_event.Goals as goal

@@ -1,6 +1,6 @@
 -- The events of the changes stand behind those that wait.
 use Rattle.std.proofs.Common.{List, ap}
-use Rattle.run_solvers.specs.OfCometMeaning.Search as meaning
+use Rattle.comet_meaning.specs.Search as meaning
 use Rattle.run_search.specs.Searches.{search_seen}
 use Rattle.run_search.proofs.SearchLaws.{queued_behind}
 use Rattle.run_search.proofs.search.Search.queue.Goals as goal
