@@ -19,7 +19,7 @@ use run_values::Stop;
 use term_forms::nodes::as_in_term;
 use term_forms::solvers_of_runs::Built;
 use term_forms::state_of_runs::{InTerm, Outside, State};
-use term_forms::steps_of_runs::inside::Defining;
+use term_forms::steps_of_runs::Defining;
 
 /// A call of a function in a constraint: of a user's constraint the places.
 pub(crate) fn function_form<O: Outside, W: Defining<O>>(

@@ -15,7 +15,7 @@ use checked_tree::Form;
 use run_values::Stop;
 use term_forms::nodes::as_in_term;
 use term_forms::state_of_runs::{InTerm, Outside, State};
-use term_forms::steps_of_runs::inside::Defining;
+use term_forms::steps_of_runs::Defining;
 use term_forms::terms::zero;
 
 /// What a constraint with incremental variables at a place stands for, by its form.

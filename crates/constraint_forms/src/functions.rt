@@ -15,11 +15,10 @@ use crate::kept::{kept_cells, kept_set};
 use cbl_base::Place;
 use checked_tree::{Builtin, Typed};
 use run_values::Stop;
-use term_forms::evaluating::expressions::number_of;
-use term_forms::evaluating::parts::term_cells;
+use term_forms::evaluating::{number_of, term_cells};
 use term_forms::solvers_of_runs::Built;
 use term_forms::state_of_runs::{InTerm, Outside, State};
-use term_forms::steps_of_runs::inside::Defining;
+use term_forms::steps_of_runs::Defining;
 
 /// `alldifferent(x)`
 #[tactic(auto, unfolding(comet_meaning::specs::ConstraintForms::all_different_form))]

@@ -14,7 +14,7 @@ use run_values::Stop;
 use term_forms::aggregates::bodies_of;
 use term_forms::solvers_of_runs::Built;
 use term_forms::state_of_runs::{Outside, State};
-use term_forms::steps_of_runs::inside::Defining;
+use term_forms::steps_of_runs::Defining;
 
 /// `and(..) c` and `or(..) c`. The names of the generators end with it.
 pub(crate) fn joining_term<O: Outside, W: Defining<O>>(

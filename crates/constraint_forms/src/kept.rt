@@ -17,9 +17,9 @@ use cbl_base::IntSet;
 use checked_tree::Typed;
 use run_values::{Cells, Stop, Value};
 use std::alloc::Global;
-use term_forms::evaluating::expressions::value_of;
+use term_forms::evaluating::value_of;
 use term_forms::state_of_runs::{Outside, State};
-use term_forms::steps_of_runs::inside::Within;
+use term_forms::steps_of_runs::Within;
 
 /// An array that is kept.
 #[tactic(auto, unfolding(comet_meaning::specs::ConstraintForms::kept_cells))]

@@ -5,10 +5,9 @@
 //! what the meaning of the form says.
 #![tactic(auto)]
 
-pub use term_forms as defining;
-
 mod calls;
 pub mod constraints;
+pub mod defining;
 mod function_nodes;
 mod functions;
 mod joinings;

@@ -12,10 +12,10 @@ use cbl_base::Place;
 use checked_tree::{Link, Typed};
 use comet_syntax::tree::{ChainOperator, Comparison};
 use run_values::Stop;
-use term_forms::evaluating::parts::{constraint_part, single_term};
+use term_forms::evaluating::{constraint_part, single_term};
 use term_forms::solvers_of_runs::Built;
 use term_forms::state_of_runs::{Outside, State};
-use term_forms::steps_of_runs::inside::Defining;
+use term_forms::steps_of_runs::Defining;
 
 /// `a == b` and its like.
 #[tactic(auto, unfolding(comet_meaning::specs::ConstraintForms::relation_form))]

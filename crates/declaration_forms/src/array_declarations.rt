@@ -22,9 +22,9 @@ use cbl_base::Place;
 use checked_tree::{Dimension, Slot, Start, Typed, Way};
 use expression_forms::expressions::{bounds_of, number_of, value_of};
 use expression_forms::state_of_runs::{Outside, State};
-use expression_forms::steps_of_runs::cells::{Extent, cell_count, put_named};
-use expression_forms::steps_of_runs::effects::{make_array, push_number, take_list};
-use expression_forms::steps_of_runs::inside::Within;
+use expression_forms::steps_of_runs::{
+    Extent, Within, cell_count, make_array, push_number, put_named, take_list,
+};
 use expression_forms::values_of_runs::Stop;
 
 /// An array with dimensions: these are evaluated first, and then each cell gets its number.

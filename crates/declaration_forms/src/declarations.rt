@@ -18,13 +18,11 @@ use expression_forms::expressions::{bounds_of, number_of, value_of};
 use expression_forms::parts::single_term;
 use expression_forms::solvers_of_runs::Beginning;
 use expression_forms::state_of_runs::{Outside, State};
-use expression_forms::steps_of_runs::declaring::{
-    as_defined, as_free, begin_variable, begins_with, variable_kind,
+use expression_forms::steps_of_runs::{
+    Defining, Within, as_defined, as_free, begin_variable, begins_with, declare_value,
+    variable_kind,
 };
-use expression_forms::steps_of_runs::effects::declare_value;
-use expression_forms::steps_of_runs::inside::{Defining, Within};
-use expression_forms::values_of_runs::values::first_value;
-use expression_forms::values_of_runs::{Bounds, Stop};
+use expression_forms::values_of_runs::{Bounds, Stop, first_value};
 use term_model::VarKind;
 
 /// A name of one value, or of an array that is copied.

@@ -5,14 +5,12 @@
 //! layers above use that each does what the meaning of the form says.
 #![tactic(auto)]
 
-pub use expression_forms as evaluating;
-
 pub mod array_declarations;
 pub mod declarations;
+pub mod evaluating;
+pub mod noticing;
 pub mod objects;
+pub mod objects_of_runs;
+pub mod state_of_runs;
+pub mod steps_of_runs;
 mod variable_arrays;
-
-pub use expression_forms::{
-    noticing as noticing, objects_of_runs as objects_of_runs, state_of_runs as state_of_runs,
-    steps_of_runs as steps_of_runs,
-};

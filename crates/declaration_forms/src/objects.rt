@@ -15,11 +15,10 @@ use checked_tree::{Kind, Slot, Typed};
 use expression_forms::expressions::value_of;
 use expression_forms::parts::single_term;
 use expression_forms::state_of_runs::{Outside, State};
-use expression_forms::steps_of_runs::effects::{
-    distribution_made, input_made, objective_made, put_made, selector_made, solution_made,
-    solver_made, sum_made, system_made,
+use expression_forms::steps_of_runs::{
+    Defining, Within, distribution_made, input_made, objective_made, put_made, selector_made,
+    solution_made, solver_made, sum_made, system_made,
 };
-use expression_forms::steps_of_runs::inside::{Defining, Within};
 use expression_forms::values_of_runs::{Stop, Value};
 
 /// A name gets a new object of this kind: a system, a sum and a solution are made in the solver that stands among the

@@ -17,11 +17,10 @@ use cbl_base::{Place, VarId};
 use checked_tree::{Slot, Typed, Variable, Way};
 use expression_forms::expressions::value_of;
 use expression_forms::state_of_runs::{Outside, State};
-use expression_forms::steps_of_runs::cells::{Extent, cell_count, put_named, with_index};
-use expression_forms::steps_of_runs::declaring::{
-    begins_with, declared, make_variables, push_variable, take_numbers, variable_kind,
+use expression_forms::steps_of_runs::{
+    Defining, Extent, begins_with, cell_count, declared, make_variables, push_variable, put_named,
+    take_numbers, variable_kind, with_index,
 };
-use expression_forms::steps_of_runs::inside::Defining;
 use expression_forms::values_of_runs::Stop;
 use term_model::VarDecl;
 

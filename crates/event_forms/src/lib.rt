@@ -6,12 +6,11 @@
 #![tactic(auto)]
 
 mod closures;
+pub mod objects_of_runs;
 mod queue;
+pub mod solvers_of_runs;
+pub mod state_of_runs;
+pub mod steps_of_runs;
 
 pub use closures::{Binding, run_closure};
 pub use queue::{behind_block, behind_commit, behind_restore, run_queue};
-pub use run_steps as steps_of_runs;
-pub use run_steps::{
-    objects_of_runs as objects_of_runs, solvers_of_runs as solvers_of_runs,
-    state_of_runs as state_of_runs,
-};

@@ -16,8 +16,7 @@ use cbl_base::Place;
 use checked_tree::{Generator, Typed};
 use comet_syntax::tree::Aggregate;
 use event_forms::state_of_runs::{Outside, State};
-use event_forms::steps_of_runs::inside::Within;
-use event_forms::steps_of_runs::tuples::{Tuples, pending_of};
+use event_forms::steps_of_runs::{Tuples, Within, pending_of};
 use run_values::aggregates::{Element, aggregate_value, push_element};
 use run_values::{Stop, Value};
 

@@ -15,8 +15,7 @@ use crate::expressions::{number_of, value_of, values_of};
 use cbl_base::Place;
 use checked_tree::{Builtin, Typed};
 use event_forms::state_of_runs::{Outside, State};
-use event_forms::steps_of_runs::inside::Within;
-use event_forms::steps_of_runs::operands::{call_builtin, count_in_array, index_array, index_grid};
+use event_forms::steps_of_runs::{Within, call_builtin, count_in_array, index_array, index_grid};
 use run_values::operators::{row_of_values, set_of_values};
 use run_values::{Stop, Value};
 

@@ -12,10 +12,9 @@ use crate::expressions::value_as;
 use cbl_base::Place;
 use checked_tree::{Function, Kind, Typed};
 use event_forms::state_of_runs::{Outside, State};
-use event_forms::steps_of_runs::code::{
-    Code, function_at, given, is_handed_itself, is_pure, parameter_at,
+use event_forms::steps_of_runs::{
+    Code, Within, function_at, given, is_handed_itself, is_pure, parameter_at,
 };
-use event_forms::steps_of_runs::inside::Within;
 use run_values::{Stop, Value};
 use std::mem;
 

@@ -20,10 +20,10 @@ use crate::operators::{
 use cbl_base::Place;
 use checked_tree::{Form, Kind, Typed};
 use event_forms::state_of_runs::{Outside, State};
-use event_forms::steps_of_runs::code::Code;
-use event_forms::steps_of_runs::inside::{Defining, Within};
-use event_forms::steps_of_runs::operands::{as_bounds, as_held, as_number, as_truth, read_part};
-use event_forms::steps_of_runs::plain::{plain_name, plain_number, plain_truth, plain_value};
+use event_forms::steps_of_runs::{
+    Code, Defining, Within, as_bounds, as_held, as_number, as_truth, plain_name, plain_number,
+    plain_truth, plain_value, read_part,
+};
 use run_values::{Bounds, Stop, Value};
 
 /// The value of a form of an expression of this kind at this place.

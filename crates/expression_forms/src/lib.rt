@@ -10,15 +10,14 @@ pub mod arrays;
 pub mod calls;
 pub mod expressions;
 mod methods;
+pub mod noticing;
+pub mod objects_of_runs;
 pub mod operators;
 pub mod parts;
 mod posting;
+pub mod solvers_of_runs;
+pub mod state_of_runs;
+pub mod steps_of_runs;
 pub mod tuples;
 mod user_posting;
-
-pub use event_forms as noticing;
-pub use event_forms::{
-    objects_of_runs as objects_of_runs, solvers_of_runs as solvers_of_runs,
-    state_of_runs as state_of_runs, steps_of_runs as steps_of_runs,
-};
-pub use run_values as values_of_runs;
+pub mod values_of_runs;

@@ -14,8 +14,7 @@ use cbl_base::Place;
 use checked_tree::{Method, Typed};
 use event_forms::behind_restore;
 use event_forms::state_of_runs::{Outside, State};
-use event_forms::steps_of_runs::inside::{Defining, Within};
-use event_forms::steps_of_runs::operands::call_on;
+use event_forms::steps_of_runs::{Defining, Within, call_on};
 use run_values::{Stop, Value};
 
 /// A call of a method. A constraint or a term is posted as it is, handlers run behind a `restore`, and of the arguments of

@@ -13,8 +13,7 @@ use cbl_base::Place;
 use checked_tree::{Kind, Link, Typed};
 use comet_syntax::tree::{Comparison, UnaryOperator};
 use event_forms::state_of_runs::{Outside, State};
-use event_forms::steps_of_runs::inside::Within;
-use event_forms::steps_of_runs::operands::{apply_unary, join_operand};
+use event_forms::steps_of_runs::{Within, apply_unary, join_operand};
 use run_values::operators::{compare, decides};
 use run_values::{Bounds, Stop, Value};
 

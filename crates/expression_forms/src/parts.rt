@@ -11,8 +11,7 @@ use crate::expressions::truth_of;
 use checked_tree::Typed;
 use event_forms::solvers_of_runs::Built;
 use event_forms::state_of_runs::{Outside, State, TermCells};
-use event_forms::steps_of_runs::inside::Defining;
-use event_forms::steps_of_runs::operands::{as_broken, as_several, as_single};
+use event_forms::steps_of_runs::{Defining, as_broken, as_several, as_single};
 use run_values::Stop;
 
 /// What a part stands for, as one term.

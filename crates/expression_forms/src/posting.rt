@@ -13,8 +13,7 @@ use crate::user_posting::{add_named, user_name};
 use cbl_base::Place;
 use checked_tree::Typed;
 use event_forms::state_of_runs::{Outside, State};
-use event_forms::steps_of_runs::inside::{Defining, Within};
-use event_forms::steps_of_runs::operands::post_with;
+use event_forms::steps_of_runs::{Defining, Within, post_with};
 use run_values::{Stop, Value};
 
 /// `post` of a system: the constraint, and its weight where it has one.

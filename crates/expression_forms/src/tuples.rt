@@ -18,8 +18,7 @@ use crate::expressions::value_of;
 use cbl_base::Place;
 use checked_tree::Generator;
 use event_forms::state_of_runs::{Outside, State};
-use event_forms::steps_of_runs::inside::Within;
-use event_forms::steps_of_runs::tuples::{Entered, Tuples, begin, pending_of, take_value};
+use event_forms::steps_of_runs::{Entered, Tuples, Within, begin, pending_of, take_value};
 use run_values::Stop;
 use std::mem;
 

@@ -17,7 +17,7 @@ use cbl_base::Place;
 use checked_tree::{Builtin, Form, Typed};
 use event_forms::solvers_of_runs::{Built, user_fits};
 use event_forms::state_of_runs::{Outside, State};
-use event_forms::steps_of_runs::inside::Defining;
+use event_forms::steps_of_runs::Defining;
 use run_values::{Stop, Value};
 
 /// The bytes of a text, and none of anything else.

@@ -15,12 +15,11 @@ ghost use Rattle.statement_forms.specs.OfRunValues.Views.{value_seen};
 use cbl_base::RunFault;
 use checked_tree::{Kind, Task, Typed};
 use constraint_forms::constraints::constraint_form;
-use constraint_forms::defining::terms::{constant_term, moving_term};
-use statement_forms::evaluating::expressions::evaluate_form;
+use constraint_forms::defining::{constant_term, moving_term};
+use statement_forms::evaluating::evaluate_form;
 use statement_forms::state_of_runs::{InTerm, Outside, State, Target};
 use statement_forms::statements::{execute_act, execute_all};
-use statement_forms::steps_of_runs::code::{Code, Flow};
-use statement_forms::steps_of_runs::inside::Inside;
+use statement_forms::steps_of_runs::{Code, Flow, Inside};
 use statement_forms::targets::target_of_form;
 use statement_forms::values_of_runs::{Stop, Value};
 

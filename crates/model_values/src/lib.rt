@@ -10,6 +10,7 @@
 
 mod all_parts;
 pub mod asked;
+pub mod computing;
 pub mod deltas;
 pub mod dependence;
 pub mod evaluation;
@@ -27,7 +28,6 @@ pub use deltas::{Move, delta};
 pub use failure::Failure;
 pub use fresh_values::{fresh, fresh_with};
 pub use laws::{closed_model_law, defined_variable_law};
-pub use operation_values as computing;
 pub use operation_values::{NoUsers, UserValues};
 pub use values::{ModelStop, Values};
 pub use wholes::Whole;

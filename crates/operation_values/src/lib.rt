@@ -8,8 +8,8 @@
 mod operation;
 mod places;
 mod users;
+pub mod violating;
 
-pub use cbl_violations as violating;
 pub use operation::{number_of, numbers_of, value_of};
 pub use places::violation_at;
 pub use users::{NoUsers, UserValues};

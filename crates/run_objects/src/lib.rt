@@ -7,14 +7,14 @@
 pub mod methods;
 pub mod objects;
 pub mod solutions;
+pub mod solvers_of_runs;
+pub mod state_of_runs;
 pub mod systems;
 pub mod variables;
 pub mod writes;
 
 pub use methods::method;
 pub use objects::{make_objective, make_solver, make_sum, make_system};
-pub use run_state as state_of_runs;
-pub use run_state::solvers_of_runs as solvers_of_runs;
 pub use solutions::{make_solution, restore};
 pub use systems::post;
 pub use variables::{

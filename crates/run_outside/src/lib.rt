@@ -9,10 +9,10 @@ mod beside;
 mod handed;
 mod out;
 mod outside;
+pub mod solvers_of_runs;
 mod stage;
 
 pub use handed::{HandedIn, handed_in};
 pub use out::{Bytes, Out};
 pub use outside::Outside;
-pub use run_solvers as solvers_of_runs;
 pub use stage::Stage;

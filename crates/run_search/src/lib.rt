@@ -7,9 +7,9 @@
 
 pub mod moves;
 pub mod search;
+pub mod solving;
 
 pub use ls_events::{Event, Solution, VarChange};
 pub use ls_select::Ties;
 pub use moves::copied_moves;
-pub use run_solvers::solving as solving;
 pub use search::{Closure, KeptMove, Reaction, Search};

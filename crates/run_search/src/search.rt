@@ -19,8 +19,7 @@ use checked_tree::{EventSlots, Later};
 pub use ls_events::Event;
 use ls_events::{Handlers, Queue, Solution, VarChange};
 use ls_select::{Draws, Ties, pick};
-use run_solvers::values_of_runs::values::copied_values;
-use run_solvers::values_of_runs::{Stop, Value};
+use run_solvers::values_of_runs::{Stop, Value, copied_values};
 use std::alloc::Global;
 
 /// A statement that runs later, and the names that it sees.

@@ -1,15 +1,10 @@
 -- What callers cite of comet_meaning.
 pub use Rattle.comet_meaning.specs.Blocks
-pub use Rattle.comet_meaning.specs.Changes
-pub use Rattle.comet_meaning.specs.Draws
-pub use Rattle.comet_meaning.specs.Events
 pub use Rattle.comet_meaning.specs.Models
 pub use Rattle.comet_meaning.specs.Onward
 pub use Rattle.comet_meaning.specs.Outcome
 pub use Rattle.comet_meaning.specs.Parts
 pub use Rattle.comet_meaning.specs.Posting
-pub use Rattle.comet_meaning.specs.Search
-pub use Rattle.comet_meaning.specs.Selection
 pub use Rattle.comet_meaning.specs.Solutions
 pub use Rattle.comet_meaning.specs.Solvers
 pub use Rattle.comet_meaning.specs.State
@@ -18,4 +13,3 @@ pub use Rattle.comet_meaning.specs.TakingUsers
 pub use Rattle.comet_meaning.specs.Users
 pub use Rattle.comet_meaning.specs.Values
 pub use Rattle.comet_meaning.specs.Variables
-pub use Rattle.comet_meaning.specs.Words

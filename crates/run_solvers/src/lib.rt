@@ -18,12 +18,12 @@ mod reading;
 mod refusals;
 mod solutions;
 mod solvers;
+pub mod solving;
 mod totals;
 mod users;
+pub mod values_of_runs;
 mod waiting;
 
 pub use beginning::Beginning;
 pub use built::{Built, user_fits};
-pub use ls_solver as solving;
-pub use run_values as values_of_runs;
 pub use solvers::Solvers;

@@ -4,8 +4,9 @@
 //! state of a run, at its start too, and that a copy without data is one.
 #![tactic(auto)]
 
+pub mod outside_of_runs;
+pub mod solving;
 mod standing;
+pub mod state_of_runs;
 
-pub use run_state as state_of_runs;
-pub use run_state::{outside_of_runs as outside_of_runs, solving as solving};
 pub use standing::Standing;

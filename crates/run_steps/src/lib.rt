@@ -12,11 +12,11 @@ pub mod declaring;
 pub mod effects;
 pub mod inside;
 pub mod leaves;
+pub mod objects_of_runs;
 pub mod operands;
 pub mod plain;
 pub mod short_calls;
+pub mod solvers_of_runs;
+pub mod state_of_runs;
 pub mod tuples;
-
-pub use run_objects as objects_of_runs;
-pub use run_objects::{solvers_of_runs as solvers_of_runs, state_of_runs as state_of_runs};
-pub use run_values as values_of_runs;
+pub mod values_of_runs;

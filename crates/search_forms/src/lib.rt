@@ -6,17 +6,18 @@
 #![tactic(auto)]
 
 mod candidates;
+pub mod declaring;
+pub mod evaluating;
 mod listing;
 mod moves;
+pub mod noticing;
+pub mod objects_of_runs;
 mod scanning;
 mod selectors;
+pub mod state_of_runs;
+pub mod steps_of_runs;
 mod watching;
 
-pub use declaration_forms as declaring;
-pub use declaration_forms::{
-    noticing as noticing, objects_of_runs as objects_of_runs, state_of_runs as state_of_runs,
-    steps_of_runs as steps_of_runs,
-};
 pub use moves::{call_move, execute_neighbor};
 pub use selectors::{execute_select, execute_select_by};
 pub use watching::execute_whenever;

@@ -17,11 +17,9 @@ ghost use Rattle.search_forms.specs.Tables.{AreRows, candidates_seen};
 use crate::candidates::Candidates;
 use cbl_base::Place;
 use checked_tree::Generator;
-use declaration_forms::evaluating::expressions::value_of;
-use declaration_forms::evaluating::tuples::next_tuple;
+use declaration_forms::evaluating::{next_tuple, value_of};
 use declaration_forms::state_of_runs::{Outside, State};
-use declaration_forms::steps_of_runs::inside::Within;
-use declaration_forms::steps_of_runs::tuples::{Tuples, pending_of, take_value};
+use declaration_forms::steps_of_runs::{Tuples, Within, pending_of, take_value};
 use run_values::{Stop, Value};
 
 /// All candidates: the tuples of the generators, the last one fastest. A value of a generator before the last one costs a

@@ -10,11 +10,10 @@ ghost use Rattle.declaration_forms.specs.OfRunSteps.Views.{flow_seen};
 ghost use Rattle.run_values.specs.Views.{value_seen};
 
 use checked_tree::{Later, Slot, Typed};
-use declaration_forms::evaluating::expressions::{number_of, value_of};
+use declaration_forms::evaluating::{number_of, value_of};
 use declaration_forms::noticing::run_closure;
 use declaration_forms::state_of_runs::{Outside, State};
-use declaration_forms::steps_of_runs::code::Flow;
-use declaration_forms::steps_of_runs::inside::Within;
+use declaration_forms::steps_of_runs::{Flow, Within};
 use run_values::{Stop, Value};
 
 /// A `neighbor`: its delta, and then the selector that a name has keeps the statement, where it keeps none yet or the delta

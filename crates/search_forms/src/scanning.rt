@@ -20,9 +20,9 @@ use crate::candidates::Candidates;
 use cbl_base::Place;
 use checked_tree::{Generator, Typed};
 use comet_syntax::tree::Extreme;
-use declaration_forms::evaluating::expressions::{condition, number_of};
+use declaration_forms::evaluating::{condition, number_of};
 use declaration_forms::state_of_runs::{Outside, State};
-use declaration_forms::steps_of_runs::inside::Within;
+use declaration_forms::steps_of_runs::Within;
 use ls_select::{End, Part, Scored, Want};
 use run_values::{Stop, Value};
 

@@ -20,8 +20,7 @@ use cbl_base::Place;
 use checked_tree::{Generator, Task, Typed};
 use comet_syntax::tree::Extreme;
 use declaration_forms::state_of_runs::{Outside, State};
-use declaration_forms::steps_of_runs::code::Flow;
-use declaration_forms::steps_of_runs::inside::Within;
+use declaration_forms::steps_of_runs::{Flow, Within};
 use run_values::Stop;
 use std::alloc::Global;
 

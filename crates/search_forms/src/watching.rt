@@ -10,8 +10,7 @@ ghost use Rattle.declaration_forms.specs.OfRunSteps.Views.{flow_seen};
 
 use checked_tree::{EventSlots, Later, Typed};
 use declaration_forms::state_of_runs::{Outside, State};
-use declaration_forms::steps_of_runs::code::Flow;
-use declaration_forms::steps_of_runs::inside::Within;
+use declaration_forms::steps_of_runs::{Flow, Within};
 use run_values::Stop;
 
 /// A `whenever`: the variable, and then a handler of it, which runs the statement.

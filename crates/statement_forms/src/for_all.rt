@@ -12,12 +12,9 @@ ghost use Rattle.search_forms.specs.OfRunState.Views.{state_seen};
 use cbl_base::Place;
 use checked_tree::{Generator, Task, Typed};
 use run_values::Stop;
-use search_forms::declaring::evaluating::expressions::{condition, value_of};
-use search_forms::declaring::evaluating::tuples::next_tuple;
+use search_forms::evaluating::{condition, next_tuple, value_of};
 use search_forms::state_of_runs::{Outside, State};
-use search_forms::steps_of_runs::code::Flow;
-use search_forms::steps_of_runs::inside::Within;
-use search_forms::steps_of_runs::tuples::{Tuples, pending_of};
+use search_forms::steps_of_runs::{Flow, Tuples, Within, pending_of};
 
 /// A `forall`: the body for each tuple, to the first that returns.
 pub(crate) fn execute_for_all<O: Outside, W: Within<O>>(

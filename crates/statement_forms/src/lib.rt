@@ -5,16 +5,14 @@
 //! form says.
 #![tactic(auto)]
 
+pub mod evaluating;
 mod for_all;
 mod loops;
 mod printing;
-
-pub use search_forms::declaring::evaluating as evaluating;
-
+pub mod state_of_runs;
 pub mod statements;
+pub mod steps_of_runs;
 pub mod targets;
 mod together;
+pub mod values_of_runs;
 mod writes;
-
-pub use run_values as values_of_runs;
-pub use search_forms::{state_of_runs as state_of_runs, steps_of_runs as steps_of_runs};

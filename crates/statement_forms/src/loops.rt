@@ -16,11 +16,9 @@ use crate::statements::perform;
 use cbl_base::Place;
 use checked_tree::{Action, Counter, Task, Typed};
 use run_values::Stop;
-use search_forms::declaring::evaluating::expressions::{condition, number_of};
+use search_forms::evaluating::{condition, number_of};
 use search_forms::state_of_runs::{Outside, State};
-use search_forms::steps_of_runs::code::Flow;
-use search_forms::steps_of_runs::effects::put_number;
-use search_forms::steps_of_runs::inside::{Around, Within};
+use search_forms::steps_of_runs::{Around, Flow, Within, put_number};
 
 #[tactic(auto, unfolding(comet_meaning::specs::Loops::while_form))]
 pub(crate) fn execute_while<O: Outside, W: Around<O>>(

@@ -8,11 +8,9 @@ ghost use Rattle.search_forms.specs.OfRunState.Views.{state_seen};
 
 use checked_tree::Printed;
 use run_values::Stop;
-use search_forms::declaring::evaluating::expressions::value_of;
-use search_forms::state_of_runs::out::print;
-use search_forms::state_of_runs::{Outside, State};
-use search_forms::steps_of_runs::effects::show_part;
-use search_forms::steps_of_runs::inside::Within;
+use search_forms::evaluating::value_of;
+use search_forms::state_of_runs::{Outside, State, print};
+use search_forms::steps_of_runs::{Within, show_part};
 
 /// Evaluates and prints items, each before the next one.
 pub(crate) fn print_all<O: Outside, W: Within<O>>(

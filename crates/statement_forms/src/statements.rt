@@ -19,15 +19,10 @@ use crate::writes::{step_target, swap_values, write_value};
 use cbl_base::Place;
 use checked_tree::{Act, Action, Task, Typed};
 use run_values::Stop;
-use search_forms::declaring::array_declarations::declare_array;
-use search_forms::declaring::declarations::{declare, declare_variable};
-use search_forms::declaring::evaluating::expressions::{truth_of, value_of};
-use search_forms::declaring::objects::declare_object;
+use search_forms::declaring::{declare, declare_array, declare_object, declare_variable};
+use search_forms::evaluating::{truth_of, value_of};
 use search_forms::state_of_runs::{Outside, State};
-use search_forms::steps_of_runs::code::Flow;
-use search_forms::steps_of_runs::effects::{as_done, as_next, as_returned};
-use search_forms::steps_of_runs::inside::{Around, Within};
-use search_forms::steps_of_runs::leaves::returned;
+use search_forms::steps_of_runs::{Around, Flow, Within, as_done, as_next, as_returned, returned};
 use search_forms::{
     call_move, execute_neighbor, execute_select, execute_select_by, execute_whenever,
 };

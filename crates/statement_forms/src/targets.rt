@@ -12,11 +12,9 @@ ghost use Rattle.search_forms.specs.OfRunState.Views.{state_seen};
 use cbl_base::Place;
 use checked_tree::{Form, Kind, Typed};
 use run_values::Stop;
-use search_forms::declaring::evaluating::expressions::{number_of, value_of};
+use search_forms::evaluating::{number_of, value_of};
 use search_forms::state_of_runs::{Outside, State, Target};
-use search_forms::steps_of_runs::inside::{Around, Within};
-use search_forms::steps_of_runs::operands::{target_in_array, target_in_grid};
-use search_forms::steps_of_runs::plain::plain_target;
+use search_forms::steps_of_runs::{Around, Within, plain_target, target_in_array, target_in_grid};
 
 /// What an expression of this kind at this place stands for, by its form.
 #[tactic(auto, unfolding(checked_tree::specs::Shape::shape_of, comet_meaning::specs::Writes::target_of_form))]

@@ -16,9 +16,7 @@ use run_values::{Stop, Value};
 use search_forms::noticing::behind_block;
 use search_forms::objects_of_runs::open_with;
 use search_forms::state_of_runs::{Outside, State};
-use search_forms::steps_of_runs::blocks::commit_part;
-use search_forms::steps_of_runs::code::Flow;
-use search_forms::steps_of_runs::inside::Within;
+use search_forms::steps_of_runs::{Flow, Within, commit_part};
 
 /// A `with` on the solver that a name has. `NotClosed` at this place exactly where the solver is open.
 pub(crate) fn execute_together<O: Outside, W: Within<O>>(

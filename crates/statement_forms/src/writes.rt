@@ -18,15 +18,13 @@ use cbl_base::Place;
 use checked_tree::{Kind, Slot, Typed};
 use comet_syntax::tree::{Step, WriteOperator};
 use run_values::{Stop, Value};
-use search_forms::declaring::evaluating::expressions::{number_of, other_value_of, value_of};
-use search_forms::declaring::evaluating::parts::single_term;
+use search_forms::evaluating::{number_of, other_value_of, single_term, value_of};
 use search_forms::noticing::behind_commit;
 use search_forms::state_of_runs::{Outside, State, Target};
-use search_forms::steps_of_runs::effects::{
-    add_part, assign_part, define_part, step_part, subtract_part, swap_part,
+use search_forms::steps_of_runs::{
+    Around, Within, add_part, assign_part, define_part, number_itself, plain_slot, step_part,
+    subtract_part, swap_part,
 };
-use search_forms::steps_of_runs::inside::{Around, Within};
-use search_forms::steps_of_runs::plain::{number_itself, plain_slot};
 
 /// `target = value` and its like, at a place.
 #[tactic(auto, unfolding(comet_meaning::specs::Writes::write_form))]

@@ -6,8 +6,9 @@
 
 mod counted;
 mod execution;
+pub mod outside_of_runs;
+pub mod standing_of_runs;
+pub mod state_of_runs;
 
 pub use counted::CountedOut;
 pub use execution::{Ended, RunEnd, run};
-pub use run_standing as standing_of_runs;
-pub use run_standing::{outside_of_runs as outside_of_runs, state_of_runs as state_of_runs};

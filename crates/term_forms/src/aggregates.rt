@@ -18,8 +18,7 @@ use comet_syntax::tree::Aggregate;
 use expression_forms::expressions::{truth_of, value_of};
 use expression_forms::parts::single_term;
 use expression_forms::state_of_runs::{InTerm, Outside, State};
-use expression_forms::steps_of_runs::inside::{Defining, Within};
-use expression_forms::steps_of_runs::tuples::{Tuples, pending_of};
+use expression_forms::steps_of_runs::{Defining, Tuples, Within, pending_of};
 use expression_forms::tuples::next_tuple;
 use run_values::Stop;
 

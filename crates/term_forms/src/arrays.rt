@@ -15,7 +15,7 @@ use expression_forms::expressions::number_of;
 use expression_forms::parts::{single_term, term_cells};
 use expression_forms::solvers_of_runs::Built;
 use expression_forms::state_of_runs::{InTerm, Outside, State};
-use expression_forms::steps_of_runs::inside::Defining;
+use expression_forms::steps_of_runs::Defining;
 use run_values::Stop;
 
 /// `a[i]`: where the index holds incremental variables an operation of it and all cells, and else the cell itself.

@@ -5,18 +5,15 @@
 //! of the form says.
 #![tactic(auto)]
 
-pub use expression_forms as evaluating;
-
 pub mod aggregates;
 pub mod arrays;
 pub mod bodies;
 pub mod calls;
+pub mod evaluating;
 pub mod nodes;
 pub mod operators;
 pub mod parts;
+pub mod solvers_of_runs;
+pub mod state_of_runs;
+pub mod steps_of_runs;
 pub mod terms;
-
-pub use expression_forms::{
-    solvers_of_runs as solvers_of_runs, state_of_runs as state_of_runs,
-    steps_of_runs as steps_of_runs,
-};

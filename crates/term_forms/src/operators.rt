@@ -13,7 +13,7 @@ use comet_syntax::tree::{ChainOperator, Comparison, UnaryOperator};
 use expression_forms::parts::single_term;
 use expression_forms::solvers_of_runs::Built;
 use expression_forms::state_of_runs::{Outside, State};
-use expression_forms::steps_of_runs::inside::Defining;
+use expression_forms::steps_of_runs::Defining;
 use run_values::Stop;
 
 /// `-e` and `!e`

@@ -21,9 +21,7 @@ use checked_tree::{Form, Kind};
 use expression_forms::expressions::evaluate_form;
 use expression_forms::solvers_of_runs::Built;
 use expression_forms::state_of_runs::{InTerm, Outside, State};
-use expression_forms::steps_of_runs::code::Code;
-use expression_forms::steps_of_runs::inside::Defining;
-use expression_forms::steps_of_runs::operands::{as_standing, name_term};
+use expression_forms::steps_of_runs::{Code, Defining, as_standing, name_term};
 use run_values::Stop;
 
 /// What an expression without incremental variables stands for: its value now.

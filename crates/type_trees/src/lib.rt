@@ -4,5 +4,4 @@
 #![tactic(auto)]
 
 pub mod laws;
-
-pub use comet_types as typing_programs;
+pub mod typing_programs;

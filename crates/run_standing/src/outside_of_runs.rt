@@ -1,0 +1,2 @@
+//! What callers use of `run_outside`.
+pub use run_state::outside_of_runs::{HandedIn, handed_in};

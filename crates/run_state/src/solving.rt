@@ -1,0 +1,2 @@
+//! What callers use of `ls_solver`.
+pub use run_search::solving::{Solver, Trial};
