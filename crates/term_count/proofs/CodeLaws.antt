@@ -18,7 +18,7 @@ use Rattle.term_model.specs.declared.term.Term.TheViews.{out-Term}
 use Rattle.term_model.specs.declared.term.Term.TheFolds.{map-Term}
 use Rattle.term_model.proofs.EqualTerms.{same_out, same_term_equiv, eq_of}
 use Rattle.term_model.proofs.OperationLaws.{same_is_equal}
-use Rattle.term_count.specs.Codes.{code_among, code_by, counted, is_known, is_known_by, name_among, name_by, operation_code}
+use Rattle.term_count.specs.Codes.{IsNode, code_among, code_by, counted, is_known, is_known_by, name_among, name_by, operation_code}
 use Rattle.term_count.proofs.PlaceLaws.{and_parts, both, same_place, same_position}
 
 abbrev Test : Type 0
@@ -149,13 +149,6 @@ args_alike ts (a ∷ xs) (b ∷ bs) h =
     ap (λ n. n ∷ map (name_among ts) xs) (name_alike ts a b parts.0) ∙ ap (λ ns. name_among ts b ∷ ns) (args_alike ts xs bs parts.1)
 
 -- ---- codes
--- what isn't a variable
-abbrev pub IsNode : Term-F Term → Type 0
-IsNode (Term-F.Const x) = Unit {0}
-IsNode (Term-F.ConstSet s) = Unit {0}
-IsNode (Term-F.Var v) = ⊥
-IsNode (Term-F.Node op args place) = Unit {0}
-
 code_same_by : (ts : List Term) (y z : Term-F Term) → IsNode y → list_all (is_known ts) (arguments_of y) ≡ true → code_by ts y ≡ code_by ts z → same_layer (map-Term Term Test same_term y) z ≡ true
 code_same_by ts (Term-F.Const x) (Term-F.Const x') own known e = (Decides-int_eq x' x).1 (sym (head_same x x' [] [] (tail_same (negsuc 0) (negsuc 0) (x ∷ []) (x' ∷ []) e)))
 code_same_by ts (Term-F.Const x) (Term-F.ConstSet s) own known e = let c : ◌≡◌ {A = ℕ} 0 1 = negsuc_same 0 1 (head_same (negsuc 0) (negsuc 1) (x ∷ []) s e) in absurd (omega arith)

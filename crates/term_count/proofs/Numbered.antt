@@ -19,9 +19,9 @@ use Rattle.term_model.specs.declared.term.Term.TheVariants.{Const, ConstSet, Var
 use Rattle.term_model.proofs.EqualTerms.{same_term_equiv}
 use Rattle.term_model.proofs.NamingLaws.{last_or}
 use Rattle.term_model.proofs.SubtermLaws.{subterms_node, subterms_roll}
-use Rattle.term_count.specs.Codes.{code_among, code_by, is_known, is_known_by, name_among, name_by, operation_code}
+use Rattle.term_count.specs.Codes.{IsNode, code_among, code_by, is_known, is_known_by, name_among, name_by, operation_code}
 use Rattle.term_count.specs.Numbering.{Adds, AddsAll, IsNumbered, listed, terms_after, terms_after_all, with_code}
-use Rattle.term_count.proofs.CodeLaws.{IsNode, code_test}
+use Rattle.term_count.proofs.CodeLaws.{code_test}
 use Rattle.term_count.proofs.PlaceLaws.{all_known_front, and_parts, any_last, both, names_front, position_last, same_any, same_position}
 
 -- ---- lists
@@ -33,23 +33,23 @@ position_map : {X Y : Type 0} (p : Y → Bool) (f : X → Y) (xs : List X) → p
 position_map p f [] = refl
 position_map p f (x ∷ xs) = ap (λ n. cond (not (p (f x))) (1 + n) 0) (position_map p f xs)
 
-map_push : {X Y : Type 0} (f : X → Y) (xs : List X) (x : X) → map f (xs ++ x ∷ []) ≡ map f xs ++ f x ∷ []
+pub map_push : {X Y : Type 0} (f : X → Y) (xs : List X) (x : X) → map f (xs ++ x ∷ []) ≡ map f xs ++ f x ∷ []
 map_push f [] x = refl
 map_push f (y ∷ xs) x = ap (λ ys. f y ∷ ys) (map_push f xs x)
 
-joined_push : (tss : List (List Term)) (ts : List Term) → joined_terms (tss ++ ts ∷ []) ≡ joined_terms tss ++ ts
+pub joined_push : (tss : List (List Term)) (ts : List Term) → joined_terms (tss ++ ts ∷ []) ≡ joined_terms tss ++ ts
 joined_push [] ts = append-nil ts
 joined_push (us ∷ tss) ts = ap (λ vs. us ++ vs) (joined_push tss ts) ∙ sym (append_assoc us (joined_terms tss) ts)
 
 -- ---- terms that are added go behind the others
-with_grows : (ts : List Term) (t : Term) → (more : List Term) × (with_subterm ts t ≡ ts ++ more)
+pub with_grows : (ts : List Term) (t : Term) → (more : List Term) × (with_subterm ts t ≡ ts ++ more)
 with_grows ts t = cases (list_any (same_term t) ts) refl
   where
     cases : (b : Bool) → list_any (same_term t) ts ≡ b → (more : List Term) × (with_subterm ts t ≡ ts ++ more)
     cases true e = ([], ap (λ b. if b then ts else ts ++ t ∷ []) e ∙ sym (append-nil ts))
     cases false e = (t ∷ [], ap (λ b. if b then ts else ts ++ t ∷ []) e)
 
-fold_grows : (ts us : List Term) → (more : List Term) × (fold with_subterm ts us ≡ ts ++ more)
+pub fold_grows : (ts us : List Term) → (more : List Term) × (fold with_subterm ts us ≡ ts ++ more)
 fold_grows ts [] = ([], sym (append-nil ts))
 fold_grows ts (u ∷ us) =
     let one = with_grows ts u in
@@ -63,7 +63,7 @@ code_front_by ts more (Term-F.ConstSet s) h = refl
 code_front_by ts more (Term-F.Var v) h = refl
 code_front_by ts more (Term-F.Node op args place) h = ap (λ ns. operation_code op ++ ns) (names_front ts more args.items h)
 
-code_front : (ts more : List Term) (t : Term) → list_all (is_known ts) (arguments_of (out-Term t)) ≡ true → code_among (ts ++ more) t ≡ code_among ts t
+pub code_front : (ts more : List Term) (t : Term) → list_all (is_known ts) (arguments_of (out-Term t)) ≡ true → code_among (ts ++ more) t ≡ code_among ts t
 code_front ts more t h = code_front_by ts more (out-Term t) h
 
 codes_front : (ts more us : List Term) → ((i : ℕ) (u : Term) → slice_get us i ≡ Some u → list_all (is_known ts) (arguments_of (out-Term u)) ≡ true) → map (code_among (ts ++ more)) us ≡ map (code_among ts) us
@@ -72,13 +72,13 @@ codes_front ts more (u ∷ us) closed =
     ap (λ c. c ∷ map (code_among (ts ++ more)) us) (code_front ts more u (closed zero u refl))
     ∙ ap (λ cs. code_among ts u ∷ cs) (codes_front ts more us (λ i v at. closed (suc i) v at))
 
-name_of_node : (ts : List Term) (t : Term) (y : Term-F Term) → IsNode y → name_by ts t y ≡ pos (position_or_len (same_term t) ts)
+pub name_of_node : (ts : List Term) (t : Term) (y : Term-F Term) → IsNode y → name_by ts t y ≡ pos (position_or_len (same_term t) ts)
 name_of_node ts t (Term-F.Const x) own = refl
 name_of_node ts t (Term-F.ConstSet s) own = refl
 name_of_node ts t (Term-F.Var v) own = absurd own
 name_of_node ts t (Term-F.Node op args place) own = refl
 
-known_of_node : (ts : List Term) (t : Term) (y : Term-F Term) → IsNode y → is_known_by ts t y ≡ list_any (same_term t) ts
+pub known_of_node : (ts : List Term) (t : Term) (y : Term-F Term) → IsNode y → is_known_by ts t y ≡ list_any (same_term t) ts
 known_of_node ts t (Term-F.Const x) own = refl
 known_of_node ts t (Term-F.ConstSet s) own = refl
 known_of_node ts t (Term-F.Var v) own = absurd own
@@ -92,23 +92,23 @@ pub record Keeps (after : List (List ℤ)) (ts : List Term) (t : Term) (name : �
 
 module _ (codes after : List (List ℤ)) (ts : List Term) (t : Term) (code : List ℤ) (name : ℤ) (numbered : IsNumbered codes ts) (own : IsNode (out-Term t)) (args : list_all (is_known ts) (arguments_of (out-Term t)) ≡ true)
     (is : code ≡ code_among ts t) (next : after ≡ with_code codes code) (place : name ≡ pos (position_or_len (pointwise int_eq code) codes)) where
-  there : list_any (pointwise int_eq code) codes ≡ list_any (same_term t) ts
-  there =
+  pub code_there : list_any (pointwise int_eq code) codes ≡ list_any (same_term t) ts
+  code_there =
       ap (λ c. list_any (pointwise int_eq c) codes) is ∙ ap (list_any (pointwise int_eq (code_among ts t))) numbered.same
       ∙ any_map (pointwise int_eq (code_among ts t)) (code_among ts) ts ∙ same_any (λ u. pointwise int_eq (code_among ts t) (code_among ts u)) (same_term t) (λ u. code_test ts t u own args) ts
 
-  at : name ≡ pos (position_or_len (same_term t) ts)
-  at =
+  pub code_at : name ≡ pos (position_or_len (same_term t) ts)
+  code_at =
       place ∙ ap (λ c. pos (position_or_len (pointwise int_eq c) codes)) is ∙ ap (λ cs. pos (position_or_len (pointwise int_eq (code_among ts t)) cs)) numbered.same
       ∙ ap pos (position_map (pointwise int_eq (code_among ts t)) (code_among ts) ts ∙ same_position (λ u. pointwise int_eq (code_among ts t) (code_among ts u)) (same_term t) (λ u. code_test ts t u own args) ts)
 
   kept_there : list_any (same_term t) ts ≡ true → Keeps after ts t name
   kept_there e =
       let terms : with_subterm ts t ≡ ts = ap (λ b. if b then ts else ts ++ t ∷ []) e in
-      let codes' : after ≡ codes = next ∙ ap (λ b. if b then codes else codes ++ code ∷ []) (there ∙ e) in
+      let codes' : after ≡ codes = next ∙ ap (λ b. if b then codes else codes ++ code ∷ []) (code_there ∙ e) in
       record {
         numbered = subst (λ us. IsNumbered after us) (sym terms) (subst (λ cs. IsNumbered cs ts) (sym codes') numbered);
-        named = at ∙ sym (name_of_node ts t (out-Term t) own) ∙ ap (λ us. name_among us t) (sym terms);
+        named = code_at ∙ sym (name_of_node ts t (out-Term t) own) ∙ ap (λ us. name_among us t) (sym terms);
         known = ap (λ us. is_known us t) terms ∙ known_of_node ts t (out-Term t) own ∙ e;
       }
 
@@ -119,7 +119,7 @@ module _ (codes after : List (List ℤ)) (ts : List Term) (t : Term) (code : Lis
   kept_new : list_any (same_term t) ts ≡ false → Keeps after ts t name
   kept_new e =
       let terms : with_subterm ts t ≡ ts ++ t ∷ [] = ap (λ b. if b then ts else ts ++ t ∷ []) e in
-      let codes' : after ≡ codes ++ code ∷ [] = next ∙ ap (λ b. if b then codes else codes ++ code ∷ []) (there ∙ e) in
+      let codes' : after ≡ codes ++ code ∷ [] = next ∙ ap (λ b. if b then codes else codes ++ code ∷ []) (code_there ∙ e) in
       let itself : same_term t t ≡ true = same_term_equiv.refl t in
       let whole : IsNumbered after (ts ++ t ∷ []) = record {
         same = codes' ∙ ap (λ cs. cs ++ code ∷ []) (numbered.same ∙ sym (codes_front ts (t ∷ []) ts numbered.closed))
@@ -128,7 +128,7 @@ module _ (codes after : List (List ℤ)) (ts : List Term) (t : Term) (code : Lis
       } in
       record {
         numbered = subst (λ us. IsNumbered after us) (sym terms) whole;
-        named = at ∙ ap pos (sym (position_last (same_term t) ts t e itself)) ∙ sym (name_of_node (ts ++ t ∷ []) t (out-Term t) own) ∙ ap (λ us. name_among us t) (sym terms);
+        named = code_at ∙ ap pos (sym (position_last (same_term t) ts t e itself)) ∙ sym (name_of_node (ts ++ t ∷ []) t (out-Term t) own) ∙ ap (λ us. name_among us t) (sym terms);
         known = ap (λ us. is_known us t) terms ∙ known_of_node (ts ++ t ∷ []) t (out-Term t) own ∙ any_last (same_term t) ts t itself;
       }
 
@@ -147,33 +147,45 @@ added after ts mid t name e keeps = record {
   known = ap (λ us. is_known us t) e ∙ keeps.known;
 }
 
-out_is : (t : Term) (y : Term-F Term) → t ≡ roll-Term y → out-Term t ≡ y
+pub out_is : (t : Term) (y : Term-F Term) → t ≡ roll-Term y → out-Term t ≡ y
 out_is t y e = ap out-Term e ∙ out-roll-Term y
+
+-- which terms there are after one layer
+pub number_below : (ts : List Term) (t : Term) (x : ℤ) → t ≡ Const x → terms_after ts t ≡ with_subterm ts t
+number_below ts t x is =
+    let whole : t ≡ roll-Term (Term-F.Const x) = is ∙ sym (rolls-Const x) in
+    ap (fold with_subterm ts) (ap subterms whole ∙ subterms_roll (Term-F.Const x) ∙ ap (λ u. u ∷ []) (sym whole))
+
+pub set_below : (ts : List Term) (t : Term) (s : List ℤ) → t ≡ ConstSet s → terms_after ts t ≡ with_subterm ts t
+set_below ts t s is =
+    let whole : t ≡ roll-Term (Term-F.ConstSet s) = is ∙ sym (rolls-ConstSet s) in
+    ap (fold with_subterm ts) (ap subterms whole ∙ subterms_roll (Term-F.ConstSet s) ∙ ap (λ u. u ∷ []) (sym whole))
+
+pub var_below : (ts : List Term) (t : Term) (v : VarId) → t ≡ Var v → terms_after ts t ≡ ts
+var_below ts t v is = ap (fold with_subterm ts) (ap subterms (is ∙ sym (rolls-Var v)) ∙ subterms_roll (Term-F.Var v))
+
+pub node_below : (ts : List Term) (t : Term) (op : Op) (args : Vec Term Global) (place : Place) → t ≡ Node op args place → terms_after ts t ≡ with_subterm (terms_after_all ts args.items) t
+node_below ts t op args place is =
+    ap (fold with_subterm ts) (subterms_node t op args place is) ∙ fold-append with_subterm ts (joined_terms (map subterms args.items)) (t ∷ [])
 
 pub number_added : (codes after : List (List ℤ)) (ts : List Term) (t : Term) (x name : ℤ) (code : List ℤ) → t ≡ Const x → code ≡ negsuc 0 ∷ x ∷ [] → after ≡ with_code codes code → name ≡ pos (position_or_len (pointwise int_eq code) codes) →
     IsNumbered codes ts → Adds after ts t name
 number_added codes after ts t x name code is made next place numbered =
-    let whole : t ≡ roll-Term (Term-F.Const x) = is ∙ sym (rolls-Const x) in
-    let out : out-Term t ≡ Term-F.Const x = out_is t (Term-F.Const x) whole in
-    let below : subterms t ≡ t ∷ [] = ap subterms whole ∙ subterms_roll (Term-F.Const x) ∙ ap (λ u. u ∷ []) (sym whole) in
-    added after ts ts t name (ap (fold with_subterm ts) below)
+    let out : out-Term t ≡ Term-F.Const x = out_is t (Term-F.Const x) (is ∙ sym (rolls-Const x)) in
+    added after ts ts t name (number_below ts t x is)
     (kept codes after ts t code name numbered (subst IsNode (sym out) tt) (ap (λ y. list_all (is_known ts) (arguments_of y)) out) (made ∙ sym (ap (code_by ts) out)) next place)
 
 pub set_added : (codes after : List (List ℤ)) (ts : List Term) (t : Term) (s : List ℤ) (name : ℤ) (code : List ℤ) → t ≡ ConstSet s → code ≡ negsuc 1 ∷ s → after ≡ with_code codes code → name ≡ pos (position_or_len (pointwise int_eq code) codes) →
     IsNumbered codes ts → Adds after ts t name
 set_added codes after ts t s name code is made next place numbered =
-    let whole : t ≡ roll-Term (Term-F.ConstSet s) = is ∙ sym (rolls-ConstSet s) in
-    let out : out-Term t ≡ Term-F.ConstSet s = out_is t (Term-F.ConstSet s) whole in
-    let below : subterms t ≡ t ∷ [] = ap subterms whole ∙ subterms_roll (Term-F.ConstSet s) ∙ ap (λ u. u ∷ []) (sym whole) in
-    added after ts ts t name (ap (fold with_subterm ts) below)
+    let out : out-Term t ≡ Term-F.ConstSet s = out_is t (Term-F.ConstSet s) (is ∙ sym (rolls-ConstSet s)) in
+    added after ts ts t name (set_below ts t s is)
     (kept codes after ts t code name numbered (subst IsNode (sym out) tt) (ap (λ y. list_all (is_known ts) (arguments_of y)) out) (made ∙ sym (ap (code_by ts) out)) next place)
 
 pub var_added : (codes : List (List ℤ)) (ts : List Term) (t : Term) (v : VarId) (name : ℤ) → t ≡ Var v → name ≡ negsuc v.index → IsNumbered codes ts → Adds codes ts t name
 var_added codes ts t v name is named numbered =
-    let whole : t ≡ roll-Term (Term-F.Var v) = is ∙ sym (rolls-Var v) in
-    let out : out-Term t ≡ Term-F.Var v = out_is t (Term-F.Var v) whole in
-    let below : subterms t ≡ [] = ap subterms whole ∙ subterms_roll (Term-F.Var v) in
-    let terms : terms_after ts t ≡ ts = ap (fold with_subterm ts) below in
+    let out : out-Term t ≡ Term-F.Var v = out_is t (Term-F.Var v) (is ∙ sym (rolls-Var v)) in
+    let terms : terms_after ts t ≡ ts = var_below ts t v is in
     record {
       numbered = subst (IsNumbered codes) (sym terms) numbered;
       named = named ∙ sym (ap (name_by (terms_after ts t) t) out);
@@ -183,14 +195,11 @@ var_added codes ts t v name is named numbered =
 pub node_added : (codes after : List (List ℤ)) (ts : List Term) (t : Term) (op : Op) (args : Vec Term Global) (place : Place) (items : List Term) (names code : List ℤ) (i : ℕ) (name : ℤ) → t ≡ Node op args place → items ≡ args.items → length items ≤ i →
     AddsAll codes ts (take i items) names → code ≡ operation_code op ++ names → after ≡ with_code codes code → name ≡ pos (position_or_len (pointwise int_eq code) codes) → Adds after ts t name
 node_added codes after ts t op args place items names code i name is same le all made next at =
-    let whole : t ≡ roll-Term (Term-F.Node op args place) = is ∙ sym (rolls-Node op args place) in
-    let out : out-Term t ≡ Term-F.Node op args place = out_is t (Term-F.Node op args place) whole in
+    let out : out-Term t ≡ Term-F.Node op args place = out_is t (Term-F.Node op args place) (is ∙ sym (rolls-Node op args place)) in
     let arguments : take i items ≡ args.items = take_all i items le ∙ same in
     let all' : AddsAll codes ts args.items names = subst (λ us. AddsAll codes ts us names) arguments all in
     let mid = terms_after_all ts args.items in
-    let below : terms_after ts t ≡ with_subterm mid t =
-    ap (fold with_subterm ts) (subterms_node t op args place is) ∙ fold-append with_subterm ts (joined_terms (map subterms args.items)) (t ∷ []) in
-    added after ts mid t name below
+    added after ts mid t name (node_below ts t op args place is)
     (kept codes after mid t code name all'.numbered (subst IsNode (sym out) tt) (ap (λ y. list_all (is_known mid) (arguments_of y)) out ∙ all'.known)
     (made ∙ ap (λ ns. operation_code op ++ ns) all'.named ∙ sym (ap (code_by mid) out)) next at)
 
@@ -198,12 +207,12 @@ node_added codes after ts t op args place items names code i name is same le all
 pub none_added : (codes : List (List ℤ)) (ts : List Term) (items : List Term) → IsNumbered codes ts → AddsAll codes ts (take 0 items) []
 none_added codes ts items numbered = record { numbered = numbered; named = refl; known = refl }
 
-after_push : (ts us : List Term) (u : Term) → terms_after_all ts (us ++ u ∷ []) ≡ terms_after (terms_after_all ts us) u
+pub after_push : (ts us : List Term) (u : Term) → terms_after_all ts (us ++ u ∷ []) ≡ terms_after (terms_after_all ts us) u
 after_push ts us u =
     ap (λ vs. fold with_subterm ts (joined_terms vs)) (map_push subterms us u) ∙ ap (fold with_subterm ts) (joined_push (map subterms us) (subterms u))
     ∙ fold-append with_subterm ts (joined_terms (map subterms us)) (subterms u)
 
-all_push : (p : Term → Bool) (us : List Term) (u : Term) → list_all p us ≡ true → p u ≡ true → list_all p (us ++ u ∷ []) ≡ true
+pub all_push : (p : Term → Bool) (us : List Term) (u : Term) → list_all p us ≡ true → p u ≡ true → list_all p (us ++ u ∷ []) ≡ true
 all_push p [] u all one = both (p u) true one refl
 all_push p (v ∷ us) u all one =
     let parts = and_parts (p v) (list_all p us) all in
@@ -224,7 +233,7 @@ pushed codes after ts us u names next name all one e =
       known = ap (λ vs. list_all (is_known vs) (us ++ u ∷ [])) whole ∙ all_push (is_known (terms_after mid u)) us u known one.known;
     }
 
-take_push : {X : Type 0} (xs : List X) (i : ℕ) (x : X) → i < length xs → x ≡ get_or xs i x → take (i + 1) xs ≡ take i xs ++ x ∷ []
+pub take_push : {X : Type 0} (xs : List X) (i : ℕ) (x : X) → i < length xs → x ≡ get_or xs i x → take (i + 1) xs ≡ take i xs ++ x ∷ []
 take_push xs i x lt is = take_more xs i x lt ∙ ap (λ y. take i xs ++ y ∷ []) (sym is)
 
 pub one_added : (codes after : List (List ℤ)) (ts items : List Term) (i : ℕ) (u : Term) (names next : List ℤ) (name : ℤ) → i < length items → u ≡ get_or items i u → AddsAll codes ts (take i items) names →

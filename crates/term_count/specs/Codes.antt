@@ -33,6 +33,13 @@ is_known_by ts t (Term-F.Node op args place) = list_any (same_term t) ts
 abbrev pub is_known : List Term → Term → Bool
 is_known ts t = is_known_by ts t (out-Term t)
 
+-- what isn't a variable
+abbrev pub IsNode : Term-F Term → Type 0
+IsNode (Term-F.Const x) = Unit {0}
+IsNode (Term-F.ConstSet s) = Unit {0}
+IsNode (Term-F.Var v) = ⊥
+IsNode (Term-F.Node op args place) = Unit {0}
+
 -- ---- codes
 -- a list behind its length
 abbrev pub counted : List ℤ → List ℤ

@@ -16,7 +16,7 @@ fn push_counted(numbers: &[i64], into: &mut Vec<i64>) -> Result<(), NoMemory>
 }
 
 /// The code of an operation of arguments with these names.
-pub(crate) fn node_code(alloc: Global, op: &Op, names: &[i64]) -> Result<Vec<i64>, NoMemory>
+pub fn node_code(alloc: Global, op: &Op, names: &[i64]) -> Result<Vec<i64>, NoMemory>
     ensures { IfOk result (λ code. code.items ≡ operation_code op.now ++ names.now) }
 {
     let fields = fields_of(op);
@@ -30,7 +30,7 @@ pub(crate) fn node_code(alloc: Global, op: &Op, names: &[i64]) -> Result<Vec<i64
 }
 
 /// The code of a number.
-pub(crate) fn number_code(alloc: Global, number: &i64) -> Result<Vec<i64>, NoMemory>
+pub fn number_code(alloc: Global, number: &i64) -> Result<Vec<i64>, NoMemory>
     ensures { IfOk result (λ code. code.items ≡ negsuc 0 ∷ number.now ∷ []) }
 {
     let mut code = Vec::new(alloc);
@@ -40,7 +40,7 @@ pub(crate) fn number_code(alloc: Global, number: &i64) -> Result<Vec<i64>, NoMem
 }
 
 /// The code of a set.
-pub(crate) fn set_code(alloc: Global, members: &[i64]) -> Result<Vec<i64>, NoMemory>
+pub fn set_code(alloc: Global, members: &[i64]) -> Result<Vec<i64>, NoMemory>
     ensures { IfOk result (λ code. code.items ≡ negsuc 1 ∷ members.now) }
 {
     let mut code = Vec::new(alloc);

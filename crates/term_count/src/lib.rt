@@ -7,4 +7,5 @@
 mod code;
 mod subterms;
 
+pub use code::{node_code, number_code, set_code};
 pub use subterms::Subterms;

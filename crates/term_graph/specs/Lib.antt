@@ -1,0 +1,4 @@
+pub mod Adding
+pub mod Graphs
+pub mod Heads
+pub mod Ids

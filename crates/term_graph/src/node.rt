@@ -1,0 +1,69 @@
+//! What is kept of a distinct subterm.
+ghost use Rattle.std.specs.Prelude.{◌≡◌, IfOk};
+ghost use Rattle.term_graph.specs.Heads.{IsHeadOf, IsPlaceOf};
+
+use crate::head::{Head, copy_of, copy_of_set};
+use cbl_base::{NoMemory, NodeId, Place};
+use std::alloc::Global;
+use term_model::Term;
+
+/// What is kept of a distinct subterm: what it computes, where it stands in the text, and the ids of its arguments.
+#[derive(Drop)]
+pub struct Node {
+    pub head: Head,
+    pub place: Place,
+    pub inputs: Vec<NodeId>,
+}
+
+/// No place.
+const NOWHERE: Place = Place { line: 0, col: 0 };
+
+/// The head of a term, which is of no use where the term is a variable.
+fn head_of(alloc: Global, term: &Term) -> Result<Head, NoMemory>
+    ensures { IfOk result (λ head. IsHeadOf term.now head) }
+{
+    match term {
+        Term::Const(number) => Ok(Head::Const(*number)),
+        Term::ConstSet(set) => {
+            let copy = copy_of_set(alloc, set)?;
+            Ok(Head::ConstSet(copy))
+        }
+        Term::Var(_) => Ok(Head::Const(0)),
+        Term::Node {
+            op,
+            args: _,
+            place: _,
+        } => {
+            let copy = copy_of(alloc, op)?;
+            Ok(Head::Op(copy))
+        }
+    }
+}
+
+/// The place of a term, which is of no use where the term is no operation.
+fn place_of(term: &Term) -> Place
+    ensures { IsPlaceOf term.now result }
+{
+    match term {
+        Term::Node {
+            op: _,
+            args: _,
+            place,
+        } => *place,
+        _ => NOWHERE,
+    }
+}
+
+/// What is kept of a term whose arguments have these ids.
+pub(crate) fn node_of(alloc: Global, term: &Term, inputs: Vec<NodeId>) -> Result<Node, NoMemory>
+    ensures head { IfOk result (λ node. IsHeadOf term.now node.head) }
+    ensures place { IfOk result (λ node. IsPlaceOf term.now node.place) }
+    ensures inputs { IfOk result (λ node. node.inputs ≡ inputs) }
+{
+    let head = head_of(alloc, term)?;
+    Ok(Node {
+        head,
+        place: place_of(term),
+        inputs,
+    })
+}
