@@ -12,7 +12,7 @@ use Rattle.comet_syntax.proofs.TokenFaults.{list_one, fault_one, list_no_fault}
 use Rattle.parse_unique.specs.Bare.{SameProgram}
 use Rattle.parse_unique.proofs.Programs.{same_program, at_any_depth}
 use Rattle.parse_unique.proofs.Refusals.{one_refusal, not_spelled}
-use Rattle.type_trees.specs.OfCometTypes.Program.{Verdict, judged, accepted, refused}
+use Rattle.comet_types.specs.Program.{Verdict, judged, accepted, refused}
 use Rattle.type_trees.proofs.Programs.{judged_alike}
 use Rattle.comet_front.specs.Reading.{IsAccepted, HasTree, HasProgram, place_left, HasNoTree, IsIllTyped, IsIllFormed, no_tokens, no_tree, not_built}
 

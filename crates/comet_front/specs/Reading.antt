@@ -15,7 +15,7 @@ use Rattle.comet_syntax.specs.Refusal.{Refused}
 use Rattle.comet_syntax.specs.Spells.{Spells}
 use Rattle.comet_syntax.specs.Tokens.TokenFault.{HasTokenFault}
 use Rattle.comet_syntax.specs.Tokens.TokenList.{HasTokens}
-use Rattle.type_trees.specs.OfCometTypes.Program.{judged, accepted, refused}
+use Rattle.comet_types.specs.Program.{judged, accepted, refused}
 use Rattle.comet_front.specs.declared.stop.TextStop.{TextStop}
 use Rattle.comet_front.specs.declared.stop.TextStop.TheVariants.{Fault, IllTyped, NoMemory}
 

@@ -12,9 +12,9 @@ use checked_tree::Checked;
 use comet_parse::{ParseStop, parse};
 use comet_syntax::tree::Program;
 use comet_syntax::{FormCause, LexStop, Token, lex, place_behind};
+use comet_types::{CheckStop, check};
 use program_forms::is_built;
 use std::alloc::Global;
-use type_trees::typing_programs::{CheckStop, check};
 
 /// The place of a text's first byte.
 const FIRST_PLACE: Place = Place { line: 1, col: 1 };

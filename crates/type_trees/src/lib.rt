@@ -4,4 +4,3 @@
 #![tactic(auto)]
 
 pub mod laws;
-pub mod typing_programs;

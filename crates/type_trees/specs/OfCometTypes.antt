@@ -1,2 +1,0 @@
--- What callers cite of comet_types.
-pub use Rattle.comet_types.specs.Program
