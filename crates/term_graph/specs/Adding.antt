@@ -1,4 +1,4 @@
--- One term more: what is kept of it, and what stays.
+-- One term more in a graph: what is asked of it, what is then known of it, and what stays. A rule of this project.
 use Rattle.std.specs.Prelude.{◌≡◌, ℕ, ℤ, pos, negsuc, ◌+◌, ◌-◌, ◌<◌, true, List, ◌++◌, length, map, nat_lt, cond, All, Vec}
 use Rattle.std.specs.List.{list_all}
 use Rattle.std.specs.declared.alloc.Global.{Global}
@@ -19,10 +19,11 @@ use Rattle.term_model.specs.declared.term.Term.TheViews.{Node as Operation, out-
 abbrev pub name_of_id : ℕ → ℕ → ℤ
 name_of_id cells id = cond (nat_lt id cells) (negsuc id) (pos (id - cells))
 
--- what was there stands in front
+-- a list has another one in front
 abbrev pub Grows : {A : Type 0} → List A → List A → Type 0
 Grows {A} old new = (more : List A) × (new ≡ old ++ more)
 
+-- so a graph is when terms were added, some of them only in part
 pub record IsGrown (old new : Graph) : Type 0 where
   pub cells : new.cells ≡ old.cells
   pub codes : Grows old.codes.keys new.codes.keys
@@ -58,7 +59,7 @@ pub record Takes (cells : ℕ) (codes : List (List ℤ)) (nodes : List Node) (ts
   pub all : StandAll cells codes nodes ts args.items ids
   pub earlier : All (λ input. input.0 < cells + length nodes) ids
 
--- the same in a graph
+-- the same of a graph's codes and nodes
 abbrev pub FitsIn : Graph → List Term → Term → List ℤ → List NodeId → Type 0
 FitsIn graph ts t code inputs = Fits graph.cells (listed graph.codes.keys) graph.nodes.items ts t code inputs
 

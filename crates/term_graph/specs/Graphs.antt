@@ -15,13 +15,13 @@ use Rattle.term_model.specs.Subterms.{arguments_of}
 use Rattle.term_model.specs.declared.term.Term.{Term}
 use Rattle.term_model.specs.declared.term.Term.TheViews.{out-Term}
 
--- a node is that of a term among others
+-- a node is that of a term among others, with what the term says itself and the ids of its arguments
 pub record IsNodeOf (cells : ℕ) (ts : List Term) (t : Term) (node : Node) : Type 0 where
   pub head : head_of t ≡ Some node.head
   pub place : IsPlaceOf t node.place
   pub inputs : ids_of node.inputs.items ≡ map (id_among cells ts) (arguments_of (out-Term t))
 
--- the nodes are those of the terms, one by one, and no more than the limit; each term has a code
+-- the nodes are those of the terms, one by one and no more than the limit, and the codes are theirs
 pub record AreNodesOf (cells : ℕ) (codes : List (List ℤ)) (nodes : List Node) (ts : List Term) : Type 0 where
   pub numbered : IsNumbered codes ts
   pub count : length nodes ≡ length ts
@@ -29,6 +29,7 @@ pub record AreNodesOf (cells : ℕ) (codes : List (List ℤ)) (nodes : List Node
   pub each : (i : ℕ) (t : Term) (node : Node) → slice_get ts i ≡ Some t → slice_get nodes i ≡ Some node → IsNodeOf cells ts t node
   pub earlier : (i : ℕ) (node : Node) → slice_get nodes i ≡ Some node → All (λ input. input.0 < cells + i) node.inputs.items
 
+-- so a graph keeps them
 abbrev pub IsGraphOf : Graph → List Term → Type 0
 IsGraphOf graph ts = AreNodesOf graph.cells (listed graph.codes.keys) graph.nodes.items ts
 
@@ -44,7 +45,7 @@ HasNode graph node = (graph.cells ≤ node.0) × (node.0 < end_of graph)
 abbrev pub place_in : Graph → NodeId → ℕ
 place_in graph node = node.0 - graph.cells
 
--- why a term isn't added, after which there would be these terms: there would be too many
+-- a term isn't added where there would then be these terms: too many, unless memory runs out
 abbrev pub StopsAt : List Term → GraphStop → Type 0
 StopsAt ts TooMany = MAX_TERM_NODES < length ts
 StopsAt ts NoMemory = Unit {0}

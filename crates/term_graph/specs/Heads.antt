@@ -8,21 +8,25 @@ use Rattle.term_model.specs.declared.term.Term.{Term}
 use Rattle.term_model.specs.declared.term.Term.TheOpen.{Term-F}
 use Rattle.term_model.specs.declared.term.Term.TheViews.{out-Term}
 
+-- what a term computes of its arguments, by its outermost layer
 abbrev pub head_by : Term-F Term → Option Head
 head_by (Term-F.Const x) = Some (Const x)
 head_by (Term-F.ConstSet s) = Some (ConstSet s)
 head_by (Term-F.Var v) = None
 head_by (Term-F.Node op args place) = Some (Operation op)
 
+-- what a term computes of its arguments
 abbrev pub head_of : Term → Option Head
 head_of t = head_by (out-Term t)
 
+-- where a term stands, by its outermost layer
 abbrev pub place_by : Term-F Term → Option Place
 place_by (Term-F.Const x) = None
 place_by (Term-F.ConstSet s) = None
 place_by (Term-F.Var v) = None
 place_by (Term-F.Node op args place) = Some place
 
+-- where a term stands
 abbrev pub place_of : Term → Option Place
 place_of t = place_by (out-Term t)
 

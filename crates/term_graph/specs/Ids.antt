@@ -13,12 +13,14 @@ use Rattle.term_model.specs.declared.term.Term.TheViews.{out-Term}
 abbrev pub behind : ℕ → List Term → Term → ℕ
 behind cells ts t = cells + position_or_len (same_term t) ts
 
+-- the id of a term by its outermost layer
 abbrev pub id_by : ℕ → List Term → Term → Term-F Term → ℕ
 id_by cells ts t (Term-F.Const x) = behind cells ts t
 id_by cells ts t (Term-F.ConstSet s) = behind cells ts t
 id_by cells ts t (Term-F.Var v) = v.index
 id_by cells ts t (Term-F.Node op args place) = behind cells ts t
 
+-- the id of a term
 abbrev pub id_among : ℕ → List Term → Term → ℕ
 id_among cells ts t = id_by cells ts t (out-Term t)
 
