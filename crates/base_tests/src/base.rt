@@ -115,10 +115,13 @@ struct Nodes<N: NodeRule> {
 impl<N: NodeRule> Nodes<N> {
     fn reset_at(&mut self, at: usize, inputs: &[Input]) -> Result<(), NoMemory>
         requires within { at < vec_len self.old.nodes }
-        requires takes { ForSome (slice_get self.old.nodes.items at) (λ n. IsTrue ((N.rule n).takes (kinds_of inputs.now))) }
-        ensures here { OnOk result (ForSome (slice_get self.new.nodes.items at) (λ n. N.ready n × (N.held n ≡ inputs.now))) }
+        requires takes { ForSome (slice_get self.old.nodes.items at) (λ n.
+            IsTrue ((N.rule n).takes (kinds_of inputs.now))) }
+        ensures here { OnOk result (ForSome (slice_get self.new.nodes.items at) (λ n. N.ready n ×
+            (N.held n ≡ inputs.now))) }
         ensures len { vec_len self.new.nodes ≡ vec_len self.old.nodes }
-        ensures others { (k : ℕ) → k ≢ at → slice_get self.new.nodes.items k ≡ slice_get self.old.nodes.items k }
+        ensures others { (k : ℕ) → k ≢ at →
+            slice_get self.new.nodes.items k ≡ slice_get self.old.nodes.items k }
     {
         self.nodes[at].reset(inputs)
     }
@@ -126,12 +129,17 @@ impl<N: NodeRule> Nodes<N> {
     fn apply_at(&mut self, at: usize, changes: &[Change]) -> Result<(), NoMemory>
         requires within { at < vec_len self.old.nodes }
         requires ready { ForSome (slice_get self.old.nodes.items at) (λ n. N.ready n) }
-        requires changes { ForSome (slice_get self.old.nodes.items at) (λ n. AreChanges (N.held n) changes.now) }
+        requires changes { ForSome (slice_get self.old.nodes.items at) (λ n.
+            AreChanges (N.held n) changes.now) }
         ensures ready { OnOk result (ForSome (slice_get self.new.nodes.items at) (λ n. N.ready n)) }
-        ensures held { OnOk result (ForSome (slice_get self.old.nodes.items at) (λ n. ForSome (slice_get self.new.nodes.items at) (λ m. N.held m ≡ after_changes (N.held n) changes.now))) }
-        ensures rule { ForSome (slice_get self.old.nodes.items at) (λ n. ForSome (slice_get self.new.nodes.items at) (λ m. N.rule m ≡ N.rule n)) }
+        ensures held { OnOk result (ForSome (slice_get self.old.nodes.items at) (λ n.
+            ForSome (slice_get self.new.nodes.items at) (λ m.
+            N.held m ≡ after_changes (N.held n) changes.now))) }
+        ensures rule { ForSome (slice_get self.old.nodes.items at) (λ n.
+            ForSome (slice_get self.new.nodes.items at) (λ m. N.rule m ≡ N.rule n)) }
         ensures len { vec_len self.new.nodes ≡ vec_len self.old.nodes }
-        ensures others { (k : ℕ) → k ≢ at → slice_get self.new.nodes.items k ≡ slice_get self.old.nodes.items k }
+        ensures others { (k : ℕ) → k ≢ at →
+            slice_get self.new.nodes.items k ≡ slice_get self.old.nodes.items k }
     {
         self.nodes[at].apply(changes)
     }
@@ -139,8 +147,10 @@ impl<N: NodeRule> Nodes<N> {
     fn probe_at(&self, at: usize, changes: &[Change]) -> Result<NodeValue, NodeFault>
         requires within { at < vec_len self.now.nodes }
         requires ready { ForSome (slice_get self.now.nodes.items at) (λ n. N.ready n) }
-        requires changes { ForSome (slice_get self.now.nodes.items at) (λ n. AreChanges (N.held n) changes.now) }
-        ensures { ForSome (slice_get self.now.nodes.items at) (λ n. IsAnswer ((N.rule n).value (after_changes (N.held n) changes.now)) result) }
+        requires changes { ForSome (slice_get self.now.nodes.items at) (λ n.
+            AreChanges (N.held n) changes.now) }
+        ensures { ForSome (slice_get self.now.nodes.items at) (λ n.
+            IsAnswer ((N.rule n).value (after_changes (N.held n) changes.now)) result) }
     {
         self.nodes[at].probe(changes)
     }
@@ -148,7 +158,9 @@ impl<N: NodeRule> Nodes<N> {
     fn value_at(&self, at: usize) -> Result<&NodeValue, RunFault>
         requires within { at < vec_len self.now.nodes }
         requires ready { ForSome (slice_get self.now.nodes.items at) (λ n. N.ready n) }
-        ensures { ForSome (slice_get self.now.nodes.items at) (λ n. let value = (N.rule n).value (N.held n) in MatchResult result (λ v. value ≡ Ok v.now) (λ fault. value ≡ Err fault)) }
+        ensures { ForSome (slice_get self.now.nodes.items at) (λ n.
+            let value = (N.rule n).value (N.held n) in
+            MatchResult result (λ v. value ≡ Ok v.now) (λ fault. value ≡ Err fault)) }
     {
         self.nodes[at].value()
     }

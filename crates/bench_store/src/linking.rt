@@ -24,7 +24,8 @@ pub(crate) fn store_of(
 ) -> Result<Store<OverNumbers<Piece>>, Stop>
     requires few { count ≤ 1000000 }
     ensures usable { IfOk result (λ s. IsUsable ⟦<OverNumbers<Piece> as NodeRule>⟧.rule ⟦<OverNumbers<Piece> as NodeRule>⟧.held ⟦<OverNumbers<Piece> as NodeRule>⟧.ready s) }
-    ensures free { IfOk result (λ s. FreeBelow (length start.now) (graph_in ⟦<OverNumbers<Piece> as NodeRule>⟧.rule s)) }
+    ensures free { IfOk result (λ s. FreeBelow (length start.now)
+        (graph_in ⟦<OverNumbers<Piece> as NodeRule>⟧.rule s)) }
 {
     let links = queens(alloc, count)?;
     let lists = links.lists.as_slice();
@@ -114,7 +115,8 @@ fn is_below(id: u32, count: usize) -> bool
 
 /// The same lists, of ids.
 fn inputs_of(alloc: Global, lists: &[Vec<u32>]) -> Result<Inputs, NoMemory>
-    ensures { IfOk result (λ links. map (λ v. ids_of v.items) links.inputs.items ≡ lists_of lists.now) }
+    ensures { IfOk result (λ links. map (λ v. ids_of v.items) links.inputs.items ≡
+        lists_of lists.now) }
 {
     let mut inputs = Vec::with_capacity(alloc, lists.len())?;
     for list in lists {

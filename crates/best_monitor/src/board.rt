@@ -40,7 +40,8 @@ impl Board {
     /// Adds a monitor without a best, and gives its number: how many there were. With `NoMemory`, which
     /// also stands for more monitors than 32 bits count, the board stays as it was.
     pub fn declare(&mut self) -> Result<u32, NoMemory>
-        ensures { MatchResult result (λ m. (m ≡ length self.old) × (self.new ≡ self.old ++ fresh_monitor ∷ [])) (λ _. self.new ≡ self.old) }
+        ensures { MatchResult result (λ m. (m ≡ length self.old) ×
+            (self.new ≡ self.old ++ fresh_monitor ∷ [])) (λ _. self.new ≡ self.old) }
     {
         let Ok(number) = u32::try_from(self.monitors.len()) else {
             return Err(NoMemory);
@@ -79,7 +80,8 @@ impl Replays for Board {
     /// It is always Ok but for `Report` and `Copy`.
     fn step(&mut self, request: &Request) -> Result<Reply, NoMemory>
         requires { IsDeclared self.old request.now }
-        ensures step { MatchResult result (λ r. board_step self.old request.now ≡ Some (self.new, r)) (λ _. self.new ≡ self.old) }
+        ensures step { MatchResult result (λ r.
+            board_step self.old request.now ≡ Some (self.new, r)) (λ _. self.new ≡ self.old) }
         ensures monitors { length self.new ≡ length self.old }
         ensures memory { OnErr result (TakesMemory request.now) }
     {

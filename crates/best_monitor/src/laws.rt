@@ -11,5 +11,7 @@ ghost use Rattle.best_monitor.specs.Least.{best_of, offers_of, IsLeastOf};
 /// Its value is the least of all these. Its list is the one that it had where that has this value, else
 /// that of the first report with it.
 pub fn least()
-    ensures { (board : List Monitor) (entries : List (Entry Request Reply)) (m : ℕ) → m < length board → IsLegal board entries → IsLeastOf (offers_of board entries m) (best_of (fold board entries) m) }
+    ensures { (board : List Monitor) (entries : List (Entry Request Reply)) (m : ℕ) →
+        m < length board → IsLegal board entries →
+        IsLeastOf (offers_of board entries m) (best_of (fold board entries) m) }
 {}

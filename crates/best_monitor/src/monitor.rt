@@ -49,7 +49,8 @@ impl Monitor {
 
     /// Makes the monitor after a request, and gives the reply. With `NoMemory` it stays as it was.
     pub(crate) fn step(&mut self, alloc: Global, request: &Request) -> Result<Reply, NoMemory>
-        ensures step { MatchResult result (λ r. monitor_step self.old request.now ≡ (self.new, r)) (λ _. self.new ≡ self.old) }
+        ensures step { MatchResult result (λ r. monitor_step self.old request.now ≡ (self.new, r))
+            (λ _. self.new ≡ self.old) }
         ensures memory { OnErr result (TakesMemory request.now) }
     {
         match request {
@@ -99,7 +100,8 @@ impl Monitor {
 
     // Takes a report in. The list is copied before anything changes.
     fn report(&mut self, alloc: Global, value: i64, list: &Numbers) -> Result<Reply, NoMemory>
-        ensures { MatchResult result (λ r. report_step self.old value list.now ≡ (self.new, r)) (λ _. self.new ≡ self.old) }
+        ensures { MatchResult result (λ r. report_step self.old value list.now ≡ (self.new, r))
+            (λ _. self.new ≡ self.old) }
     {
         let better = self.is_improved_by(value);
         if better {

@@ -35,9 +35,13 @@ pub trait MonitorPort<S: Replays> {
     /// before. `Differs` comes exactly where a rest is told and doesn't begin with the request.
     fn ask(&mut self, request: S::Request) -> Result<S::Reply, PortStop>
         requires { takes self.old request }
-        ensures asked { MatchResult result (λ r. asked self.new ≡ asked self.old ++ (request, r) ∷ []) (λ _. asked self.new ≡ asked self.old) }
-        ensures rest { MatchResult result (λ r. GoesOn (rest self.old) request r (rest self.new)) (λ _. rest self.new ≡ rest self.old) }
-        ensures stop { IfErr result (λ stop. StopsAsTold (rest self.old) request (odds self.old request) stop) }
+        ensures asked { MatchResult result (λ r.
+            asked self.new ≡ asked self.old ++ (request, r) ∷ []) (λ _.
+            asked self.new ≡ asked self.old) }
+        ensures rest { MatchResult result (λ r. GoesOn (rest self.old) request r (rest self.new))
+            (λ _. rest self.new ≡ rest self.old) }
+        ensures stop { IfErr result (λ stop.
+            StopsAsTold (rest self.old) request (odds self.old request) stop) }
         ensures had { IfOk result (λ r. S.can_have request r) }
         ensures base { base self.new ≡ base self.old }
         ensures takes { (q : S.Request) → (takes self.new q ↔ takes self.old q) };

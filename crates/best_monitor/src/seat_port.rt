@@ -31,7 +31,8 @@ impl<'a, S: Replays, R> SeatPort<'a, S, R> {
         ensures seat { result.seat ≡ seat }
         ensures iteration { result.iteration ≡ iteration }
         ensures opened { result.opened.value ≡ seat }
-        ensures fresh { asked_since (view_of result.opened.value).made (view_of result.seat).made ≡ [] }
+        ensures fresh { asked_since (view_of result.opened.value).made (view_of result.seat).made ≡
+            [] }
     {
         let opened = Snapshot::of(&seat);
         SeatPort {

@@ -73,7 +73,8 @@ fn report_all<R: Wait>(
     requires seat { IsSeatOf turn.now seat }
     requires declared { 0 < length (start_of turn.now) }
     ensures seat { IfSome result (λ s. IsSeatOf turn.now s) }
-    ensures numbers { IfSome result (λ s. (length (view_of s).made ≡ length (view_of seat).made) × ((view_of s).rest ≡ (view_of seat).rest)) }
+    ensures numbers { IfSome result (λ s. (length (view_of s).made ≡ length (view_of seat).made) ×
+        ((view_of s).rest ≡ (view_of seat).rest)) }
 {
     for i in 0..1000i64 {
         let value = from.wrapping_sub(i);
@@ -99,11 +100,15 @@ fn report_by_two<R: Threads + Wait + Sync>(
         rt,
         move || -> Option<Seat<Board>>
             requires { IsSeatOf shared.now one × (0 < length (start_of shared.now)) }
-            ensures { IfSome result (λ s. IsSeatOf shared.entry.now s × (length (view_of s).made ≡ length (view_of one).made) × ((view_of s).rest ≡ (view_of one).rest)) }
+            ensures { IfSome result (λ s. IsSeatOf shared.entry.now s ×
+                (length (view_of s).made ≡ length (view_of one).made) ×
+                ((view_of s).rest ≡ (view_of one).rest)) }
         { report_all(rt, alloc, shared, one, 0, 5000) },
         move || -> Option<Seat<Board>>
             requires { IsSeatOf shared.now two × (0 < length (start_of shared.now)) }
-            ensures { IfSome result (λ s. IsSeatOf shared.entry.now s × (length (view_of s).made ≡ length (view_of two).made) × ((view_of s).rest ≡ (view_of two).rest)) }
+            ensures { IfSome result (λ s. IsSeatOf shared.entry.now s ×
+                (length (view_of s).made ≡ length (view_of two).made) ×
+                ((view_of s).rest ≡ (view_of two).rest)) }
         { report_all(rt, alloc, shared, two, 1, 3000) },
     );
     let mut last = a?;
@@ -129,7 +134,8 @@ fn ask_twice<P: MonitorPort<Board>>(
     second: Request,
 ) -> Result<Reply, PortStop>
     requires { P.takes port.old first × P.takes port.old second }
-    ensures asked { IfOk result (λ r. (x : Reply) × (P.asked port.new ≡ P.asked port.old ++ (first, x) ∷ [] ++ (second, r) ∷ [])) }
+    ensures asked { IfOk result (λ r. (x : Reply) ×
+        (P.asked port.new ≡ P.asked port.old ++ (first, x) ∷ [] ++ (second, r) ∷ [])) }
     ensures base { P.base port.new ≡ P.base port.old }
 {
     port.ask(first)?;
@@ -148,8 +154,12 @@ fn ask_by_two_iterations<R: Wait>(
 ) -> Option<Seat<Board>>
     requires seat { IsSeatOf turn.now seat }
     requires declared { 0 < length (start_of turn.now) }
-    ensures seat { IfSome result (λ s. IsSeatOf turn.now s × ((view_of s).rest ≡ (view_of seat).rest) × (length (view_of s).made ≡ length (view_of seat).made)) }
-    ensures order { IfSome result (λ s. (first second : List (Request × Reply)) × ((view_of s).made ≡ with_all (entries_for 1 second) (with_all (entries_for 0 first) (view_of seat).made))) }
+    ensures seat { IfSome result (λ s. IsSeatOf turn.now s ×
+        ((view_of s).rest ≡ (view_of seat).rest) ×
+        (length (view_of s).made ≡ length (view_of seat).made)) }
+    ensures order { IfSome result (λ s. (first second : List (Request × Reply)) ×
+        ((view_of s).made ≡ with_all (entries_for 1 second)
+        (with_all (entries_for 0 first) (view_of seat).made))) }
 {
     let mut port = SeatPort::new(rt, turn, seat, 0);
     let one = report(alloc, 5, &[1]).ok()?;
@@ -268,7 +278,8 @@ impl MonitorPort<Echo> for ReplayPort {
 }
 
 fn differs(alloc: Global, request: u64) -> PortStop
-    ensures { (rest : Option (List (ℕ × ℕ))) → GoesAstray rest request → StopsAsTold rest request (request, [], []) result }
+    ensures { (rest : Option (List (ℕ × ℕ))) → GoesAstray rest request →
+        StopsAsTold rest request (request, [], []) result }
 {
     let Ok(asked) = Text::from_slice(alloc, &[]) else {
         return PortStop::NoMemory;

@@ -46,7 +46,8 @@ impl<S: Replays> Turn<S> {
     pub fn close(self, seat: Seat<S>) -> (S, Vec<Entry<S::Request, S::Reply>>)
         requires seat { IsSeatOf self seat }
         requires last { length (view_of seat).made + (view_of seat).rest ≡ all_numbers }
-        ensures { Closes S.takes S.after S.answer (start_of self) (view_of seat) result.0 result.1.items }
+        ensures { Closes S.takes S.after S.answer (start_of self)
+            (view_of seat) result.0 result.1.items }
     {
         let Turn { table } = self;
         let Seat {
@@ -94,7 +95,8 @@ impl<S: Replays> Seat<S> {
         requires seat { IsSeatOf turn.now self.old }
         requires numbers { 0 < (view_of self.old).rest }
         ensures seats { IsSeatOf turn.now self.new × IsSeatOf turn.now result }
-        ensures views { (view_of self.new ≡ gave_number (view_of self.old)) × (view_of result ≡ split_off (view_of self.old)) }
+        ensures views { (view_of self.new ≡ gave_number (view_of self.old)) ×
+            (view_of result ≡ split_off (view_of self.old)) }
     {
         let token = turn.table.shared.split_seat::<Halves<S>>(&mut self.token);
         let number = ALL_NUMBERS - self.rest;

@@ -29,10 +29,12 @@ pub trait Replays: Drop {
     /// Makes the state after the request, and gives its reply. With `NoMemory` the state stays as it was.
     fn step(&mut self, request: &Self::Request) -> Result<Self::Reply, NoMemory>
         requires { takes self.old request.now }
-        ensures { MatchResult result (λ r. (r ≡ answer self.old request.now) × (self.new ≡ after self.old request.now)) (λ _. self.new ≡ self.old) };
+        ensures { MatchResult result (λ r. (r ≡ answer self.old request.now) ×
+            (self.new ≡ after self.old request.now)) (λ _. self.new ≡ self.old) };
 
     // No request changes which requests the state takes.
-    ghost takes_same: { (s : Self) (q p : Self.Request) → takes s q → (takes (after s q) p ↔ takes s p) };
+    ghost takes_same: { (s : Self) (q p : Self.Request) → takes s q →
+        (takes (after s q) p ↔ takes s p) };
 
     // The state's replies are such that the request can have them.
     ghost answer_had: { (s : Self) (q : Self.Request) → takes s q → can_have q (answer s q) };

@@ -69,7 +69,9 @@ fn call_once<S: Replays, R: Wait>(
 ) -> Option<Seat<S>>
     requires seat { IsSeatOf turn.now seat }
     requires takes { S.takes (start_of turn.now) request }
-    ensures { IfSome result (λ s. IsSeatOf turn.now s × (length (view_of s).made ≡ length (view_of seat).made) × ((view_of s).rest ≡ (view_of seat).rest)) }
+    ensures { IfSome result (λ s. IsSeatOf turn.now s ×
+        (length (view_of s).made ≡ length (view_of seat).made) ×
+        ((view_of s).rest ≡ (view_of seat).rest)) }
 {
     let Ok(_) = seat.call(rt, turn, iteration, request) else {
         return None;
@@ -91,18 +93,26 @@ where
     S::Reply: Send,
     requires seats { IsSeatOf turn.now one × IsSeatOf turn.now two }
     requires takes { S.takes (start_of turn.now) first × S.takes (start_of turn.now) second }
-    ensures one { IfSome result.0 (λ s. IsSeatOf turn.now s × (length (view_of s).made ≡ length (view_of one).made) × ((view_of s).rest ≡ (view_of one).rest)) }
-    ensures two { IfSome result.1 (λ s. IsSeatOf turn.now s × (length (view_of s).made ≡ length (view_of two).made) × ((view_of s).rest ≡ (view_of two).rest)) }
+    ensures one { IfSome result.0 (λ s. IsSeatOf turn.now s ×
+        (length (view_of s).made ≡ length (view_of one).made) ×
+        ((view_of s).rest ≡ (view_of one).rest)) }
+    ensures two { IfSome result.1 (λ s. IsSeatOf turn.now s ×
+        (length (view_of s).made ≡ length (view_of two).made) ×
+        ((view_of s).rest ≡ (view_of two).rest)) }
 {
     thread::join(
         rt,
         move || -> Option<Seat<S>>
             requires { IsSeatOf turn.now one × S.takes (start_of turn.now) first }
-            ensures { IfSome result (λ s. IsSeatOf turn.entry.now s × (length (view_of s).made ≡ length (view_of one).made) × ((view_of s).rest ≡ (view_of one).rest)) }
+            ensures { IfSome result (λ s. IsSeatOf turn.entry.now s ×
+                (length (view_of s).made ≡ length (view_of one).made) ×
+                ((view_of s).rest ≡ (view_of one).rest)) }
         { call_once(rt, turn, one, 0, first) },
         move || -> Option<Seat<S>>
             requires { IsSeatOf turn.now two × S.takes (start_of turn.now) second }
-            ensures { IfSome result (λ s. IsSeatOf turn.entry.now s × (length (view_of s).made ≡ length (view_of two).made) × ((view_of s).rest ≡ (view_of two).rest)) }
+            ensures { IfSome result (λ s. IsSeatOf turn.entry.now s ×
+                (length (view_of s).made ≡ length (view_of two).made) ×
+                ((view_of s).rest ≡ (view_of two).rest)) }
         { call_once(rt, turn, two, 1, second) },
     )
 }

@@ -114,7 +114,8 @@ impl<S: Replays> Model for Turn<S> {
 
     ghost view = { λ t. (t.table.shared.table_id, t.table.shared.key.value) };
 
-    ghost invariant = { λ t. (t.table.shared.table_id.words ≡ 2) × (t.table.shared.table_id.slots ≡ 1) };
+    ghost invariant = { λ t. (t.table.shared.table_id.words ≡ 2) ×
+        (t.table.shared.table_id.slots ≡ 1) };
 }
 
 /// Where a thread calls from. It can go to another thread. Contracts see it as the name of its turn's
@@ -136,7 +137,9 @@ impl<S: Replays> Model for Seat<S> {
 
     ghost view = { λ s. (s.token.table_id, s.token.me.0) };
 
-    ghost invariant = { λ s. (s.token.me.1 ≡ []) × (s.token.me.0.has_turn ≡ false) × HasNumber s.number s.token.me.0.made × (s.token.me.0.rest ≡ s.rest) × (s.rest ≤ 4294967296) };
+    ghost invariant = { λ s. (s.token.me.1 ≡ []) × (s.token.me.0.has_turn ≡ false) ×
+        HasNumber s.number s.token.me.0.made × (s.token.me.0.rest ≡ s.rest) ×
+        (s.rest ≤ 4294967296) };
 }
 
 impl<S: Replays> Turn<S> {
@@ -174,7 +177,8 @@ impl<S: Replays> Turn<S> {
     ) -> Result<S::Reply, NoMemory>
         requires table { token.old.table_id ≡ self.now.0 }
         requires held { HoldsBook token.old.me (λ d. S.takes d.0 request) }
-        ensures table { (token.new.table_id ≡ token.old.table_id) × (token.new.id ≡ token.old.id) × (token.new.me.0 ≡ token.old.me.0) }
+        ensures table { (token.new.table_id ≡ token.old.table_id) × (token.new.id ≡ token.old.id) ×
+            (token.new.me.0 ≡ token.old.me.0) }
         ensures asked { HoldsBook token.old.me (λ d. MatchResult result (λ r. (r ≡ S.answer d.0 request) × Pushed S.after d number iteration request r token.new.me) (λ _. token.new.me.1 ≡ (0, d) ∷ [])) }
     {
         let book = token.slot_mut(&self.table.shared, 0);
@@ -184,9 +188,12 @@ impl<S: Replays> Turn<S> {
     // Counts the last entry of the book that the seat holds. This one step fixes its place in the history.
     pub(crate) fn count(&self, token: &mut Token<S>) -> u64
         requires table { token.old.table_id ≡ self.now.0 }
-        requires held { HoldsBook token.old.me (λ d. IsNext S.takes S.after S.answer token.old.me.0 d) }
+        requires held { HoldsBook token.old.me (λ d.
+            IsNext S.takes S.after S.answer token.old.me.0 d) }
         ensures table { (token.new.table_id ≡ token.old.table_id) × (token.new.id ≡ token.old.id) }
-        ensures counted { (result ≡ length token.old.me.0.seen) × (token.new.me.1 ≡ token.old.me.1) × Counts token.old.me.0 token.old.me.1 token.new.me.0 }
+        ensures counted { (result ≡ length token.old.me.0.seen) ×
+            (token.new.me.1 ≡ token.old.me.1) ×
+            Counts token.old.me.0 token.old.me.1 token.new.me.0 }
     {
         self.table.shared.fetch_add::<Count<S>>(token, 1, 1)
     }

@@ -8,7 +8,8 @@ ghost use Rattle.parse_stacks.specs.Standing.{Fits};
 
 /// Each form of declarations.
 pub fn declaration_forms_fit()
-    ensures { (f : DeclarationForm) → Fits (part_in_declaration f) (body_in_declaration f) (DeclarationMade f) }
+    ensures { (f : DeclarationForm) → Fits (part_in_declaration f) (body_in_declaration f)
+        (DeclarationMade f) }
 {}
 
 /// Each form of programs, of parameters and of classes.

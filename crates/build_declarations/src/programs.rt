@@ -64,7 +64,8 @@ fn undo_no_tops(alloc: Global, stacks: &mut Stacks) -> Result<(), NoMemory>
 
 // What a function gives back
 fn undo_result(stacks: &mut Stacks, kind: ResultKind) -> Result<(), NoMemory>
-    ensures { IfOk result (λ _. Undone result_kind result_kind_void (λ v x. x ≡ kind) stacks.old stacks.new) }
+    ensures { IfOk result (λ _. Undone result_kind result_kind_void (λ v x.
+        x ≡ kind) stacks.old stacks.new) }
 {
     put(&mut stacks.results, kind)
 }

@@ -28,7 +28,8 @@ use std::alloc::Global;
 /// symbol's stays where it stands.
 pub fn undo_expression(alloc: Global, stacks: &mut Stacks, form: Form) -> Result<(), NoMemory>
     requires { Ready (body_in_expression form) stacks.old }
-    ensures { IfOk result (λ _. Undone (part_in_expression form) (body_in_expression form) (Made form) stacks.old stacks.new) }
+    ensures { IfOk result (λ _. Undone (part_in_expression form) (body_in_expression form)
+        (Made form) stacks.old stacks.new) }
 {
     match form {
         Form::ExpressionOperand => undo_whole(alloc, stacks),

@@ -18,7 +18,8 @@ fn make_generators(
     all: Vec<Generator>,
     condition: Option<Expression>,
 ) -> Result<Generators, NoMemory>
-    ensures { IfOk result (λ g. written_generators g ≡ record { all = map written_generator all.items; only = option_value written condition }) }
+    ensures { IfOk result (λ g. written_generators g ≡
+        record { all = map written_generator all.items; only = option_value written condition }) }
 {
     let (condition, generators) = beside(box_some(alloc, condition), all)?;
     Ok(Generators {
@@ -34,7 +35,12 @@ pub fn join_generators(
     more: Vec<Generator>,
     condition: Option<Expression>,
 ) -> Result<Generators, NoMemory>
-    ensures { IfOk result (λ g. written_generators g ≡ record { all = written_generator first ∷ map written_generator (reverse more.items); only = option_value written condition }) }
+    ensures { IfOk result (λ g. written_generators g ≡
+        record {
+          all = written_generator first ∷ map written_generator
+              (reverse more.items);
+          only = option_value written condition;
+        }) }
 {
     let (all, condition) = beside(put_before(more, first), condition)?;
     let all = in_order(all);

@@ -88,7 +88,8 @@ pub fn undo_compared(
     comparison: Comparison,
 ) -> Result<(), NoMemory>
     requires { Ready comparison_tail_less stacks.old }
-    ensures { IfOk result (λ _. Undone comparison_tail comparison_tail_less (ComparedMade comparison) stacks.old stacks.new) }
+    ensures { IfOk result (λ _. Undone comparison_tail comparison_tail_less
+        (ComparedMade comparison) stacks.old stacks.new) }
 {
     let place = take(&mut stacks.places);
     let operand = take(&mut stacks.expressions);
@@ -124,7 +125,8 @@ pub fn undo_total(
     operator: ChainOperator,
 ) -> Result<(), NoMemory>
     requires { Ready total_tail_plus stacks.old }
-    ensures { IfOk result (λ _. Undone total_tail total_tail_plus (TotalMade operator) stacks.old stacks.new) }
+    ensures { IfOk result (λ _. Undone total_tail total_tail_plus
+        (TotalMade operator) stacks.old stacks.new) }
 {
     let place = take(&mut stacks.places);
     let operand = take(&mut stacks.expressions);
@@ -137,7 +139,8 @@ pub fn undo_total(
 /// `* operand` and its like, and more
 pub fn undo_product(stacks: &mut Stacks, operator: ChainOperator) -> Result<(), NoMemory>
     requires { Ready product_tail_star stacks.old }
-    ensures { IfOk result (λ _. Undone product_tail product_tail_star (ProductMade operator) stacks.old stacks.new) }
+    ensures { IfOk result (λ _. Undone product_tail product_tail_star
+        (ProductMade operator) stacks.old stacks.new) }
 {
     let place = take(&mut stacks.places);
     let operand = take(&mut stacks.expressions);
@@ -147,7 +150,8 @@ pub fn undo_product(stacks: &mut Stacks, operator: ChainOperator) -> Result<(), 
 
 /// No links, at any level
 pub fn undo_no_links(alloc: Global, stacks: &mut Stacks) -> Result<(), NoMemory>
-    ensures { IfOk result (λ _. Undone product_tail [] (λ v x. x.items ≡ []) stacks.old stacks.new) }
+    ensures { IfOk result (λ _. Undone product_tail [] (λ v x.
+        x.items ≡ []) stacks.old stacks.new) }
 {
     put(&mut stacks.links, Vec::new(alloc))
 }

@@ -22,7 +22,11 @@ pub fn in_order<T>(all: Vec<T>) -> Vec<T>
 
 /// An operand behind an operator.
 pub fn make_link(operator: ChainOperator, place: Place, operand: Expression) -> Link
-    ensures { written_link result ≡ record { operator = operator; text = link operator place (written operand) } }
+    ensures { written_link result ≡ record {
+      operator = operator;
+      text = link operator place
+          (written operand);
+    } }
 {
     Link {
         operator,
@@ -56,7 +60,8 @@ pub fn make_aggregate(
     generators: Generators,
     body: Expression,
 ) -> Result<Expression, NoMemory>
-    ensures { IfOk result (λ e. written e ≡ aggregate kind place (written_generators generators) (written body)) }
+    ensures { IfOk result (λ e. written e ≡
+        aggregate kind place (written_generators generators) (written body)) }
 {
     let (generators, body) = box_two(alloc, generators, body)?;
     Ok(Expression::Aggregate {
@@ -75,7 +80,8 @@ pub fn make_extreme(
     left: Expression,
     right: Expression,
 ) -> Result<Expression, NoMemory>
-    ensures { IfOk result (λ e. written e ≡ extreme_of extreme place (written left) (written right)) }
+    ensures { IfOk result (λ e. written e ≡
+        extreme_of extreme place (written left) (written right)) }
 {
     let (left, right) = box_two(alloc, left, right)?;
     Ok(Expression::Extreme {
@@ -123,7 +129,8 @@ pub fn make_set(place: Place, all: Vec<Argument>) -> Expression
 
 /// `[index]` or `[index, second]`
 pub fn make_index(place: Place, index: Expression, second: Option<Expression>) -> Suffix
-    ensures { written_suffix result ≡ index_text place (written index) (option_value written second) }
+    ensures { written_suffix result ≡ index_text place (written index)
+        (option_value written second) }
 {
     match second {
         None => Suffix::Index { place, index },

@@ -56,7 +56,8 @@ pub fn undo_unary(
     operator: UnaryOperator,
 ) -> Result<(), NoMemory>
     requires { Ready unnamed_minus stacks.old }
-    ensures { IfOk result (λ _. Undone unnamed unnamed_minus (UnaryMade operator) stacks.old stacks.new) }
+    ensures { IfOk result (λ _. Undone unnamed unnamed_minus
+        (UnaryMade operator) stacks.old stacks.new) }
 {
     let place = take(&mut stacks.places);
     let operand = take(&mut stacks.expressions);
@@ -67,7 +68,8 @@ pub fn undo_unary(
 /// `sum(generators) body` and its like
 pub fn undo_aggregate(alloc: Global, stacks: &mut Stacks, kind: Aggregate) -> Result<(), NoMemory>
     requires { Ready unnamed_sum stacks.old }
-    ensures { IfOk result (λ _. Undone unnamed unnamed_sum (AggregateMade kind) stacks.old stacks.new) }
+    ensures { IfOk result (λ _. Undone unnamed unnamed_sum
+        (AggregateMade kind) stacks.old stacks.new) }
 {
     let place = take(&mut stacks.places);
     let operand = take(&mut stacks.expressions);
@@ -81,7 +83,8 @@ pub fn undo_aggregate(alloc: Global, stacks: &mut Stacks, kind: Aggregate) -> Re
 /// `true` or `false`
 pub fn undo_truth(stacks: &mut Stacks, value: bool) -> Result<(), NoMemory>
     requires { Ready literal_true stacks.old }
-    ensures { IfOk result (λ _. Undone literal literal_true (TruthMade value) stacks.old stacks.new) }
+    ensures { IfOk result (λ _. Undone literal literal_true
+        (TruthMade value) stacks.old stacks.new) }
 {
     let place = take(&mut stacks.places);
     let made = make_truth(value, place);
@@ -113,7 +116,8 @@ pub fn undo_list(stacks: &mut Stacks) -> Result<(), NoMemory>
 /// `min(left, right)` or `max(left, right)`
 pub fn undo_extreme(alloc: Global, stacks: &mut Stacks, which: Extreme) -> Result<(), NoMemory>
     requires { Ready extreme_min stacks.old }
-    ensures { IfOk result (λ _. Undone extreme extreme_min (ExtremeMade which) stacks.old stacks.new) }
+    ensures { IfOk result (λ _. Undone extreme extreme_min
+        (ExtremeMade which) stacks.old stacks.new) }
 {
     let place = take(&mut stacks.places);
     let left = take(&mut stacks.expressions);

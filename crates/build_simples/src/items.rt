@@ -13,7 +13,8 @@ use std::alloc::Global;
 /// An expression that is printed.
 pub fn undo_item(stacks: &mut Stacks) -> Result<(), NoMemory>
     requires { Ready item_expression stacks.old }
-    ensures { IfOk result (λ _. Undone item item_expression (λ v x. x ≡ items.Expression v.0) stacks.old stacks.new) }
+    ensures { IfOk result (λ _. Undone item item_expression (λ v x.
+        x ≡ items.Expression v.0) stacks.old stacks.new) }
 {
     let value = take(&mut stacks.expressions);
     put(&mut stacks.items, Item::Expression(value))
@@ -22,7 +23,8 @@ pub fn undo_item(stacks: &mut Stacks) -> Result<(), NoMemory>
 /// A string that is printed.
 pub fn undo_string(stacks: &mut Stacks) -> Result<(), NoMemory>
     requires { Ready item_string stacks.old }
-    ensures { IfOk result (λ _. Undone item item_string (λ v x. x ≡ items.Str v.0) stacks.old stacks.new) }
+    ensures { IfOk result (λ _. Undone item item_string (λ v x.
+        x ≡ items.Str v.0) stacks.old stacks.new) }
 {
     let text = take(&mut stacks.texts);
     put(&mut stacks.items, Item::Str(text))
@@ -30,7 +32,8 @@ pub fn undo_string(stacks: &mut Stacks) -> Result<(), NoMemory>
 
 /// `endl`
 pub fn undo_end_line(stacks: &mut Stacks) -> Result<(), NoMemory>
-    ensures { IfOk result (λ _. Undone item item_endl (λ v x. x ≡ items.EndLine) stacks.old stacks.new) }
+    ensures { IfOk result (λ _. Undone item item_endl (λ v x.
+        x ≡ items.EndLine) stacks.old stacks.new) }
 {
     put(&mut stacks.items, Item::EndLine)
 }
@@ -38,7 +41,8 @@ pub fn undo_end_line(stacks: &mut Stacks) -> Result<(), NoMemory>
 /// `<< item` before other items
 pub fn undo_more_items(stacks: &mut Stacks) -> Result<(), NoMemory>
     requires { Ready items_tail_less_less stacks.old }
-    ensures { IfOk result (λ _. Undone items_tail items_tail_less_less (λ v x. reverse x.items ≡ v.1.0 ∷ reverse v.1.1.0.items) stacks.old stacks.new) }
+    ensures { IfOk result (λ _. Undone items_tail items_tail_less_less (λ v x.
+        reverse x.items ≡ v.1.0 ∷ reverse v.1.1.0.items) stacks.old stacks.new) }
 {
     let first = take(&mut stacks.items);
     put_first(&mut stacks.item_lists, first)

@@ -25,7 +25,8 @@ use std::alloc::Global;
 /// A simple statement that begins with a name.
 pub fn undo_named(alloc: Global, stacks: &mut Stacks) -> Result<(), NoMemory>
     requires { Ready simple_first_name stacks.old }
-    ensures { IfOk result (λ _. Undone simple simple_first_name (λ v x. written_simple x ≡ named_text v.0 v.1.0) stacks.old stacks.new) }
+    ensures { IfOk result (λ _. Undone simple simple_first_name (λ v x.
+        written_simple x ≡ named_text v.0 v.1.0) stacks.old stacks.new) }
 {
     let name = take(&mut stacks.names);
     let rest = take(&mut stacks.named_rests);
@@ -36,7 +37,9 @@ pub fn undo_named(alloc: Global, stacks: &mut Stacks) -> Result<(), NoMemory>
 /// A simple statement that begins with a literal, or with `min` or `max`.
 pub fn undo_unnamed(alloc: Global, stacks: &mut Stacks) -> Result<(), NoMemory>
     requires { Ready simple_literal stacks.old }
-    ensures { IfOk result (λ _. Undone simple simple_literal (λ v x. written_simple x ≡ done_text (with_suffixes (written v.0) v.1.0) v.1.1.0) stacks.old stacks.new) }
+    ensures { IfOk result (λ _. Undone simple simple_literal (λ v x.
+        written_simple x ≡ done_text (with_suffixes
+        (written v.0) v.1.0) v.1.1.0) stacks.old stacks.new) }
 {
     let primary = take(&mut stacks.expressions);
     let suffixes = take(&mut stacks.suffixes);
@@ -48,7 +51,8 @@ pub fn undo_unnamed(alloc: Global, stacks: &mut Stacks) -> Result<(), NoMemory>
 
 // `cout << items`
 fn make_print(place: Place, items: Vec<Item>) -> Simple
-    ensures { written_simple result ≡ (λ behind. form simple simple_cout ∷ mark words.Cout place (items_text items.items behind)) }
+    ensures { written_simple result ≡ (λ behind.
+        form simple simple_cout ∷ mark words.Cout place (items_text items.items behind)) }
 {
     Simple::Print { place, items }
 }
@@ -56,7 +60,9 @@ fn make_print(place: Place, items: Vec<Item>) -> Simple
 /// `cout << item` and more items
 pub fn undo_print(stacks: &mut Stacks) -> Result<(), NoMemory>
     requires { Ready simple_cout stacks.old }
-    ensures { IfOk result (λ _. Undone simple simple_cout (λ v x. written_simple x ≡ (λ behind. form simple simple_cout ∷ mark words.Cout v.0 (items_text (v.1.1.0 ∷ reverse v.1.1.1.0.items) behind))) stacks.old stacks.new) }
+    ensures { IfOk result (λ _. Undone simple simple_cout (λ v x.
+        written_simple x ≡ (λ behind. form simple simple_cout ∷ mark words.Cout v.0
+        (items_text (v.1.1.0 ∷ reverse v.1.1.1.0.items) behind))) stacks.old stacks.new) }
 {
     let place = take(&mut stacks.places);
     let first = take(&mut stacks.items);
@@ -69,7 +75,9 @@ pub fn undo_print(stacks: &mut Stacks) -> Result<(), NoMemory>
 
 // `call(chosen)`
 fn make_call(alloc: Global, place: Place, chosen: Expression) -> Result<Simple, NoMemory>
-    ensures { IfOk result (λ s. written_simple s ≡ (λ behind. form simple simple_call ∷ mark words.Call place (word words.LeftParenthesis (whole_text chosen (word words.RightParenthesis behind))))) }
+    ensures { IfOk result (λ s. written_simple s ≡
+        (λ behind. form simple simple_call ∷ mark words.Call place
+        (word words.LeftParenthesis (whole_text chosen (word words.RightParenthesis behind))))) }
 {
     let chosen = Box::new(alloc, chosen)?;
     Ok(Simple::Call { place, chosen })
@@ -89,7 +97,8 @@ pub fn undo_call(alloc: Global, stacks: &mut Stacks) -> Result<(), NoMemory>
 /// `= value` behind a name
 pub fn undo_set(stacks: &mut Stacks) -> Result<(), NoMemory>
     requires { Ready named_simple_equal stacks.old }
-    ensures { IfOk result (λ _. Undone named_simple named_simple_equal (λ v x. x ≡ named_rests.Set v.1.0) stacks.old stacks.new) }
+    ensures { IfOk result (λ _. Undone named_simple named_simple_equal (λ v x.
+        x ≡ named_rests.Set v.1.0) stacks.old stacks.new) }
 {
     let value = take(&mut stacks.new_values);
     put(&mut stacks.named_rests, NamedRest::Set(value))
@@ -98,7 +107,8 @@ pub fn undo_set(stacks: &mut Stacks) -> Result<(), NoMemory>
 /// What a target that begins with a name goes on with, and what is done with it.
 pub fn undo_named_rest(stacks: &mut Stacks) -> Result<(), NoMemory>
     requires { Ready named_simple_called stacks.old }
-    ensures { IfOk result (λ _. Undone named_simple named_simple_called (λ v x. x ≡ named_rests.Rest v.0 v.1.0 v.1.1.0) stacks.old stacks.new) }
+    ensures { IfOk result (λ _. Undone named_simple named_simple_called (λ v x.
+        x ≡ named_rests.Rest v.0 v.1.0 v.1.1.0) stacks.old stacks.new) }
 {
     let called = take(&mut stacks.called);
     let suffixes = take(&mut stacks.suffixes);
@@ -114,7 +124,8 @@ pub fn undo_named_rest(stacks: &mut Stacks) -> Result<(), NoMemory>
 /// `new class(arguments)`
 pub fn undo_new(stacks: &mut Stacks) -> Result<(), NoMemory>
     requires { Ready new_value_new stacks.old }
-    ensures { IfOk result (λ _. Undone new_value new_value_new (λ v x. x ≡ new_values.New v.1.0 v.1.1.1.0) stacks.old stacks.new) }
+    ensures { IfOk result (λ _. Undone new_value new_value_new (λ v x.
+        x ≡ new_values.New v.1.0 v.1.1.1.0) stacks.old stacks.new) }
 {
     let class = take(&mut stacks.classes);
     let arguments = take(&mut stacks.lists);
@@ -124,7 +135,8 @@ pub fn undo_new(stacks: &mut Stacks) -> Result<(), NoMemory>
 /// A value that a name is set to.
 pub fn undo_set_value(stacks: &mut Stacks) -> Result<(), NoMemory>
     requires { Ready new_value_expression stacks.old }
-    ensures { IfOk result (λ _. Undone new_value new_value_expression (λ v x. x ≡ new_values.Value v.0) stacks.old stacks.new) }
+    ensures { IfOk result (λ _. Undone new_value new_value_expression (λ v x.
+        x ≡ new_values.Value v.0) stacks.old stacks.new) }
 {
     let value = take(&mut stacks.expressions);
     put(&mut stacks.new_values, NewValue::Value(value))
@@ -132,7 +144,8 @@ pub fn undo_set_value(stacks: &mut Stacks) -> Result<(), NoMemory>
 
 /// Nothing is done with a target.
 pub fn undo_no_write(stacks: &mut Stacks) -> Result<(), NoMemory>
-    ensures { IfOk result (λ _. Undone write [] (λ v x. x ≡ write_rests.Nothing) stacks.old stacks.new) }
+    ensures { IfOk result (λ _. Undone write [] (λ v x.
+        x ≡ write_rests.Nothing) stacks.old stacks.new) }
 {
     put(&mut stacks.writes, WriteRest::Nothing)
 }
@@ -140,7 +153,8 @@ pub fn undo_no_write(stacks: &mut Stacks) -> Result<(), NoMemory>
 /// `= value` and its like
 pub fn undo_write(stacks: &mut Stacks, operator: WriteOperator) -> Result<(), NoMemory>
     requires { Ready write_equal stacks.old }
-    ensures { IfOk result (λ _. Undone write write_equal (λ v x. x ≡ write_rests.Value operator v.1.0) stacks.old stacks.new) }
+    ensures { IfOk result (λ _. Undone write write_equal (λ v x.
+        x ≡ write_rests.Value operator v.1.0) stacks.old stacks.new) }
 {
     let value = take(&mut stacks.expressions);
     put(&mut stacks.writes, WriteRest::Value(operator, value))
@@ -149,7 +163,8 @@ pub fn undo_write(stacks: &mut Stacks, operator: WriteOperator) -> Result<(), No
 /// `:=: right`
 pub fn undo_swap(stacks: &mut Stacks) -> Result<(), NoMemory>
     requires { Ready write_swap stacks.old }
-    ensures { IfOk result (λ _. Undone write write_swap (λ v x. x ≡ write_rests.Swap v.1.0) stacks.old stacks.new) }
+    ensures { IfOk result (λ _. Undone write write_swap (λ v x.
+        x ≡ write_rests.Swap v.1.0) stacks.old stacks.new) }
 {
     let right = take(&mut stacks.expressions);
     put(&mut stacks.writes, WriteRest::Swap(right))
@@ -157,7 +172,8 @@ pub fn undo_swap(stacks: &mut Stacks) -> Result<(), NoMemory>
 
 /// `++` or `--`
 pub fn undo_step(stacks: &mut Stacks, step: Step) -> Result<(), NoMemory>
-    ensures { IfOk result (λ _. Undone write write_plus_plus (λ v x. x ≡ write_rests.Step step) stacks.old stacks.new) }
+    ensures { IfOk result (λ _. Undone write write_plus_plus (λ v x.
+        x ≡ write_rests.Step step) stacks.old stacks.new) }
 {
     put(&mut stacks.writes, WriteRest::Step(step))
 }
@@ -165,7 +181,8 @@ pub fn undo_step(stacks: &mut Stacks, step: Step) -> Result<(), NoMemory>
 /// The name that a simple statement or a pair begins with.
 pub fn undo_first_name(stacks: &mut Stacks) -> Result<(), NoMemory>
     requires { Ready first_name_name stacks.old }
-    ensures { IfOk result (λ _. Undone first_name first_name_name (λ v x. x ≡ v.0) stacks.old stacks.new) }
+    ensures { IfOk result (λ _. Undone first_name first_name_name (λ v x.
+        x ≡ v.0) stacks.old stacks.new) }
 {
     let name = take(&mut stacks.names);
     put(&mut stacks.names, name)

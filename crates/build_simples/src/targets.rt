@@ -22,7 +22,8 @@ fn make_write(
     operator: WriteOperator,
     value: Expression,
 ) -> Result<Simple, NoMemory>
-    ensures { IfOk result (λ s. written_simple s ≡ write_text operator (written target) (whole_text value)) }
+    ensures { IfOk result (λ s. written_simple s ≡
+        write_text operator (written target) (whole_text value)) }
 {
     let (target, value) = box_two(alloc, target, value)?;
     Ok(Simple::Write {
@@ -34,7 +35,8 @@ fn make_write(
 
 // `left :=: right`
 fn make_swap(alloc: Global, left: Expression, right: Expression) -> Result<Simple, NoMemory>
-    ensures { IfOk result (λ s. written_simple s ≡ done_text (written left) (write_rests.Swap right)) }
+    ensures { IfOk result (λ s. written_simple s ≡
+        done_text (written left) (write_rests.Swap right)) }
 {
     let (left, right) = box_two(alloc, left, right)?;
     Ok(Simple::Swap { left, right })
@@ -55,7 +57,8 @@ fn make_new(
     class: Class,
     arguments: Vec<Argument>,
 ) -> Result<Simple, NoMemory>
-    ensures { IfOk result (λ s. written_simple s ≡ named_text name (named_rests.Set (new_values.New class arguments))) }
+    ensures { IfOk result (λ s. written_simple s ≡
+        named_text name (named_rests.Set (new_values.New class arguments))) }
 {
     let mut arguments = arguments;
     arguments.reverse();

@@ -59,7 +59,8 @@ pub fn undo_events(stacks: &mut Stacks) -> Result<(), NoMemory>
 
 /// `atomic` or `delay`
 pub fn undo_with_mode(stacks: &mut Stacks, mode: WithMode) -> Result<(), NoMemory>
-    ensures { IfOk result (λ _. Undone with_mode with_mode_atomic (λ v x. x ≡ mode) stacks.old stacks.new) }
+    ensures { IfOk result (λ _. Undone with_mode with_mode_atomic (λ v x.
+        x ≡ mode) stacks.old stacks.new) }
 {
     put(&mut stacks.modes, mode)
 }

@@ -25,7 +25,8 @@ pub fn make_block(place: Place, statements: Vec<Statement>) -> Block
 
 /// A block as a statement.
 pub fn make_block_alone(block: Block) -> Statement
-    ensures { written_statement result ≡ (λ behind. form statement statement_block ∷ written_block block behind) }
+    ensures { written_statement result ≡
+        (λ behind. form statement statement_block ∷ written_block block behind) }
 {
     Statement::Block(block)
 }
@@ -39,7 +40,9 @@ pub fn make_empty(place: Place) -> Statement
 
 /// `declaration;`
 pub fn make_declared(alloc: Global, declaration: Declaration) -> Result<Statement, NoMemory>
-    ensures { IfOk result (λ s. written_statement s ≡ (λ behind. form statement statement_declaration ∷ written_declaration declaration (word words.Semicolon behind))) }
+    ensures { IfOk result (λ s. written_statement s ≡
+        (λ behind. form statement statement_declaration ∷ written_declaration declaration
+        (word words.Semicolon behind))) }
 {
     let declaration = Box::new(alloc, declaration)?;
     Ok(Statement::Declaration(declaration))
@@ -47,7 +50,9 @@ pub fn make_declared(alloc: Global, declaration: Declaration) -> Result<Statemen
 
 /// `simple;`
 pub fn make_simple_alone(simple: Simple) -> Statement
-    ensures { written_statement result ≡ (λ behind. form statement statement_simple ∷ written_simple simple (word words.Semicolon behind)) }
+    ensures { written_statement result ≡
+        (λ behind. form statement statement_simple ∷ written_simple simple
+        (word words.Semicolon behind)) }
 {
     Statement::Simple(simple)
 }
@@ -58,7 +63,9 @@ pub fn make_return(
     place: Place,
     value: Option<Expression>,
 ) -> Result<Statement, NoMemory>
-    ensures { IfOk result (λ s. written_statement s ≡ (λ behind. statement_by statement_return words.Return place (value_text value (word words.Semicolon behind)))) }
+    ensures { IfOk result (λ s. written_statement s ≡
+        (λ behind. statement_by statement_return words.Return place
+        (value_text value (word words.Semicolon behind)))) }
 {
     let value = box_some(alloc, value)?;
     Ok(Statement::Return { place, value })
@@ -72,7 +79,9 @@ pub fn make_if(
     then: Statement,
     otherwise: Option<Statement>,
 ) -> Result<Statement, NoMemory>
-    ensures { IfOk result (λ s. written_statement s ≡ if_text place (whole_text test) (written_statement then) (option_text written_statement otherwise)) }
+    ensures { IfOk result (λ s. written_statement s ≡
+        if_text place (whole_text test) (written_statement then)
+        (option_text written_statement otherwise)) }
 {
     let (test, then, otherwise) = box_branches(alloc, test, then, otherwise)?;
     Ok(Statement::If {
@@ -90,7 +99,8 @@ pub fn make_while(
     test: Expression,
     body: Statement,
 ) -> Result<Statement, NoMemory>
-    ensures { IfOk result (λ s. written_statement s ≡ while_text place (whole_text test) (written_statement body)) }
+    ensures { IfOk result (λ s. written_statement s ≡
+        while_text place (whole_text test) (written_statement body)) }
 {
     let (test, body) = box_two(alloc, test, body)?;
     Ok(Statement::While { place, test, body })
@@ -105,7 +115,9 @@ pub fn make_for(
     step: Option<Simple>,
     body: Statement,
 ) -> Result<Statement, NoMemory>
-    ensures { IfOk result (λ s. written_statement s ≡ for_text place (for_start_text start) (value_text test) (for_step_text step) (written_statement body)) }
+    ensures { IfOk result (λ s. written_statement s ≡
+        for_text place (for_start_text start) (value_text test) (for_step_text step)
+        (written_statement body)) }
 {
     let head = ForHead { start, test, step };
     let (head, body) = box_two(alloc, head, body)?;
@@ -119,7 +131,9 @@ pub fn make_for_all(
     generators: Generators,
     body: Statement,
 ) -> Result<Statement, NoMemory>
-    ensures { IfOk result (λ s. written_statement s ≡ over_text statement_for_all words.ForAll place (generators_text (written_generators generators)) (written_statement body)) }
+    ensures { IfOk result (λ s. written_statement s ≡
+        over_text statement_for_all words.ForAll place
+        (generators_text (written_generators generators)) (written_statement body)) }
 {
     let (generators, body) = box_two(alloc, generators, body)?;
     Ok(Statement::ForAll {
@@ -136,7 +150,9 @@ pub fn make_select(
     generators: Generators,
     body: Statement,
 ) -> Result<Statement, NoMemory>
-    ensures { IfOk result (λ s. written_statement s ≡ over_text statement_select words.Select place (generators_text (written_generators generators)) (written_statement body)) }
+    ensures { IfOk result (λ s. written_statement s ≡
+        over_text statement_select words.Select place
+        (generators_text (written_generators generators)) (written_statement body)) }
 {
     let (generators, body) = box_two(alloc, generators, body)?;
     Ok(Statement::Select {
@@ -155,7 +171,9 @@ pub fn make_select_by(
     key: Expression,
     body: Statement,
 ) -> Result<Statement, NoMemory>
-    ensures { IfOk result (λ s. written_statement s ≡ select_by_text extreme place (generators_text (written_generators generators)) (whole_text key) (written_statement body)) }
+    ensures { IfOk result (λ s. written_statement s ≡
+        select_by_text extreme place (generators_text (written_generators generators))
+        (whole_text key) (written_statement body)) }
 {
     let (generators, key, body) = box_three(alloc, generators, key, body)?;
     Ok(Statement::SelectBy {
@@ -175,7 +193,8 @@ pub fn make_neighbor(
     selector: Name,
     body: Statement,
 ) -> Result<Statement, NoMemory>
-    ensures { IfOk result (λ s. written_statement s ≡ neighbor_text place (whole_text key) selector (written_statement body)) }
+    ensures { IfOk result (λ s. written_statement s ≡
+        neighbor_text place (whole_text key) selector (written_statement body)) }
 {
     let (key, body) = box_two(alloc, key, body)?;
     Ok(Statement::Neighbor {
@@ -195,7 +214,9 @@ pub fn make_whenever(
     names: Option<Events>,
     body: Statement,
 ) -> Result<Statement, NoMemory>
-    ensures { IfOk result (λ s. written_statement s ≡ whenever_text place (at_postfix (written variable)) event (events_text names) (written_statement body)) }
+    ensures { IfOk result (λ s. written_statement s ≡
+        whenever_text place (at_postfix (written variable)) event (events_text names)
+        (written_statement body)) }
 {
     let watched = Watched {
         variable,
@@ -218,7 +239,8 @@ pub fn make_with(
     solver: Name,
     body: Block,
 ) -> Result<Statement, NoMemory>
-    ensures { IfOk result (λ s. written_statement s ≡ with_text place mode solver (written_block body)) }
+    ensures { IfOk result (λ s. written_statement s ≡
+        with_text place mode solver (written_block body)) }
 {
     let body = Box::new(alloc, body)?;
     Ok(Statement::With {
@@ -237,7 +259,8 @@ pub fn make_parall(
     domain: Expression,
     body: Statement,
 ) -> Result<Statement, NoMemory>
-    ensures { IfOk result (λ s. written_statement s ≡ parall_text place name (whole_text domain) (written_statement body)) }
+    ensures { IfOk result (λ s. written_statement s ≡
+        parall_text place name (whole_text domain) (written_statement body)) }
 {
     let (domain, body) = box_two(alloc, domain, body)?;
     Ok(Statement::Parall {

@@ -114,8 +114,10 @@ impl IntSet {
 fn search(members: &[i64], v: i64) -> Result<usize, usize>
     requires { IsRising members.now }
     ensures found { is_ok result ≡ is_member v members.now }
-    ensures at { IfOk result (λ i. (i < length members.now) × (remove members.now i ≡ without_member v members.now)) }
-    ensures between { IfErr result (λ i. (i ≤ length members.now) × (insert members.now i v ≡ with_member v members.now)) }
+    ensures at { IfOk result (λ i. (i < length members.now) ×
+        (remove members.now i ≡ without_member v members.now)) }
+    ensures between { IfErr result (λ i. (i ≤ length members.now) ×
+        (insert members.now i v ≡ with_member v members.now)) }
 {
     members.binary_search(&v)
 }

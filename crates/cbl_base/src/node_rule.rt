@@ -39,12 +39,14 @@ pub trait NodeRule: Send + Sync + Drop {
     fn probe(&self, changes: &[Change]) -> Result<NodeValue, NodeFault>
         requires ready { ready self.now }
         requires changes { AreChanges (held self.now) changes.now }
-        ensures { IsAnswer ((rule self.now).value (after_changes (held self.now) changes.now)) result };
+        ensures { IsAnswer ((rule self.now).value
+            (after_changes (held self.now) changes.now)) result };
 
     /// The value of the inputs that it holds, or the rule's fault where they have none.
     fn value(&self) -> Result<&NodeValue, RunFault>
         requires { ready self.now }
-        ensures { let value = (rule self.now).value (held self.now) in MatchResult result (λ v. value ≡ Ok v.now) (λ fault. value ≡ Err fault) };
+        ensures { let value = (rule self.now).value (held self.now) in
+            MatchResult result (λ v. value ≡ Ok v.now) (λ fault. value ≡ Err fault) };
 
     /// The violation at a place, which counts from 0, of the inputs that it holds. They have a value.
     fn place_violation(&self, place: u32) -> i64

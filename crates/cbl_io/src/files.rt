@@ -48,8 +48,10 @@ pub trait Files {
     fn read(&mut self, alloc: Global, name: &str, most: u64) -> Result<Vec<u8>, ReadStop>
         ensures ok { IfOk result (λ bytes. IsRead (held self.old) name.now most bytes.items) }
         ensures within { IfOk result (λ bytes. vec_len bytes ≤ most + 1) }
-        ensures failed { result ≡ Err ReadStop.Failed → HasRisen (faults self.old name.now) (faults self.new name.now) }
+        ensures failed { result ≡ Err ReadStop.Failed →
+            HasRisen (faults self.old name.now) (faults self.new name.now) }
         ensures never_falls { faults self.old name.now ≤ faults self.new name.now }
-        ensures others { (other : List ℕ) → other ≢ name.now → faults self.new other ≡ faults self.old other }
+        ensures others { (other : List ℕ) → other ≢ name.now →
+            faults self.new other ≡ faults self.old other }
         ensures keeps { held self.new ≡ held self.old };
 }

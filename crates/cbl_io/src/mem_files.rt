@@ -52,11 +52,14 @@ impl Files for MemFiles {
     ghost faults = { λ files name. times_of name files.failed };
 
     fn read(&mut self, alloc: Global, name: &str, most: u64) -> Result<Vec<u8>, ReadStop>
-        ensures ok { IfOk result (λ bytes. IsRead (Some (held_of self.old)) name.now most bytes.items) }
+        ensures ok { IfOk result (λ bytes.
+            IsRead (Some (held_of self.old)) name.now most bytes.items) }
         ensures within { IfOk result (λ bytes. vec_len bytes ≤ most + 1) }
-        ensures failed { result ≡ Err ReadStop.Failed → HasRisen (times_of name.now self.old.failed) (times_of name.now self.new.failed) }
+        ensures failed { result ≡ Err ReadStop.Failed →
+            HasRisen (times_of name.now self.old.failed) (times_of name.now self.new.failed) }
         ensures never_falls { times_of name.now self.old.failed ≤ times_of name.now self.new.failed }
-        ensures others { (other : List ℕ) → other ≢ name.now → times_of other self.new.failed ≡ times_of other self.old.failed }
+        ensures others { (other : List ℕ) → other ≢ name.now →
+            times_of other self.new.failed ≡ times_of other self.old.failed }
         ensures keeps { Some (held_of self.new) ≡ Some (held_of self.old) }
         // what is only these files'
         ensures fails { is_failed result ≡ true → read_fails self.old name.now ≡ true }
@@ -78,7 +81,8 @@ impl Files for MemFiles {
 
 // What the first entry of the name holds.
 fn bytes_of<'a>(entries: &'a [(String, Vec<u8>)], name: &str) -> Option<&'a [u8]>
-    ensures { option_copied result ≡ find (slice_cmp nat_cmp) name.now (map (λ e. (string_bytes e.0, e.1.items)) entries.now) }
+    ensures { option_copied result ≡ find (slice_cmp nat_cmp) name.now
+        (map (λ e. (string_bytes e.0, e.1.items)) entries.now) }
 {
     for (held, bytes) in entries {
         if name == held.as_str() {

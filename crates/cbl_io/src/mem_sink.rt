@@ -29,7 +29,8 @@ impl Model for MemSink {
 
     ghost view = { λ s. record { bytes = s.bytes.items; room = s.room; most = s.most; failing = s.failing.items; writes = s.writes; faults = s.faults } };
 
-    ghost invariant = { λ s. (vec_len s.bytes ≤ s.room) × (s.room ≤ vec_capacity s.bytes) × (0 < s.most) };
+    ghost invariant = { λ s. (vec_len s.bytes ≤ s.room) × (s.room ≤ vec_capacity s.bytes) ×
+        (0 < s.most) };
 }
 
 impl MemSink {
@@ -72,7 +73,8 @@ impl Sink for MemSink {
     fn write(&mut self, piece: &[u8]) -> Result<usize, Failed>
         ensures within { IfOk result (λ taken. taken ≤ length piece.now) }
         ensures some { IfOk result (λ taken. 0 < length piece.now → 0 < taken) }
-        ensures ok { IfOk result (λ taken. Appends (Some self.old.bytes) (Some self.new.bytes) (take taken piece.now)) }
+        ensures ok { IfOk result (λ taken.
+            Appends (Some self.old.bytes) (Some self.new.bytes) (take taken piece.now)) }
         ensures failed { OnErr result (HasRisen self.old.faults self.new.faults) }
         ensures err { OnErr result (Some self.new.bytes ≡ Some self.old.bytes) }
         ensures never_falls { self.old.faults ≤ self.new.faults }

@@ -38,9 +38,13 @@ impl<R: rt::Files> Files for RealFiles<R> {
 
     fn read(&mut self, alloc: Global, name: &str, most: u64) -> Result<Vec<u8>, ReadStop>
         ensures within { IfOk result (λ bytes. vec_len bytes ≤ most + 1) }
-        ensures failed { result ≡ Err ReadStop.Failed → HasRisen (times_of name.now (failed_names self.old)) (times_of name.now (failed_names self.new)) }
-        ensures never_falls { times_of name.now (failed_names self.old) ≤ times_of name.now (failed_names self.new) }
-        ensures others { (other : List ℕ) → other ≢ name.now → times_of other (failed_names self.new) ≡ times_of other (failed_names self.old) }
+        ensures failed { result ≡ Err ReadStop.Failed →
+            HasRisen (times_of name.now (failed_names self.old))
+            (times_of name.now (failed_names self.new)) }
+        ensures never_falls { times_of name.now (failed_names self.old) ≤ times_of name.now
+            (failed_names self.new) }
+        ensures others { (other : List ℕ) → other ≢ name.now →
+            times_of other (failed_names self.new) ≡ times_of other (failed_names self.old) }
         // what is only these files'
         ensures kept { failed_names self.new ≡ (if is_failed result then failed_names self.old ++ name.now ∷ [] else failed_names self.old) }
     {
@@ -67,7 +71,8 @@ fn read_file<R: rt::Files>(alloc: Global, system: &R, name: &str, most: u64) -> 
 // them is read.
 fn read_front<R: Read + Drop>(alloc: Global, reader: R, most: u64) -> io::Result<Vec<u8>>
     ensures within { IfOk result (λ bytes. vec_len bytes ≤ most + 1) }
-    ensures front { IfOk result (λ bytes. IfSome (R.remaining reader) (λ left. bytes.items ≡ take (most + 1) left)) }
+    ensures front { IfOk result (λ bytes.
+        IfSome (R.remaining reader) (λ left. bytes.items ≡ take (most + 1) left)) }
 {
     let limit = most.saturating_add(1);
     let mut bytes = Vec::new(alloc);

@@ -39,9 +39,13 @@ impl<W: Write> Sink for RealSink<W> {
         ensures failed { OnErr result (HasRisen (fault_count self.old) (fault_count self.new)) }
         ensures never_falls { fault_count self.old ≤ fault_count self.new }
         // what is only this sink's: where the writer tells its bytes, they are those that were taken
-        ensures passes_on { IfOk result (λ taken. Appends (W.contents (writer_of self.old)) (W.contents (writer_of self.new)) (take taken piece.now)) }
-        ensures keeps { OnErr result (Keeps (W.contents (writer_of self.old)) (W.contents (writer_of self.new))) }
-        ensures counts { fault_count self.new ≡ (if is_ok result then fault_count self.old else next_count (fault_count self.old)) }
+        ensures passes_on { IfOk result (λ taken.
+            Appends (W.contents (writer_of self.old)) (W.contents (writer_of self.new))
+            (take taken piece.now)) }
+        ensures keeps { OnErr result (Keeps (W.contents (writer_of self.old))
+            (W.contents (writer_of self.new))) }
+        ensures counts { fault_count self.new ≡
+            (if is_ok result then fault_count self.old else next_count (fault_count self.old)) }
     {
         match write_some(&mut self.writer, piece) {
             Ok(taken) if 0 < taken || piece.is_empty() => Ok(taken),

@@ -20,7 +20,8 @@ pub trait Sink {
     fn write(&mut self, piece: &[u8]) -> Result<usize, Failed>
         ensures within { IfOk result (λ taken. taken ≤ length piece.now) }
         ensures some { IfOk result (λ taken. 0 < length piece.now → 0 < taken) }
-        ensures ok { IfOk result (λ taken. Appends (bytes self.old) (bytes self.new) (take taken piece.now)) }
+        ensures ok { IfOk result (λ taken.
+            Appends (bytes self.old) (bytes self.new) (take taken piece.now)) }
         ensures failed { OnErr result (HasRisen (faults self.old) (faults self.new)) }
         ensures err { OnErr result (bytes self.new ≡ bytes self.old) }
         ensures never_falls { faults self.old ≤ faults self.new };

@@ -36,8 +36,10 @@ ghost use Rattle.cbl_operations.specs.declared.op.Op.{Op};
 /// The least of some numbers is one of them, and none is below it; the greatest is one of them, and none
 /// is above it.
 pub fn least_and_greatest()
-    ensures least { (xs : List ℤ) (v : ℤ) → IsTrue (least.takes (length xs)) → least.value xs ≡ Ok v → Contains xs v × IsLeastOf xs v }
-    ensures greatest { (xs : List ℤ) (v : ℤ) → IsTrue (greatest.takes (length xs)) → greatest.value xs ≡ Ok v → Contains xs v × IsGreatestOf xs v }
+    ensures least { (xs : List ℤ) (v : ℤ) → IsTrue (least.takes (length xs)) →
+        least.value xs ≡ Ok v → Contains xs v × IsLeastOf xs v }
+    ensures greatest { (xs : List ℤ) (v : ℤ) → IsTrue (greatest.takes (length xs)) →
+        greatest.value xs ≡ Ok v → Contains xs v × IsGreatestOf xs v }
 {}
 
 /// The dividend is the divisor times the quotient and the remainder. The remainder is nearer to 0 than the
@@ -65,7 +67,8 @@ pub fn truth_of_parts()
 
 /// What is counted stands behind the cells.
 pub fn count_of_cells()
-    ensures { (cells : List ℤ) (e : ℤ) → count.value (cells ++ e ∷ []) ≡ Ok (pos (count_of e cells)) }
+    ensures { (cells : List ℤ) (e : ℤ) →
+        count.value (cells ++ e ∷ []) ≡ Ok (pos (count_of e cells)) }
 {}
 
 /// The k-th cell from 0 has the index `low` and k more; an index below `low` or past the last has none.

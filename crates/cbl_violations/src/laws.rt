@@ -25,7 +25,8 @@ ghost use Rattle.cbl_violations.specs.Violations.Repeat.{repeat};
 pub fn eq_law()
     ensures holds { (a b z : ℤ) → eq_violations a b ≡ Ok z → (z ≡ pos 0) ↔ (a ≡ b) }
     ensures never_negative { (a b z : ℤ) → eq_violations a b ≡ Ok z → pos 0 ≤ℤ z }
-    ensures places { (xs : List ℤ) → of_two eq_violations xs ≡ Ok (pos 0) → (place : ℕ) → at_each eq_violations xs place ≡ pos 0 }
+    ensures places { (xs : List ℤ) → of_two eq_violations xs ≡ Ok (pos 0) → (place : ℕ) →
+        at_each eq_violations xs place ≡ pos 0 }
     ensures one_kind { GivesOneKind viol_eq }
 {}
 
@@ -33,7 +34,8 @@ pub fn eq_law()
 pub fn ne_law()
     ensures holds { (a b z : ℤ) → ne_violations a b ≡ Ok z → (z ≡ pos 0) ↔ (a ≢ b) }
     ensures never_negative { (a b z : ℤ) → ne_violations a b ≡ Ok z → pos 0 ≤ℤ z }
-    ensures places { (xs : List ℤ) → of_two ne_violations xs ≡ Ok (pos 0) → (place : ℕ) → at_each ne_violations xs place ≡ pos 0 }
+    ensures places { (xs : List ℤ) → of_two ne_violations xs ≡ Ok (pos 0) → (place : ℕ) →
+        at_each ne_violations xs place ≡ pos 0 }
     ensures one_kind { GivesOneKind viol_ne }
 {}
 
@@ -41,7 +43,8 @@ pub fn ne_law()
 pub fn le_law()
     ensures holds { (a b z : ℤ) → le_violations a b ≡ Ok z → (z ≡ pos 0) ↔ (a ≤ℤ b) }
     ensures never_negative { (a b z : ℤ) → le_violations a b ≡ Ok z → pos 0 ≤ℤ z }
-    ensures places { (xs : List ℤ) → of_two le_violations xs ≡ Ok (pos 0) → (place : ℕ) → at_each le_violations xs place ≡ pos 0 }
+    ensures places { (xs : List ℤ) → of_two le_violations xs ≡ Ok (pos 0) → (place : ℕ) →
+        at_each le_violations xs place ≡ pos 0 }
     ensures one_kind { GivesOneKind viol_le }
 {}
 
@@ -49,14 +52,17 @@ pub fn le_law()
 pub fn lt_law()
     ensures holds { (a b z : ℤ) → lt_violations a b ≡ Ok z → (z ≡ pos 0) ↔ (a <ℤ b) }
     ensures never_negative { (a b z : ℤ) → lt_violations a b ≡ Ok z → pos 0 ≤ℤ z }
-    ensures places { (xs : List ℤ) → of_two lt_violations xs ≡ Ok (pos 0) → (place : ℕ) → at_each lt_violations xs place ≡ pos 0 }
+    ensures places { (xs : List ℤ) → of_two lt_violations xs ≡ Ok (pos 0) → (place : ℕ) →
+        at_each lt_violations xs place ≡ pos 0 }
     ensures one_kind { GivesOneKind viol_lt }
 {}
 
 /// `alldifferent` has 0 violations exactly where no two places have the same value.
 pub fn all_different_law()
-    ensures holds { (xs : List ℤ) (z : ℤ) → all_different_violations xs ≡ Ok z → (z ≡ pos 0) ↔ AllPairs ◌≢◌ xs }
-    ensures never_negative { (xs : List ℤ) (z : ℤ) → all_different_violations xs ≡ Ok z → pos 0 ≤ℤ z }
+    ensures holds { (xs : List ℤ) (z : ℤ) → all_different_violations xs ≡ Ok z →
+        (z ≡ pos 0) ↔ AllPairs ◌≢◌ xs }
+    ensures never_negative { (xs : List ℤ) (z : ℤ) → all_different_violations xs ≡ Ok z →
+        pos 0 ≤ℤ z }
     ensures places { (xs : List ℤ) → all_different_violations xs ≡ Ok (pos 0) →
         (place : ℕ) → place < length xs → all_different_violation_at xs place ≡ pos 0 }
     ensures one_kind { GivesOneKind all_different }
@@ -66,7 +72,8 @@ pub fn all_different_law()
 pub fn at_most_law()
     ensures holds { (low : ℤ) (bounds xs : List ℤ) (z : ℤ) → at_most_violations low bounds xs ≡ Ok z →
         (z ≡ pos 0) ↔ EachBounded low bounds (λ v c. pos (count_of v xs) ≤ℤ c) }
-    ensures never_negative { (low : ℤ) (bounds xs : List ℤ) (z : ℤ) → at_most_violations low bounds xs ≡ Ok z → pos 0 ≤ℤ z }
+    ensures never_negative { (low : ℤ) (bounds xs : List ℤ) (z : ℤ) →
+        at_most_violations low bounds xs ≡ Ok z → pos 0 ≤ℤ z }
     ensures places { (low : ℤ) (bounds xs : List ℤ) → at_most_violations low bounds xs ≡ Ok (pos 0) →
         (place : ℕ) → at_most_violation_at low bounds xs place ≡ pos 0 }
     ensures one_kind { (low : ℤ) (bounds : List ℤ) → GivesOneKind (at_most low bounds) }
@@ -76,7 +83,8 @@ pub fn at_most_law()
 pub fn at_least_law()
     ensures holds { (low : ℤ) (bounds xs : List ℤ) (z : ℤ) → at_least_violations low bounds xs ≡ Ok z →
         (z ≡ pos 0) ↔ EachBounded low bounds (λ v c. c ≤ℤ pos (count_of v xs)) }
-    ensures never_negative { (low : ℤ) (bounds xs : List ℤ) (z : ℤ) → at_least_violations low bounds xs ≡ Ok z → pos 0 ≤ℤ z }
+    ensures never_negative { (low : ℤ) (bounds xs : List ℤ) (z : ℤ) →
+        at_least_violations low bounds xs ≡ Ok z → pos 0 ≤ℤ z }
     ensures places { (low : ℤ) (bounds xs : List ℤ) → at_least_violations low bounds xs ≡ Ok (pos 0) →
         (place : ℕ) → at_least_violation_at low bounds xs place ≡ pos 0 }
     ensures one_kind { (low : ℤ) (bounds : List ℤ) → GivesOneKind (at_least low bounds) }
@@ -86,7 +94,8 @@ pub fn at_least_law()
 pub fn exactly_law()
     ensures holds { (low : ℤ) (bounds xs : List ℤ) (z : ℤ) → exactly_violations low bounds xs ≡ Ok z →
         (z ≡ pos 0) ↔ EachBounded low bounds (λ v c. pos (count_of v xs) ≡ c) }
-    ensures never_negative { (low : ℤ) (bounds xs : List ℤ) (z : ℤ) → exactly_violations low bounds xs ≡ Ok z → pos 0 ≤ℤ z }
+    ensures never_negative { (low : ℤ) (bounds xs : List ℤ) (z : ℤ) →
+        exactly_violations low bounds xs ≡ Ok z → pos 0 ≤ℤ z }
     ensures places { (low : ℤ) (bounds xs : List ℤ) → exactly_violations low bounds xs ≡ Ok (pos 0) →
         (place : ℕ) → exactly_violation_at low bounds xs place ≡ pos 0 }
     ensures one_kind { (low : ℤ) (bounds : List ℤ) → GivesOneKind (exactly low bounds) }
@@ -97,10 +106,12 @@ pub fn exactly_law()
 pub fn knapsack_law()
     ensures holds { (weights : List ℤ) (capacity : ℤ) (xs : List ℤ) (z : ℤ) → length xs ≡ length weights → knapsack_violations weights capacity xs ≡ Ok z →
         (z ≡ pos 0) ↔ (pair_total ◌*ℤ◌ weights xs ≤ℤ capacity) }
-    ensures never_negative { (weights : List ℤ) (capacity : ℤ) (xs : List ℤ) (z : ℤ) → knapsack_violations weights capacity xs ≡ Ok z → pos 0 ≤ℤ z }
+    ensures never_negative { (weights : List ℤ) (capacity : ℤ) (xs : List ℤ) (z : ℤ) →
+        knapsack_violations weights capacity xs ≡ Ok z → pos 0 ≤ℤ z }
     ensures places { (weights : List ℤ) (capacity : ℤ) (xs : List ℤ) → knapsack_violations weights capacity xs ≡ Ok (pos 0) →
         (place : ℕ) → knapsack_violation_at weights capacity xs place ≡ pos 0 }
-    ensures one_kind { (weights : List ℤ) (capacity : ℤ) → GivesOneKind (knapsack weights capacity) }
+    ensures one_kind { (weights : List ℤ) (capacity : ℤ) →
+        GivesOneKind (knapsack weights capacity) }
 {}
 
 /// `multiknapsack` has 0 violations exactly where the sizes of the items in each bin are at most its
@@ -109,10 +120,12 @@ pub fn multi_knapsack_law()
     ensures holds { (sizes : List ℤ) (low : ℤ) (capacities xs : List ℤ) (z : ℤ) → length xs ≡ length sizes →
         multi_knapsack_violations sizes low capacities xs ≡ Ok z →
         (z ≡ pos 0) ↔ EachBounded low capacities (λ bin capacity. pair_total (λ size x. if int_eq x bin then size else pos 0) sizes xs ≤ℤ capacity) }
-    ensures never_negative { (sizes : List ℤ) (low : ℤ) (capacities xs : List ℤ) (z : ℤ) → multi_knapsack_violations sizes low capacities xs ≡ Ok z → pos 0 ≤ℤ z }
+    ensures never_negative { (sizes : List ℤ) (low : ℤ) (capacities xs : List ℤ) (z : ℤ) →
+        multi_knapsack_violations sizes low capacities xs ≡ Ok z → pos 0 ≤ℤ z }
     ensures places { (sizes : List ℤ) (low : ℤ) (capacities xs : List ℤ) → multi_knapsack_violations sizes low capacities xs ≡ Ok (pos 0) →
         (place : ℕ) → multi_knapsack_violation_at sizes low capacities xs place ≡ pos 0 }
-    ensures one_kind { (sizes : List ℤ) (low : ℤ) (capacities : List ℤ) → GivesOneKind (multi_knapsack sizes low capacities) }
+    ensures one_kind { (sizes : List ℤ) (low : ℤ) (capacities : List ℤ) →
+        GivesOneKind (multi_knapsack sizes low capacities) }
 {}
 
 /// `sequence` has 0 violations exactly where of each `window` places in a row at most `most` have a value
@@ -120,38 +133,47 @@ pub fn multi_knapsack_law()
 pub fn sequence_law()
     ensures holds { (values : List ℤ) (most window : ℤ) (xs : List ℤ) (z : ℤ) → sequence_violations values most window xs ≡ Ok z →
         (z ≡ pos 0) ↔ ((start : ℕ) → start + size_of window ≤ length xs → pos (count_in values (slice_range xs start (start + size_of window))) ≤ℤ most) }
-    ensures never_negative { (values : List ℤ) (most window : ℤ) (xs : List ℤ) (z : ℤ) → sequence_violations values most window xs ≡ Ok z → pos 0 ≤ℤ z }
+    ensures never_negative { (values : List ℤ) (most window : ℤ) (xs : List ℤ) (z : ℤ) →
+        sequence_violations values most window xs ≡ Ok z → pos 0 ≤ℤ z }
     ensures places { (values : List ℤ) (most window : ℤ) (xs : List ℤ) → sequence_violations values most window xs ≡ Ok (pos 0) →
         (place : ℕ) → sequence_violation_at values most window xs place ≡ pos 0 }
-    ensures one_kind { (values : List ℤ) (most window : ℤ) → GivesOneKind (sequence values most window) }
+    ensures one_kind { (values : List ℤ) (most window : ℤ) →
+        GivesOneKind (sequence values most window) }
 {}
 
 /// Where no member is below 0, `and` has 0 violations exactly where each member has 0.
 pub fn all_of_law()
     ensures holds { (members : List ℤ) (z : ℤ) → All (λ m. pos 0 ≤ℤ m) members → all_of_violations members ≡ Ok z →
         (z ≡ pos 0) ↔ All (λ m. m ≡ pos 0) members }
-    ensures never_negative { (members : List ℤ) (z : ℤ) → All (λ m. pos 0 ≤ℤ m) members → all_of_violations members ≡ Ok z → pos 0 ≤ℤ z }
+    ensures never_negative { (members : List ℤ) (z : ℤ) → All (λ m. pos 0 ≤ℤ m) members →
+        all_of_violations members ≡ Ok z → pos 0 ≤ℤ z }
     ensures one_kind { GivesOneKind all_of }
 {}
 
 /// The violations of `or` are those of a member, where there is one, and at most those of each member.
 pub fn any_of_law()
-    ensures attained { (members : List ℤ) (z : ℤ) → 0 < length members → any_of_violations members ≡ Ok z → Contains members z }
-    ensures least { (members : List ℤ) (z : ℤ) → any_of_violations members ≡ Ok z → All (λ m. z ≤ℤ m) members }
-    ensures never_negative { (members : List ℤ) (z : ℤ) → All (λ m. pos 0 ≤ℤ m) members → any_of_violations members ≡ Ok z → pos 0 ≤ℤ z }
+    ensures attained { (members : List ℤ) (z : ℤ) → 0 < length members →
+        any_of_violations members ≡ Ok z → Contains members z }
+    ensures least { (members : List ℤ) (z : ℤ) → any_of_violations members ≡ Ok z →
+        All (λ m. z ≤ℤ m) members }
+    ensures never_negative { (members : List ℤ) (z : ℤ) → All (λ m. pos 0 ≤ℤ m) members →
+        any_of_violations members ≡ Ok z → pos 0 ≤ℤ z }
     ensures one_kind { GivesOneKind any_of }
 {}
 
 /// `!` has 0 violations exactly where its member has some.
 pub fn not_held_law()
-    ensures holds { (members : List ℤ) (z : ℤ) → not_held_violations members ≡ Ok z → (z ≡ pos 0) ↔ (slice_index_or members 0 (pos 0) ≢ pos 0) }
-    ensures never_negative { (members : List ℤ) (z : ℤ) → not_held_violations members ≡ Ok z → pos 0 ≤ℤ z }
+    ensures holds { (members : List ℤ) (z : ℤ) → not_held_violations members ≡ Ok z →
+        (z ≡ pos 0) ↔ (slice_index_or members 0 (pos 0) ≢ pos 0) }
+    ensures never_negative { (members : List ℤ) (z : ℤ) → not_held_violations members ≡ Ok z →
+        pos 0 ≤ℤ z }
     ensures one_kind { GivesOneKind not_held }
 {}
 
 /// A total isn't below 0 where no member and no weight is, and the repeat of one number is a number.
 pub fn total_law()
-    ensures never_negative { (members : ℕ) (inputs : List ℤ) (z : ℤ) → All (λ m. pos 0 ≤ℤ m) inputs → weighted_total_value members inputs ≡ Ok z → pos 0 ≤ℤ z }
+    ensures never_negative { (members : ℕ) (inputs : List ℤ) (z : ℤ) →
+        All (λ m. pos 0 ≤ℤ m) inputs → weighted_total_value members inputs ≡ Ok z → pos 0 ≤ℤ z }
     ensures one_kind { (members : ℕ) → GivesOneKind (weighted_total members) }
     ensures repeated { GivesOneKind repeat }
 {}

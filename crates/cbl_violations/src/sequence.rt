@@ -75,7 +75,8 @@ fn excess_at(
 ) -> i64
     requires start { start < windows_in (size_of window) inputs.now }
     requires valued { IsOk (sequence_violations values.now most window inputs.now) }
-    ensures { result ≡ (if holds_place (size_of window) place start then excess (surplus_in_window values.now most (size_of window) inputs.now start) else pos 0) }
+    ensures { result ≡ (if holds_place (size_of window) place start then excess
+        (surplus_in_window values.now most (size_of window) inputs.now start) else pos 0) }
 {
     if start <= place && place < start + size_of(window) {
         surplus_in_window(inputs, start, values, most, window)

@@ -8,6 +8,7 @@ ghost use Rattle.comet.specs.Loading.{IsDataStop, IsLoadStop, IsReadStop, IsText
 ghost use Rattle.comet.specs.Output.{data_of};
 
 use crate::report::{Cause, FileRole};
+use cbl_base::limits::MAX_DATA_BYTES;
 use cbl_io::{Files, ReadStop};
 use checked_tree::Checked;
 use comet_front::{TextStop, read_program};
@@ -15,7 +16,7 @@ use comet_syntax::MOST_BYTES;
 use std::alloc::Global;
 
 /// How many bytes of data are read, and one more.
-const MOST_DATA: u64 = 16_777_216;
+const MOST_DATA: u64 = MAX_DATA_BYTES as u64;
 
 /// The first `most + 1` bytes of a file that is read for this role.
 fn read_file<F: Files>(
@@ -26,7 +27,8 @@ fn read_file<F: Files>(
     role: FileRole,
 ) -> Result<Vec<u8>, Cause>
     ensures read { IfOk result (λ bytes. IsRead (F.held files.old) name.now most bytes.items) }
-    ensures refused { IfErr result (IsReadStop role (F.faults files.old name.now) (F.faults files.new name.now)) }
+    ensures refused { IfErr result (IsReadStop role (F.faults files.old name.now)
+        (F.faults files.new name.now)) }
     ensures never_falls { (other : List ℕ) → F.faults files.old other ≤ F.faults files.new other }
     ensures keeps { F.held files.new ≡ F.held files.old }
 {
@@ -43,8 +45,10 @@ pub(crate) fn load_program<F: Files>(
     files: &mut F,
     name: &str,
 ) -> Result<Checked, Cause>
-    ensures loaded { IfOk result (λ program. (held : Held) → F.held files.old ≡ Some held → IsHeldProgram name.now held (program_of program)) }
-    ensures refused { IfErr result (IsLoadStop name.now (F.held files.old) (F.faults files.old name.now) (F.faults files.new name.now)) }
+    ensures loaded { IfOk result (λ program. (held : Held) → F.held files.old ≡ Some held →
+        IsHeldProgram name.now held (program_of program)) }
+    ensures refused { IfErr result (IsLoadStop name.now (F.held files.old)
+        (F.faults files.old name.now) (F.faults files.new name.now)) }
     ensures never_falls { (other : List ℕ) → F.faults files.old other ≤ F.faults files.new other }
     ensures keeps { F.held files.new ≡ F.held files.old }
 {
@@ -72,8 +76,10 @@ pub(crate) fn load_data<F: Files>(
     files: &mut F,
     name: Option<&str>,
 ) -> Result<Vec<u8>, Cause>
-    ensures loaded { IfOk result (λ text. (held : Held) → F.held files.old ≡ Some held → data_of (option_map (λ file. file.now) name.entry) held ≡ Some text.items) }
-    ensures refused { IfErr result (IsDataStop (option_map (λ file. file.now) name.entry) (F.faults files.old) (F.faults files.new)) }
+    ensures loaded { IfOk result (λ text. (held : Held) → F.held files.old ≡ Some held →
+        data_of (option_map (λ file. file.now) name.entry) held ≡ Some text.items) }
+    ensures refused { IfErr result (IsDataStop (option_map (λ file. file.now) name.entry)
+        (F.faults files.old) (F.faults files.new)) }
 {
     match name {
         None => Ok(Vec::new(alloc)),

@@ -39,9 +39,11 @@ impl Job {
 /// words ask for what isn't built; `Read` only where reading a named file failed, and the data's only where the program isn't
 /// refused; `NoMemory` where there was none. The number of workers has no effect.
 pub fn front<F: Files>(alloc: Global, words: &[String], files: &mut F) -> Result<Job, Cause>
-    ensures job { IfOk result (λ job. (held : Held) → F.held files.old ≡ Some held → IsJob (texts words.now) held (program_of job.program) job.seed job.fuel job.data.items) }
+    ensures job { IfOk result (λ job. (held : Held) → F.held files.old ≡ Some held →
+        IsJob (texts words.now) held (program_of job.program) job.seed job.fuel job.data.items) }
     ensures in_form { IfOk result (λ _. asked (texts words.now) ≢ None) }
-    ensures refused { IfErr result (IsFrontStop (texts words.now) (F.held files.old) (F.faults files.old) (F.faults files.new)) }
+    ensures refused { IfErr result (IsFrontStop (texts words.now) (F.held files.old)
+        (F.faults files.old) (F.faults files.new)) }
 {
     let Some(words) = read_words(words) else {
         return Err(Cause::Words);
@@ -79,7 +81,9 @@ fn load<F: Files>(
         IsLoaded name.now (option_map (λ file. file.now) data_file.entry) held (program_of job.program) job.data.items) }
     ensures seed { IfOk result (λ job. job.seed ≡ seed) }
     ensures fuel { IfOk result (λ job. job.fuel ≡ fuel) }
-    ensures refused { IfErr result (IsFilesStop name.now (option_map (λ file. file.now) data_file.entry) (F.held files.old) (F.faults files.old) (F.faults files.new)) }
+    ensures refused { IfErr result (IsFilesStop name.now
+        (option_map (λ file. file.now) data_file.entry) (F.held files.old) (F.faults files.old)
+        (F.faults files.new)) }
 {
     let program = load_program(alloc, files, name)?;
     let data = load_data(alloc, files, data_file)?;

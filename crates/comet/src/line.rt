@@ -64,8 +64,10 @@ fn text_of_role(role: FileRole) -> &'static str
 
 /// Writes pieces one behind the other.
 fn write_pieces<E: Sink>(err: &mut E, pieces: &[&[u8]]) -> Result<(), Failed>
-    ensures ok { OnOk result (Appends (E.bytes err.old) (E.bytes err.new) (joined (map (λ piece. piece.now) pieces.now))) }
-    ensures err { OnErr result (AppendsFront (E.bytes err.old) (E.bytes err.new) (joined (map (λ piece. piece.now) pieces.now))) }
+    ensures ok { OnOk result (Appends (E.bytes err.old) (E.bytes err.new)
+        (joined (map (λ piece. piece.now) pieces.now))) }
+    ensures err { OnErr result (AppendsFront (E.bytes err.old) (E.bytes err.new)
+        (joined (map (λ piece. piece.now) pieces.now))) }
     ensures failed { OnErr result (HasRisen (E.faults err.old) (E.faults err.new)) }
     ensures never_falls { E.faults err.old ≤ E.faults err.new }
 {
@@ -78,7 +80,8 @@ fn write_pieces<E: Sink>(err: &mut E, pieces: &[&[u8]]) -> Result<(), Failed>
 /// Writes a line with this text.
 fn write_plain<E: Sink>(err: &mut E, text: &str) -> Result<(), Failed>
     ensures ok { OnOk result (Appends (E.bytes err.old) (E.bytes err.new) (plain_line text.now)) }
-    ensures err { OnErr result (AppendsFront (E.bytes err.old) (E.bytes err.new) (plain_line text.now)) }
+    ensures err { OnErr result (AppendsFront (E.bytes err.old) (E.bytes err.new)
+        (plain_line text.now)) }
     ensures failed { OnErr result (HasRisen (E.faults err.old) (E.faults err.new)) }
 {
     write_pieces(err, &[b"comet: ", text.as_bytes(), b"\n"])?;
@@ -87,8 +90,10 @@ fn write_plain<E: Sink>(err: &mut E, text: &str) -> Result<(), Failed>
 
 /// Writes a line with a place and this text.
 fn write_placed<E: Sink>(err: &mut E, place: Place, text: &str) -> Result<(), Failed>
-    ensures ok { OnOk result (Appends (E.bytes err.old) (E.bytes err.new) (placed_line place text.now)) }
-    ensures err { OnErr result (AppendsFront (E.bytes err.old) (E.bytes err.new) (placed_line place text.now)) }
+    ensures ok { OnOk result (Appends (E.bytes err.old) (E.bytes err.new)
+        (placed_line place text.now)) }
+    ensures err { OnErr result (AppendsFront (E.bytes err.old) (E.bytes err.new)
+        (placed_line place text.now)) }
     ensures failed { OnErr result (HasRisen (E.faults err.old) (E.faults err.new)) }
 {
     let mut line_buffer = Buffer::new();
@@ -118,8 +123,10 @@ fn write_coded<E: Sink>(
     code: u8,
     text: &str,
 ) -> Result<(), Failed>
-    ensures ok { OnOk result (Appends (E.bytes err.old) (E.bytes err.new) (coded_line place letter.now code text.now)) }
-    ensures err { OnErr result (AppendsFront (E.bytes err.old) (E.bytes err.new) (coded_line place letter.now code text.now)) }
+    ensures ok { OnOk result (Appends (E.bytes err.old) (E.bytes err.new)
+        (coded_line place letter.now code text.now)) }
+    ensures err { OnErr result (AppendsFront (E.bytes err.old) (E.bytes err.new)
+        (coded_line place letter.now code text.now)) }
     ensures failed { OnErr result (HasRisen (E.faults err.old) (E.faults err.new)) }
 {
     let mut line_buffer = Buffer::new();
@@ -147,8 +154,10 @@ fn write_coded<E: Sink>(
 
 /// Writes a line with a place, and the code and the text of a run fault.
 fn write_fault<E: Sink>(err: &mut E, place: Place, fault: RunFault) -> Result<(), Failed>
-    ensures ok { OnOk result (Appends (E.bytes err.old) (E.bytes err.new) (fault_line place fault)) }
-    ensures err { OnErr result (AppendsFront (E.bytes err.old) (E.bytes err.new) (fault_line place fault)) }
+    ensures ok { OnOk result (Appends (E.bytes err.old) (E.bytes err.new)
+        (fault_line place fault)) }
+    ensures err { OnErr result (AppendsFront (E.bytes err.old) (E.bytes err.new)
+        (fault_line place fault)) }
     ensures failed { OnErr result (HasRisen (E.faults err.old) (E.faults err.new)) }
 {
     write_coded(err, place, b": F", fault.code(), fault.text())?;
@@ -158,7 +167,8 @@ fn write_fault<E: Sink>(err: &mut E, place: Place, fault: RunFault) -> Result<()
 /// Writes a line with a place, and the code and the text of a typing rule.
 fn write_type<E: Sink>(err: &mut E, place: Place, code: u8) -> Result<(), Failed>
     ensures ok { OnOk result (Appends (E.bytes err.old) (E.bytes err.new) (type_line place code)) }
-    ensures err { OnErr result (AppendsFront (E.bytes err.old) (E.bytes err.new) (type_line place code)) }
+    ensures err { OnErr result (AppendsFront (E.bytes err.old) (E.bytes err.new)
+        (type_line place code)) }
     ensures failed { OnErr result (HasRisen (E.faults err.old) (E.faults err.new)) }
 {
     write_coded(err, place, b": T", code, text_of_type(code))?;
@@ -168,7 +178,8 @@ fn write_type<E: Sink>(err: &mut E, place: Place, code: u8) -> Result<(), Failed
 /// Writes a name with an arrow behind it.
 fn write_arrowed<E: Sink>(err: &mut E, name: &Text) -> Result<(), Failed>
     ensures ok { OnOk result (Appends (E.bytes err.old) (E.bytes err.new) (arrowed name.now)) }
-    ensures err { OnErr result (AppendsFront (E.bytes err.old) (E.bytes err.new) (arrowed name.now)) }
+    ensures err { OnErr result (AppendsFront (E.bytes err.old) (E.bytes err.new)
+        (arrowed name.now)) }
     ensures failed { OnErr result (HasRisen (E.faults err.old) (E.faults err.new)) }
     ensures never_falls { E.faults err.old ≤ E.faults err.new }
 {
@@ -178,8 +189,10 @@ fn write_arrowed<E: Sink>(err: &mut E, name: &Text) -> Result<(), Failed>
 
 /// Writes names, each with an arrow behind it.
 fn write_arrows<E: Sink>(err: &mut E, names: &[Text]) -> Result<(), Failed>
-    ensures ok { OnOk result (Appends (E.bytes err.old) (E.bytes err.new) (joined (map arrowed names.now))) }
-    ensures err { OnErr result (AppendsFront (E.bytes err.old) (E.bytes err.new) (joined (map arrowed names.now))) }
+    ensures ok { OnOk result (Appends (E.bytes err.old) (E.bytes err.new)
+        (joined (map arrowed names.now))) }
+    ensures err { OnErr result (AppendsFront (E.bytes err.old) (E.bytes err.new)
+        (joined (map arrowed names.now))) }
     ensures failed { OnErr result (HasRisen (E.faults err.old) (E.faults err.new)) }
     ensures never_falls { E.faults err.old ≤ E.faults err.new }
 {
@@ -191,8 +204,10 @@ fn write_arrows<E: Sink>(err: &mut E, names: &[Text]) -> Result<(), Failed>
 
 /// Writes the front of a cycle's line, up to the first name.
 fn write_cycle_start<E: Sink>(err: &mut E, place: Place) -> Result<(), Failed>
-    ensures ok { OnOk result (Appends (E.bytes err.old) (E.bytes err.new) (joined (cycle_start place))) }
-    ensures err { OnErr result (AppendsFront (E.bytes err.old) (E.bytes err.new) (joined (cycle_start place))) }
+    ensures ok { OnOk result (Appends (E.bytes err.old) (E.bytes err.new)
+        (joined (cycle_start place))) }
+    ensures err { OnErr result (AppendsFront (E.bytes err.old) (E.bytes err.new)
+        (joined (cycle_start place))) }
     ensures failed { OnErr result (HasRisen (E.faults err.old) (E.faults err.new)) }
     ensures never_falls { E.faults err.old ≤ E.faults err.new }
 {
@@ -225,8 +240,10 @@ fn first_name(names: &[Text]) -> &[u8]
 
 /// Writes the end of a cycle's line: the first name again.
 fn write_cycle_end<E: Sink>(err: &mut E, names: &[Text]) -> Result<(), Failed>
-    ensures ok { OnOk result (Appends (E.bytes err.old) (E.bytes err.new) (joined (cycle_end names.now))) }
-    ensures err { OnErr result (AppendsFront (E.bytes err.old) (E.bytes err.new) (joined (cycle_end names.now))) }
+    ensures ok { OnOk result (Appends (E.bytes err.old) (E.bytes err.new)
+        (joined (cycle_end names.now))) }
+    ensures err { OnErr result (AppendsFront (E.bytes err.old) (E.bytes err.new)
+        (joined (cycle_end names.now))) }
     ensures failed { OnErr result (HasRisen (E.faults err.old) (E.faults err.new)) }
 {
     write_pieces(err, &[first_name(names), b"\n"])?;
@@ -235,8 +252,10 @@ fn write_cycle_end<E: Sink>(err: &mut E, names: &[Text]) -> Result<(), Failed>
 
 /// Writes a line with the place of a `close` and the names on a cycle, the first again at the end.
 fn write_cycle<E: Sink>(err: &mut E, place: Place, names: &[Text]) -> Result<(), Failed>
-    ensures ok { OnOk result (Appends (E.bytes err.old) (E.bytes err.new) (cycle_line place names.now)) }
-    ensures err { OnErr result (AppendsFront (E.bytes err.old) (E.bytes err.new) (cycle_line place names.now)) }
+    ensures ok { OnOk result (Appends (E.bytes err.old) (E.bytes err.new)
+        (cycle_line place names.now)) }
+    ensures err { OnErr result (AppendsFront (E.bytes err.old) (E.bytes err.new)
+        (cycle_line place names.now)) }
     ensures failed { OnErr result (HasRisen (E.faults err.old) (E.faults err.new)) }
 {
     write_cycle_start(err, place)?;
@@ -248,7 +267,8 @@ fn write_cycle<E: Sink>(err: &mut E, place: Place, names: &[Text]) -> Result<(),
 /// Writes the line of a cause.
 fn write_line<E: Sink>(cause: &Cause, err: &mut E) -> Result<(), Failed>
     ensures ok { OnOk result (Appends (E.bytes err.old) (E.bytes err.new) (line_of cause.now)) }
-    ensures err { OnErr result (AppendsFront (E.bytes err.old) (E.bytes err.new) (line_of cause.now)) }
+    ensures err { OnErr result (AppendsFront (E.bytes err.old) (E.bytes err.new)
+        (line_of cause.now)) }
     ensures failed { OnErr result (HasRisen (E.faults err.old) (E.faults err.new)) }
 {
     match cause {

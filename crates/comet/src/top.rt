@@ -69,7 +69,8 @@ pub fn run_still<O: Sink, E: Sink, U: LocalConstraint>(
 fn refuse<E: Sink>(cause: Cause, err: &mut E) -> Report
     ensures cause { result.cause ≡ cause }
     ensures status { result.status ≡ status_of result.cause }
-    ensures said { ¬ HasRisen (E.faults err.old) (E.faults err.new) → Appends (E.bytes err.old) (E.bytes err.new) (line_of result.cause) }
+    ensures said { ¬ HasRisen (E.faults err.old) (E.faults err.new) →
+        Appends (E.bytes err.old) (E.bytes err.new) (line_of result.cause) }
     ensures said_front { AppendsFront (E.bytes err.old) (E.bytes err.new) (line_of result.cause) }
 {
     say(&cause, err);
@@ -105,7 +106,9 @@ fn run_to<O: Sink, U: LocalConstraint>(
     ensures exact { Decides result.status →
         (result.cause ≡ cause_of (meant_with (users_seen U.user_name U.user_rule users.items) (program_of program.now) seed fuel text.items).end)
         × Appends (O.bytes out.old) (O.bytes out.new) (meant_with (users_seen U.user_name U.user_rule users.items) (program_of program.now) seed fuel text.items).printed }
-    ensures front { AppendsFront (O.bytes out.old) (O.bytes out.new) (meant_with (users_seen U.user_name U.user_rule users.items) (program_of program.now) seed fuel text.items).printed }
+    ensures front { AppendsFront (O.bytes out.old) (O.bytes out.new)
+        (meant_with (users_seen U.user_name U.user_rule users.items)
+        (program_of program.now) seed fuel text.items).printed }
     ensures write { result.status ≡ 9 → HasRisen (O.faults out.old) (O.faults out.new) }
 {
     match handed_in(alloc, users) {
@@ -126,7 +129,8 @@ fn run_from<O: Sink, U: LocalConstraint>(
     ensures exact { Decides result.status →
         (result.cause ≡ cause_of (programs.run (program_of program.now) (standing_seen standing [])).end)
         × Appends (O.bytes out.old) (O.bytes out.new) (programs.run (program_of program.now) (standing_seen standing [])).printed }
-    ensures front { AppendsFront (O.bytes out.old) (O.bytes out.new) (programs.run (program_of program.now) (standing_seen standing [])).printed }
+    ensures front { AppendsFront (O.bytes out.old) (O.bytes out.new)
+        (programs.run (program_of program.now) (standing_seen standing [])).printed }
     ensures write { result.status ≡ 9 → HasRisen (O.faults out.old) (O.faults out.new) }
 {
     let printed = Bytes {

@@ -20,7 +20,8 @@ use std::alloc::Global;
 // Undoes a form: takes the values of its symbols from the stacks, and puts the value of its part there.
 fn undo(alloc: Global, stacks: &mut Stacks, form: Form) -> Result<(), NoMemory>
     requires { Ready (body_in form) stacks.old }
-    ensures { IfOk result (λ _. Undone (part_in form) (body_in form) (Made form) stacks.old stacks.new) }
+    ensures { IfOk result (λ _. Undone (part_in form) (body_in form)
+        (Made form) stacks.old stacks.new) }
 {
     match form {
         Form::Program(form) => undo_program(alloc, stacks, form)?,

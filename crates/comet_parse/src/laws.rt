@@ -7,7 +7,8 @@ use comet_syntax::laws::one_token_list;
 
 /// A text has at most one token list, so at most one program is parsed of it.
 pub fn one_list()
-    ensures { (text : List ℕ) (tokens others : List Token) → HasTokens text tokens → HasTokens text others → tokens ≡ others }
+    ensures { (text : List ℕ) (tokens others : List Token) → HasTokens text tokens →
+        HasTokens text others → tokens ≡ others }
 {
     one_token_list();
 }

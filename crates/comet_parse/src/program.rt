@@ -22,7 +22,8 @@ use std::alloc::Global;
 pub fn parse(alloc: Global, tokens: &[Token]) -> Result<Program, ParseStop>
     requires { length tokens.now < 2 ^ 32 }
     ensures spells { IfOk result (λ p. Spells 200 p tokens.now) }
-    ensures only { IfOk result (λ p. (other : ProgramOf) → SpellsAtAnyDepth other tokens.now → SameProgram other p) }
+    ensures only { IfOk result (λ p. (other : ProgramOf) → SpellsAtAnyDepth other tokens.now →
+        SameProgram other p) }
     ensures refused { IfErr result (λ s. IsRefusal 200 tokens.now s) }
 {
     match list(alloc, tokens) {

@@ -21,7 +21,8 @@ fn wide_number(digits: &[u8]) -> Option<u64>
 /// The number that digits spell. `None` exactly where it doesn't fit 64 bits signed.
 pub fn number(digits: &[u8]) -> Option<i64>
     requires { is_number digits.now ≡ true }
-    ensures { result ≡ (if nat_lt (number_of_digits digits.now) (2 ^ 63) then Some (pos (number_of_digits digits.now)) else None) }
+    ensures { result ≡ (if nat_lt (number_of_digits digits.now) (2 ^ 63) then Some
+        (pos (number_of_digits digits.now)) else None) }
 {
     i64::try_from(wide_number(digits)?).ok()
 }

@@ -12,7 +12,8 @@ ghost use Rattle.comet_syntax.specs.Tokens.TokenFault.{HasTokenFault};
 
 /// A text has at most one token list.
 pub fn one_token_list()
-    ensures { (text : List ℕ) (tokens others : List Token) → HasTokens text tokens → HasTokens text others → tokens ≡ others }
+    ensures { (text : List ℕ) (tokens others : List Token) → HasTokens text tokens →
+        HasTokens text others → tokens ≡ others }
 {}
 
 /// A text is refused at one place for one cause, and only where it has no token list.

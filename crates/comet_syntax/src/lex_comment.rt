@@ -24,7 +24,8 @@ fn line_len(text: &[u8]) -> usize
 /// What stands behind the first `*/` of a text. `None` exactly where there is none.
 fn behind_close(text: &[u8]) -> Option<&[u8]>
     ensures some { IfSome result (λ rest. (body : List ℕ) × IsUpToClose text.now body rest.now) }
-    ensures none { IfNone result ((body rest : List ℕ) → text.now ≡ body ++ (codes "*/" ++ rest) → ⊥) }
+    ensures none { IfNone result ((body rest : List ℕ) → text.now ≡ body ++ (codes "*/" ++ rest) →
+        ⊥) }
 {
     for at in 0..text.len() {
         if text[at..].starts_with(b"*/") {

@@ -45,7 +45,8 @@ fn is_plain(byte: u8) -> bool
 fn spelled_byte(text: &[u8]) -> Option<SpelledByte>
     ensures some { IfSome result (λ spelled. IsSpelledByte text.now spelled.byte spelled.rest.now) }
     ensures shorter { IfSome result (λ spelled. length spelled.rest.now < length text.now) }
-    ensures none { IfNone result ((byte : ℕ) (rest : List ℕ) → IsSpelledByte text.now byte rest → ⊥) }
+    ensures none { IfNone result ((byte : ℕ) (rest : List ℕ) → IsSpelledByte text.now byte rest →
+        ⊥) }
 {
     let (first, rest) = text.split_first()?;
     if is_plain(*first) {

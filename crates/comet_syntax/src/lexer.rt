@@ -99,7 +99,8 @@ fn keep(
     requires from { length from.now ≤ length text.now }
     requires rest { length rest.now ≤ length text.now }
     requires place { place ≡ places.place_of text.now from.now }
-    ensures ok { OnOk result (tokens.new.items ≡ tokens.old.items ++ tokens_at text.now from.now kind rest.now) }
+    ensures ok { OnOk result (tokens.new.items ≡
+        tokens.old.items ++ tokens_at text.now from.now kind rest.now) }
     ensures err { IfErr result (λ stop. stop ≡ LexStop.NoMemory) }
 {
     if let Some(kind) = kind {
@@ -154,9 +155,11 @@ fn cut<'a>(alloc: Global, text: &'a [u8]) -> Result<CutText<'a>, LexStop>
 /// `BadToken`).
 pub fn lex(alloc: Global, text: &[u8]) -> Result<Vec<Token>, LexStop>
     ensures found { IfOk result (λ tokens. HasTokens text.now tokens.items) }
-    ensures only { IfOk result (λ tokens. (others : List TokenOf) → HasTokens text.now others → others ≡ tokens.items) }
+    ensures only { IfOk result (λ tokens. (others : List TokenOf) → HasTokens text.now others →
+        others ≡ tokens.items) }
     ensures fault { IfErr result (IsLexStop text.now) }
-    ensures none { IfErr result (λ stop. stop ≢ LexStop.NoMemory → (tokens : List TokenOf) → HasTokens text.now tokens → ⊥) }
+    ensures none { IfErr result (λ stop. stop ≢ LexStop.NoMemory → (tokens : List TokenOf) →
+        HasTokens text.now tokens → ⊥) }
 {
     if text.len() > MOST_BYTES {
         return Err(LexStop::Fault(FIRST_PLACE, FormCause::TooLong));

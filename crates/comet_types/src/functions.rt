@@ -93,7 +93,8 @@ fn is_new_parameter(checker: &Checker, scope: Scope, parameter: &Parameter) -> b
 
 #[tactic(auto, unfolding(crate::specs::Functions::parameter_form))]
 fn check_parameter(checker: &mut Checker, scope: Scope, parameter: &Parameter) -> Result<Kind, Stop>
-    ensures { Did (λ kind. kind) result checker.new (functions.parameter_form parameter.now scope checker.old) }
+    ensures { Did (λ kind. kind) result checker.new
+        (functions.parameter_form parameter.now scope checker.old) }
 {
     let is_new = is_new_parameter(checker, scope, parameter);
     rule(
@@ -112,7 +113,9 @@ fn check_next_parameter(
     mut kinds: Vec<Kind>,
     parameter: &Parameter,
 ) -> Result<Vec<Kind>, Stop>
-    ensures { Did kinds_in result checker.new (functions.next_parameter scope kinds.items (functions.parameter_form parameter.now) checker.old) }
+    ensures { Did kinds_in result checker.new
+        (functions.next_parameter scope kinds.items
+        (functions.parameter_form parameter.now) checker.old) }
 {
     let kind = check_parameter(checker, scope, parameter)?;
     kinds.push(kind)?;
@@ -151,7 +154,8 @@ fn take_turn(
     body: &Block,
     scope: Scope,
 ) -> Result<Task, Stop>
-    ensures { Did work_of result checker.new (functions.turn_form parameters (block_of body.now) scope checker.old) }
+    ensures { Did work_of result checker.new
+        (functions.turn_form parameters (block_of body.now) scope checker.old) }
 {
     checker.begin(parameters)?;
     check_block(checker, scope, body)
@@ -166,7 +170,8 @@ fn settle(
     body: &Block,
     scope: Scope,
 ) -> Result<Task, Stop>
-    ensures { Did work_of result checker.new (functions.settled_form turns function parameters (block_of body.now) scope checker.old) }
+    ensures { Did work_of result checker.new
+        (functions.settled_form turns function parameters (block_of body.now) scope checker.old) }
 {
     let mut left = turns;
     while left > 0 {
@@ -198,7 +203,8 @@ fn make_function(
     parameters: Vec<Kind>,
     body: Task,
 ) -> Result<CheckedFunction, Stop>
-    ensures { Makes function_of result (functions.coded function.now parameters.items (work_of body)) }
+    ensures { Makes function_of result
+        (functions.coded function.now parameters.items (work_of body)) }
 {
     Ok(CheckedFunction {
         place: function.place,
@@ -216,7 +222,8 @@ fn function_within(
     number: usize,
     scope: Scope,
 ) -> Result<CheckedFunction, Stop>
-    ensures { Did function_of result checker.new (functions.function_within function.now number scope checker.old) }
+    ensures { Did function_of result checker.new
+        (functions.function_within function.now number scope checker.old) }
 {
     let kinds = check_parameters(checker, scope, &function.parameters)?;
     let count = kinds.len();
@@ -280,7 +287,8 @@ fn check_opened(
     function: &Function,
     number: usize,
 ) -> Result<CheckedFunction, Stop>
-    ensures { Did function_of result checker.new (functions.opened_form function.now number checker.old) }
+    ensures { Did function_of result checker.new
+        (functions.opened_form function.now number checker.old) }
 {
     let count = checker.count();
     let checked = function_within(checker, function, number, top().opened(count))?;
@@ -294,7 +302,8 @@ pub(crate) fn check_function(
     checker: &mut Checker,
     function: &Function,
 ) -> Result<CheckedFunction, Stop>
-    ensures { Did function_of result checker.new (functions.function_form function.now checker.old) }
+    ensures { Did function_of result checker.new
+        (functions.function_form function.now checker.old) }
 {
     let number = name_function(checker, function)?;
     check_opened(checker, function, number)

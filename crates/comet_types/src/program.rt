@@ -23,7 +23,8 @@ pub enum CheckStop {
 
 #[tactic(auto, unfolding(crate::specs::Program::part_form))]
 fn check_part(checker: &mut Checker, mut checked: Checked, part: &TopPart) -> Result<Checked, Stop>
-    ensures { Did program_of result checker.new (program.part_form part.now (program_of checked) checker.old) }
+    ensures { Did program_of result checker.new
+        (program.part_form part.now (program_of checked) checker.old) }
 {
     match part {
         TopPart::Import(_) => Ok(checked),

@@ -37,7 +37,8 @@ pub struct Words<'a> {
 /// What the words ask for behind those that gave this. Each call gives something new, so the calls go eight
 /// deep at most.
 fn ask<'a>(given: Given<'a>, words: &'a [String]) -> Option<Words<'a>>
-    ensures { option_map asked_for result ≡ option_and_then (asked_with (known_by given.entry)) (items (texts words.now)) }
+    ensures { option_map asked_for result ≡
+        option_and_then (asked_with (known_by given.entry)) (items (texts words.now)) }
 {
     if words.is_empty() {
         return given.words();

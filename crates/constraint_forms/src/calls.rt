@@ -32,7 +32,9 @@ pub(crate) fn function_form<O: Outside, W: Defining<O>>(
 ) -> Result<InTerm, Stop>
     requires ready { W.is_ready inside.now }
     requires defines { W.can_define inside.now }
-    ensures did { Does in_term_seen result (state_seen s.new (O.told out.new)) (forms.function_form (level (W.code inside.now) (W.depth inside.now)) at function (row arguments.now) (state_seen s.old (O.told out.old))) }
+    ensures did { Does in_term_seen result (state_seen s.new (O.told out.new))
+        (forms.function_form (level (W.code inside.now) (W.depth inside.now)) at function
+        (row arguments.now) (state_seen s.old (O.told out.old))) }
 {
     match function {
         Builtin::User => user_call(s, out, inside, at, arguments),
@@ -50,7 +52,9 @@ fn user_call<O: Outside, W: Defining<O>>(
 ) -> Result<InTerm, Stop>
     requires ready { W.is_ready inside.now }
     requires defines { W.can_define inside.now }
-    ensures did { Does in_term_seen result (state_seen s.new (O.told out.new)) (forms.function_form (level (W.code inside.now) (W.depth inside.now)) at User (row arguments.now) (state_seen s.old (O.told out.old))) }
+    ensures did { Does in_term_seen result (state_seen s.new (O.told out.new))
+        (forms.function_form (level (W.code inside.now) (W.depth inside.now)) at User
+        (row arguments.now) (state_seen s.old (O.told out.old))) }
 {
     if arguments.len() != 2 {
         return as_in_term(constraint_call(s, out, inside, at, Builtin::User, arguments));
@@ -69,7 +73,9 @@ pub(crate) fn constraint_call<O: Outside, W: Defining<O>>(
 ) -> Result<Built, Stop>
     requires ready { W.is_ready inside.now }
     requires defines { W.can_define inside.now }
-    ensures did { Does (λ t. t) result (state_seen s.new (O.told out.new)) (forms.constraint_call (level (W.code inside.now) (W.depth inside.now)) at function (row arguments.now) (state_seen s.old (O.told out.old))) }
+    ensures did { Does (λ t. t) result (state_seen s.new (O.told out.new))
+        (forms.constraint_call (level (W.code inside.now) (W.depth inside.now)) at function
+        (row arguments.now) (state_seen s.old (O.told out.old))) }
 {
     match function {
         Builtin::AllDifferent => all_different_call(s, out, inside, at, arguments),
@@ -92,7 +98,9 @@ fn all_different_call<O: Outside, W: Defining<O>>(
     arguments: &[Typed],
 ) -> Result<Built, Stop>
     requires defines { W.can_define inside.now }
-    ensures did { Does (λ t. t) result (state_seen s.new (O.told out.new)) (of_one (forms.all_different_form (level (W.code inside.now) (W.depth inside.now)) at) (row arguments.now) (state_seen s.old (O.told out.old))) }
+    ensures did { Does (λ t. t) result (state_seen s.new (O.told out.new))
+        (of_one (forms.all_different_form (level (W.code inside.now) (W.depth inside.now)) at)
+        (row arguments.now) (state_seen s.old (O.told out.old))) }
 {
     if arguments.len() != 1 {
         return Ok(Built::constant(0));
@@ -111,7 +119,9 @@ fn bounded_call<O: Outside, W: Defining<O>>(
 ) -> Result<Built, Stop>
     requires ready { W.is_ready inside.now }
     requires defines { W.can_define inside.now }
-    ensures did { Does (λ t. t) result (state_seen s.new (O.told out.new)) (of_two (forms.bounded_form (level (W.code inside.now) (W.depth inside.now)) at function) (row arguments.now) (state_seen s.old (O.told out.old))) }
+    ensures did { Does (λ t. t) result (state_seen s.new (O.told out.new))
+        (of_two (forms.bounded_form (level (W.code inside.now) (W.depth inside.now)) at function)
+        (row arguments.now) (state_seen s.old (O.told out.old))) }
 {
     if arguments.len() != 2 {
         return Ok(Built::constant(0));
@@ -129,7 +139,9 @@ fn knapsack_call<O: Outside, W: Defining<O>>(
 ) -> Result<Built, Stop>
     requires ready { W.is_ready inside.now }
     requires defines { W.can_define inside.now }
-    ensures did { Does (λ t. t) result (state_seen s.new (O.told out.new)) (of_three (forms.knapsack_form (level (W.code inside.now) (W.depth inside.now)) at) (row arguments.now) (state_seen s.old (O.told out.old))) }
+    ensures did { Does (λ t. t) result (state_seen s.new (O.told out.new))
+        (of_three (forms.knapsack_form (level (W.code inside.now) (W.depth inside.now)) at)
+        (row arguments.now) (state_seen s.old (O.told out.old))) }
 {
     if arguments.len() != 3 {
         return Ok(Built::constant(0));
@@ -155,7 +167,9 @@ fn multi_knapsack_call<O: Outside, W: Defining<O>>(
 ) -> Result<Built, Stop>
     requires ready { W.is_ready inside.now }
     requires defines { W.can_define inside.now }
-    ensures did { Does (λ t. t) result (state_seen s.new (O.told out.new)) (of_three (forms.multi_knapsack_form (level (W.code inside.now) (W.depth inside.now)) at) (row arguments.now) (state_seen s.old (O.told out.old))) }
+    ensures did { Does (λ t. t) result (state_seen s.new (O.told out.new))
+        (of_three (forms.multi_knapsack_form (level (W.code inside.now) (W.depth inside.now)) at)
+        (row arguments.now) (state_seen s.old (O.told out.old))) }
 {
     if arguments.len() != 3 {
         return Ok(Built::constant(0));
@@ -181,7 +195,9 @@ fn sequence_call<O: Outside, W: Defining<O>>(
 ) -> Result<Built, Stop>
     requires ready { W.is_ready inside.now }
     requires defines { W.can_define inside.now }
-    ensures did { Does (λ t. t) result (state_seen s.new (O.told out.new)) (of_four (forms.sequence_form (level (W.code inside.now) (W.depth inside.now)) at) (row arguments.now) (state_seen s.old (O.told out.old))) }
+    ensures did { Does (λ t. t) result (state_seen s.new (O.told out.new))
+        (of_four (forms.sequence_form (level (W.code inside.now) (W.depth inside.now)) at)
+        (row arguments.now) (state_seen s.old (O.told out.old))) }
 {
     if arguments.len() != 4 {
         return Ok(Built::constant(0));

@@ -29,7 +29,9 @@ pub fn constraint_form<O: Outside, W: Defining<O>>(
 ) -> Result<InTerm, Stop>
     requires ready { W.is_ready inside.now }
     requires defines { W.can_define inside.now }
-    ensures did { Does in_term_seen result (state_seen s.new (O.told out.new)) (forms.constraint_form (level (W.code inside.now) (W.depth inside.now)) at (shape_of form.now) (state_seen s.old (O.told out.old))) }
+    ensures did { Does in_term_seen result (state_seen s.new (O.told out.new))
+        (forms.constraint_form (level (W.code inside.now) (W.depth inside.now)) at
+        (shape_of form.now) (state_seen s.old (O.told out.old))) }
 {
     match form {
         Form::Parentheses(inner) => inside.define(s, out, inner),

@@ -24,7 +24,9 @@ use term_forms::state_of_runs::{InTerm, State, TermCells};
 
 /// `alldifferent`, of the cells, which are charged at the second place.
 fn all_different_of(s: &mut State, at: Place, place: Place, cells: TermCells) -> Result<Built, Stop>
-    ensures did { (told : Told) → Does (λ t. t) result (state_seen s.new told) (all_different_node at place (term_cells_seen cells) (state_seen s.old told)) }
+    ensures did { (told : Told) → Does (λ t.
+        t) result (state_seen s.new told)
+        (all_different_node at place (term_cells_seen cells) (state_seen s.old told)) }
 {
     s.charge(1, at)?;
     let count = cells.terms.len();
@@ -39,7 +41,9 @@ pub(crate) fn all_different_with(
     place: Place,
     cells: Result<TermCells, Stop>,
 ) -> Result<Built, Stop>
-    ensures did { (told : Told) → Follows term_cells_seen (λ t. t) cells result (state_seen s.old told) (state_seen s.new told) (all_different_node at place) }
+    ensures did { (told : Told) → Follows term_cells_seen (λ t.
+        t) cells result (state_seen s.old told) (state_seen s.new told)
+        (all_different_node at place) }
 {
     match cells {
         Err(stop) => Err(stop),
@@ -49,7 +53,8 @@ pub(crate) fn all_different_with(
 
 /// The places of a user's constraint, of the cells, which are charged at the second place.
 fn places_of(s: &mut State, at: Place, place: Place, cells: TermCells) -> Result<InTerm, Stop>
-    ensures did { (told : Told) → Does in_term_seen result (state_seen s.new told) (places_of at place (term_cells_seen cells) (state_seen s.old told)) }
+    ensures did { (told : Told) → Does in_term_seen result (state_seen s.new told)
+        (places_of at place (term_cells_seen cells) (state_seen s.old told)) }
 {
     s.charge(1, at)?;
     let count = cells.terms.len();
@@ -64,7 +69,8 @@ pub(crate) fn places_with(
     place: Place,
     cells: Result<TermCells, Stop>,
 ) -> Result<InTerm, Stop>
-    ensures did { (told : Told) → Follows term_cells_seen in_term_seen cells result (state_seen s.old told) (state_seen s.new told) (places_of at place) }
+    ensures did { (told : Told) → Follows term_cells_seen in_term_seen cells result
+        (state_seen s.old told) (state_seen s.new told) (places_of at place) }
 {
     match cells {
         Err(stop) => Err(stop),
@@ -84,7 +90,8 @@ fn numbers_of(alloc: Global, cells: &Cells) -> Result<Numbers, Stop>
 /// The operation of `atmost`, of `atleast` and of `exactly`. `NoMemory` where there is none for it; there is no other
 /// stop.
 fn bounded_operation(alloc: Global, function: Builtin, cells: &Cells) -> Result<Op, Stop>
-    ensures operation { IfOk result (λ op. op ≡ bounded_op function (cells_seen cells.now).rows.low (cells_seen cells.now).numbers) }
+    ensures operation { IfOk result (λ op.
+        op ≡ bounded_op function (cells_seen cells.now).rows.low (cells_seen cells.now).numbers) }
     ensures memory { IfErr result (λ stop. stop ≡ NoMemory) }
 {
     let bounds = numbers_of(alloc, cells)?;
@@ -128,7 +135,9 @@ pub(crate) fn bounded_with(
     other: Place,
     cells: Result<TermCells, Stop>,
 ) -> Result<Built, Stop>
-    ensures did { (told : Told) → Follows term_cells_seen (λ t. t) cells result (state_seen s.old told) (state_seen s.new told) (bounded_node at function place (cells_seen bounds.now) other) }
+    ensures did { (told : Told) → Follows term_cells_seen (λ t.
+        t) cells result (state_seen s.old told) (state_seen s.new told)
+        (bounded_node at function place (cells_seen bounds.now) other) }
 {
     match cells {
         Err(stop) => Err(stop),
@@ -138,7 +147,8 @@ pub(crate) fn bounded_with(
 
 /// An operation of as many terms as an array has cells. `OutOfRange` at the place exactly where there are more or fewer.
 fn even_of(at: Place, count: usize, op: Op, terms: Vec<Built>) -> Result<Built, Stop>
-    ensures did { (s : states.State) → Does (λ t. t) result s (even_node at count op terms.items s) }
+    ensures did { (s : states.State) →
+        Does (λ t. t) result s (even_node at count op terms.items s) }
 {
     let others = terms.len();
     if count != others {
@@ -149,7 +159,8 @@ fn even_of(at: Place, count: usize, op: Op, terms: Vec<Built>) -> Result<Built, 
 
 /// The operation of `knapsack`. `NoMemory` where there is none for it; there is no other stop.
 fn knapsack_operation(alloc: Global, weights: &Cells, capacity: i64) -> Result<Op, Stop>
-    ensures operation { IfOk result (λ op. op ≡ ops.Knapsack (cells_seen weights.now).numbers capacity) }
+    ensures operation { IfOk result (λ op.
+        op ≡ ops.Knapsack (cells_seen weights.now).numbers capacity) }
     ensures memory { IfErr result (λ stop. stop ≡ NoMemory) }
 {
     let weights = numbers_of(alloc, weights)?;
@@ -188,7 +199,9 @@ pub(crate) fn knapsack_with(
     cells: TermCells,
     capacity: Result<i64, Stop>,
 ) -> Result<Built, Stop>
-    ensures did { (told : Told) → Follows (λ z. z) (λ t. t) capacity result (state_seen s.old told) (state_seen s.new told) (knapsack_node at place (cells_seen weights.now) other (term_cells_seen cells)) }
+    ensures did { (told : Told) → Follows (λ z. z) (λ t. t) capacity result (state_seen s.old told)
+        (state_seen s.new told) (knapsack_node at place (cells_seen weights.now) other
+        (term_cells_seen cells)) }
 {
     match capacity {
         Err(stop) => Err(stop),
@@ -198,7 +211,9 @@ pub(crate) fn knapsack_with(
 
 /// The operation of `multiknapsack`. `NoMemory` where there is none for it; there is no other stop.
 fn multi_knapsack_operation(alloc: Global, sizes: &Cells, capacities: &Cells) -> Result<Op, Stop>
-    ensures operation { IfOk result (λ op. op ≡ ops.MultiKnapsack (cells_seen sizes.now).numbers (cells_seen capacities.now).rows.low (cells_seen capacities.now).numbers) }
+    ensures operation { IfOk result (λ op.
+        op ≡ ops.MultiKnapsack (cells_seen sizes.now).numbers (cells_seen capacities.now).rows.low
+        (cells_seen capacities.now).numbers) }
     ensures memory { IfErr result (λ stop. stop ≡ NoMemory) }
 {
     let low = capacities.rows.low;
@@ -247,7 +262,9 @@ pub(crate) fn multi_knapsack_with(
     last: Place,
     capacities: Result<Cells, Stop>,
 ) -> Result<Built, Stop>
-    ensures did { (told : Told) → Follows cells_seen (λ t. t) capacities result (state_seen s.old told) (state_seen s.new told) (multi_knapsack_node at place (term_cells_seen cells) other (cells_seen sizes.now) last) }
+    ensures did { (told : Told) → Follows cells_seen (λ t.
+        t) capacities result (state_seen s.old told) (state_seen s.new told)
+        (multi_knapsack_node at place (term_cells_seen cells) other (cells_seen sizes.now) last) }
 {
     match capacities {
         Err(stop) => Err(stop),
@@ -273,7 +290,8 @@ fn window_of(
     window: i64,
     terms: Vec<Built>,
 ) -> Result<Built, Stop>
-    ensures did { (s : states.State) → Does (λ t. t) result s (window_node at members most window terms.items s) }
+    ensures did { (s : states.State) →
+        Does (λ t. t) result s (window_node at members most window terms.items s) }
 {
     if !is_window(most, window) {
         return Err(Stop::Fault(at, RunFault::OutOfRange));
@@ -314,7 +332,8 @@ pub(crate) fn sequence_with(
     most: i64,
     window: Result<i64, Stop>,
 ) -> Result<Built, Stop>
-    ensures did { (told : Told) → Follows (λ z. z) (λ t. t) window result (state_seen s.old told) (state_seen s.new told) (sequence_node at place (term_cells_seen cells) members most) }
+    ensures did { (told : Told) → Follows (λ z. z) (λ t. t) window result (state_seen s.old told)
+        (state_seen s.new told) (sequence_node at place (term_cells_seen cells) members most) }
 {
     match window {
         Err(stop) => Err(stop),

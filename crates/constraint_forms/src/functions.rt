@@ -30,7 +30,9 @@ pub(crate) fn all_different_term<O: Outside, W: Defining<O>>(
     places: &Typed,
 ) -> Result<Built, Stop>
     requires defines { W.can_define inside.now }
-    ensures did { Does (λ t. t) result (state_seen s.new (O.told out.new)) (forms.all_different_form (level (W.code inside.now) (W.depth inside.now)) at (part places.now) (state_seen s.old (O.told out.old))) }
+    ensures did { Does (λ t. t) result (state_seen s.new (O.told out.new))
+        (forms.all_different_form (level (W.code inside.now) (W.depth inside.now)) at
+        (part places.now) (state_seen s.old (O.told out.old))) }
 {
     let place = places.place;
     let cells = term_cells(s, out, inside, places);
@@ -47,7 +49,9 @@ pub(crate) fn user_places<O: Outside, W: Defining<O>>(
     places: &Typed,
 ) -> Result<InTerm, Stop>
     requires defines { W.can_define inside.now }
-    ensures did { Does in_term_seen result (state_seen s.new (O.told out.new)) (forms.user_places (level (W.code inside.now) (W.depth inside.now)) at (part places.now) (state_seen s.old (O.told out.old))) }
+    ensures did { Does in_term_seen result (state_seen s.new (O.told out.new))
+        (forms.user_places (level (W.code inside.now) (W.depth inside.now)) at (part places.now)
+        (state_seen s.old (O.told out.old))) }
 {
     let place = places.place;
     let cells = term_cells(s, out, inside, places);
@@ -67,7 +71,9 @@ pub(crate) fn bounded_term<O: Outside, W: Defining<O>>(
 ) -> Result<Built, Stop>
     requires ready { W.is_ready inside.now }
     requires defines { W.can_define inside.now }
-    ensures did { Does (λ t. t) result (state_seen s.new (O.told out.new)) (forms.bounded_form (level (W.code inside.now) (W.depth inside.now)) at function (part bounds.now) (part places.now) (state_seen s.old (O.told out.old))) }
+    ensures did { Does (λ t. t) result (state_seen s.new (O.told out.new))
+        (forms.bounded_form (level (W.code inside.now) (W.depth inside.now)) at function
+        (part bounds.now) (part places.now) (state_seen s.old (O.told out.old))) }
 {
     let place = bounds.place;
     let other = places.place;
@@ -89,7 +95,9 @@ pub(crate) fn knapsack_term<O: Outside, W: Defining<O>>(
 ) -> Result<Built, Stop>
     requires ready { W.is_ready inside.now }
     requires defines { W.can_define inside.now }
-    ensures did { Does (λ t. t) result (state_seen s.new (O.told out.new)) (forms.knapsack_form (level (W.code inside.now) (W.depth inside.now)) at (part weights.now) (part places.now) (part capacity.now) (state_seen s.old (O.told out.old))) }
+    ensures did { Does (λ t. t) result (state_seen s.new (O.told out.new))
+        (forms.knapsack_form (level (W.code inside.now) (W.depth inside.now)) at (part weights.now)
+        (part places.now) (part capacity.now) (state_seen s.old (O.told out.old))) }
 {
     let place = weights.place;
     let other = places.place;
@@ -137,7 +145,9 @@ pub(crate) fn sequence_term<O: Outside, W: Defining<O>>(
 ) -> Result<Built, Stop>
     requires ready { W.is_ready inside.now }
     requires defines { W.can_define inside.now }
-    ensures did { Does (λ t. t) result (state_seen s.new (O.told out.new)) (forms.sequence_form (level (W.code inside.now) (W.depth inside.now)) at (part places.now) (part members.now) (part most.now) (part window.now) (state_seen s.old (O.told out.old))) }
+    ensures did { Does (λ t. t) result (state_seen s.new (O.told out.new))
+        (forms.sequence_form (level (W.code inside.now) (W.depth inside.now)) at (part places.now)
+        (part members.now) (part most.now) (part window.now) (state_seen s.old (O.told out.old))) }
 {
     let place = places.place;
     let cells = term_cells(s, out, inside, places)?;

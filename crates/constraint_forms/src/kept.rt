@@ -30,7 +30,9 @@ pub(crate) fn kept_cells<O: Outside, W: Within<O>>(
     e: &Typed,
 ) -> Result<Cells, Stop>
     requires ready { W.is_ready inside.now }
-    ensures did { Does cells_seen result (state_seen s.new (O.told out.new)) (forms.kept_cells (level (W.code inside.now) (W.depth inside.now)) (part e.now) (state_seen s.old (O.told out.old))) }
+    ensures did { Does cells_seen result (state_seen s.new (O.told out.new))
+        (forms.kept_cells (level (W.code inside.now) (W.depth inside.now)) (part e.now)
+        (state_seen s.old (O.told out.old))) }
 {
     let value = value_of(s, out, inside, e);
     as_cells(s, value)
@@ -38,7 +40,8 @@ pub(crate) fn kept_cells<O: Outside, W: Within<O>>(
 
 /// A value as the cells of an array.
 fn as_cells(s: &State, value: Result<Value, Stop>) -> Result<Cells, Stop>
-    ensures did { (told : Told) → Follows value_seen cells_seen value result (state_seen s.now told) (state_seen s.now told) cells }
+    ensures did { (told : Told) → Follows value_seen cells_seen value result (state_seen s.now told)
+        (state_seen s.now told) cells }
 {
     match value {
         Err(stop) => Err(stop),
@@ -55,7 +58,9 @@ pub(crate) fn kept_set<O: Outside, W: Within<O>>(
     e: &Typed,
 ) -> Result<IntSet, Stop>
     requires ready { W.is_ready inside.now }
-    ensures did { Does (λ set. set) result (state_seen s.new (O.told out.new)) (forms.kept_set (level (W.code inside.now) (W.depth inside.now)) (part e.now) (state_seen s.old (O.told out.old))) }
+    ensures did { Does (λ set. set) result (state_seen s.new (O.told out.new))
+        (forms.kept_set (level (W.code inside.now) (W.depth inside.now)) (part e.now)
+        (state_seen s.old (O.told out.old))) }
 {
     let value = value_of(s, out, inside, e);
     as_set(s.alloc, value)
@@ -63,7 +68,8 @@ pub(crate) fn kept_set<O: Outside, W: Within<O>>(
 
 /// A value as a set.
 fn as_set(alloc: Global, value: Result<Value, Stop>) -> Result<IntSet, Stop>
-    ensures did { (s : states.State) → Follows value_seen (λ set. set) value result s s (λ v. give (members_of v)) }
+    ensures did { (s : states.State) →
+        Follows value_seen (λ set. set) value result s s (λ v. give (members_of v)) }
 {
     match value {
         Err(stop) => Err(stop),

@@ -45,7 +45,8 @@ pub(crate) fn relate_with(
     left: Built,
     right: Result<Built, Stop>,
 ) -> Result<Built, Stop>
-    ensures did { (s : states.State) → Follows (λ t. t) (λ t. t) right result s s (related at comparison left) }
+    ensures did { (s : states.State) →
+        Follows (λ t. t) (λ t. t) right result s s (related at comparison left) }
 {
     match right {
         Err(stop) => Err(stop),
@@ -84,7 +85,9 @@ pub(crate) fn combine(
     operator: ChainOperator,
     members: Result<Vec<Built>, Stop>,
 ) -> Result<Built, Stop>
-    ensures did { (s : states.State) → Follows (λ terms. terms.items) (λ t. t) members result s s (node_form at (combination_op operator)) }
+    ensures did { (s : states.State) →
+        Follows (λ terms. terms.items) (λ t.
+        t) members result s s (node_form at (combination_op operator)) }
 {
     match members {
         Err(stop) => Err(stop),
@@ -116,7 +119,9 @@ pub(crate) fn join(
     aggregate: Aggregate,
     bodies: Vec<Body>,
 ) -> Result<Built, Stop>
-    ensures did { (s : states.State) → Does (λ t. t) result s (node_form at (joining_op aggregate) (bodies_of (map body_seen bodies.items)) s) }
+    ensures did { (s : states.State) →
+        Does (λ t. t) result s (node_form at (joining_op aggregate)
+        (bodies_of (map body_seen bodies.items)) s) }
 {
     let terms = terms_in(alloc, bodies)?;
     node_of(at, joining_operation(aggregate), terms)

@@ -29,7 +29,9 @@ pub(crate) fn relation_term<O: Outside, W: Defining<O>>(
     right: &Typed,
 ) -> Result<Built, Stop>
     requires defines { W.can_define inside.now }
-    ensures did { Does (λ t. t) result (state_seen s.new (O.told out.new)) (forms.relation_form (level (W.code inside.now) (W.depth inside.now)) at comparison (part left.now) (part right.now) (state_seen s.old (O.told out.old))) }
+    ensures did { Does (λ t. t) result (state_seen s.new (O.told out.new))
+        (forms.relation_form (level (W.code inside.now) (W.depth inside.now)) at comparison
+        (part left.now) (part right.now) (state_seen s.old (O.told out.old))) }
 {
     let left = single_term(s, out, inside, left)?;
     let right = single_term(s, out, inside, right);
@@ -47,7 +49,9 @@ pub(crate) fn negation_term<O: Outside, W: Defining<O>>(
 ) -> Result<Built, Stop>
     requires ready { W.is_ready inside.now }
     requires defines { W.can_define inside.now }
-    ensures did { Does (λ t. t) result (state_seen s.new (O.told out.new)) (forms.negation_form (level (W.code inside.now) (W.depth inside.now)) at (part operand.now) (state_seen s.old (O.told out.old))) }
+    ensures did { Does (λ t. t) result (state_seen s.new (O.told out.new))
+        (forms.negation_form (level (W.code inside.now) (W.depth inside.now)) at (part operand.now)
+        (state_seen s.old (O.told out.old))) }
 {
     let operand = constraint_part(s, out, inside, operand);
     negate(s.alloc, at, operand)
@@ -64,7 +68,9 @@ pub(crate) fn combination_term<O: Outside, W: Defining<O>>(
 ) -> Result<Built, Stop>
     requires ready { W.is_ready inside.now }
     requires defines { W.can_define inside.now }
-    ensures did { Does (λ t. t) result (state_seen s.new (O.told out.new)) (forms.combination_form (level (W.code inside.now) (W.depth inside.now)) (part first.now) (links_seen links.now) (state_seen s.old (O.told out.old))) }
+    ensures did { Does (λ t. t) result (state_seen s.new (O.told out.new))
+        (forms.combination_form (level (W.code inside.now) (W.depth inside.now)) (part first.now)
+        (links_seen links.now) (state_seen s.old (O.told out.old))) }
 {
     let term = constraint_part(s, out, inside, first)?;
     combined_term(s, out, inside, links, term)
@@ -80,7 +86,9 @@ fn combined_term<O: Outside, W: Defining<O>>(
 ) -> Result<Built, Stop>
     requires ready { W.is_ready inside.now }
     requires defines { W.can_define inside.now }
-    ensures did { Does (λ t. t) result (state_seen s.new (O.told out.new)) (forms.combined_form (level (W.code inside.now) (W.depth inside.now)) (links_seen links.now) first (state_seen s.old (O.told out.old))) }
+    ensures did { Does (λ t. t) result (state_seen s.new (O.told out.new))
+        (forms.combined_form (level (W.code inside.now) (W.depth inside.now))
+        (links_seen links.now) first (state_seen s.old (O.told out.old))) }
 {
     match links.first() {
         None => Ok(first),
@@ -100,7 +108,9 @@ fn members_term<O: Outside, W: Defining<O>>(
 ) -> Result<Built, Stop>
     requires ready { W.is_ready inside.now }
     requires defines { W.can_define inside.now }
-    ensures did { Does (λ t. t) result (state_seen s.new (O.told out.new)) (members_node (level (W.code inside.now) (W.depth inside.now)) at operator (links_seen links.now) first (state_seen s.old (O.told out.old))) }
+    ensures did { Does (λ t. t) result (state_seen s.new (O.told out.new))
+        (members_node (level (W.code inside.now) (W.depth inside.now)) at operator
+        (links_seen links.now) first (state_seen s.old (O.told out.old))) }
 {
     let members = members_of(s, out, inside, links, first);
     combine(at, operator, members)
@@ -116,7 +126,9 @@ fn members_of<O: Outside, W: Defining<O>>(
 ) -> Result<Vec<Built>, Stop>
     requires ready { W.is_ready inside.now }
     requires defines { W.can_define inside.now }
-    ensures did { Does (λ terms. terms.items) result (state_seen s.new (O.told out.new)) (forms.members_form (level (W.code inside.now) (W.depth inside.now)) (links_seen links.now) (first ∷ []) (state_seen s.old (O.told out.old))) }
+    ensures did { Does (λ terms. terms.items) result (state_seen s.new (O.told out.new))
+        (forms.members_form (level (W.code inside.now) (W.depth inside.now)) (links_seen links.now)
+        (first ∷ []) (state_seen s.old (O.told out.old))) }
 {
     let mut terms = Vec::new(s.alloc);
     terms.push(first)?;

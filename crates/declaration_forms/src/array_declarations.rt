@@ -127,7 +127,9 @@ fn listed_numbers<O: Outside, W: Within<O>>(
     list: &Typed,
 ) -> Result<Vec<i64>, Stop>
     requires ready { W.is_ready inside.now }
-    ensures did { Does (λ numbers. numbers.items) result (state_seen s.new (O.told out.new)) (listed_form (level (W.code inside.now) (W.depth inside.now)) at count (seen list.now) (state_seen s.old (O.told out.old))) }
+    ensures did { Does (λ numbers. numbers.items) result (state_seen s.new (O.told out.new))
+        (listed_form (level (W.code inside.now) (W.depth inside.now)) at count (seen list.now)
+        (state_seen s.old (O.told out.old))) }
 {
     let place = list.place;
     let list = value_of(s, out, inside, list);
@@ -232,7 +234,9 @@ fn start_number<O: Outside, W: Within<O>>(
     value: Option<&Typed>,
 ) -> Result<i64, Stop>
     requires ready { W.is_ready inside.now }
-    ensures did { Does (λ z. z) result (state_seen s.new (O.told out.new)) (start_number (level (W.code inside.now) (W.depth inside.now)) (option_map seen (option_copied value.entry)) (state_seen s.old (O.told out.old))) }
+    ensures did { Does (λ z. z) result (state_seen s.new (O.told out.new))
+        (start_number (level (W.code inside.now) (W.depth inside.now))
+        (option_map seen (option_copied value.entry)) (state_seen s.old (O.told out.old))) }
 {
     match value {
         None => Ok(0),

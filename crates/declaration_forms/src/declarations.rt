@@ -37,7 +37,9 @@ pub fn declare<O: Outside, W: Within<O>>(
     start: &Option<Typed>,
 ) -> Result<(), Stop>
     requires ready { W.is_ready inside.now }
-    ensures did { Does (λ _. tt) result (state_seen s.new (O.told out.new)) (scalar_form (level (W.code inside.now) (W.depth inside.now)) at slot kind (option_map seen start.now) (state_seen s.old (O.told out.old))) }
+    ensures did { Does (λ _. tt) result (state_seen s.new (O.told out.new))
+        (scalar_form (level (W.code inside.now) (W.depth inside.now)) at slot kind
+        (option_map seen start.now) (state_seen s.old (O.told out.old))) }
 {
     match start {
         None => s.put(slot, first_value(s.alloc, kind)),
@@ -60,7 +62,9 @@ pub fn declare_variable<O: Outside, W: Defining<O>>(
 ) -> Result<(), Stop>
     requires ready { W.is_ready inside.now }
     requires defines { W.can_define inside.now }
-    ensures did { Does (λ _. tt) result (state_seen s.new (O.told out.new)) (variable_form (level (W.code inside.now) (W.depth inside.now)) at (variable_of variable.now) (state_seen s.old (O.told out.old))) }
+    ensures did { Does (λ _. tt) result (state_seen s.new (O.told out.new))
+        (variable_form (level (W.code inside.now) (W.depth inside.now)) at
+        (variable_of variable.now) (state_seen s.old (O.told out.old))) }
 {
     let count = variable.dimensions.len();
     if count == 0 {
@@ -81,7 +85,9 @@ fn declare_single<O: Outside, W: Defining<O>>(
 ) -> Result<(), Stop>
     requires ready { W.is_ready inside.now }
     requires defines { W.can_define inside.now }
-    ensures did { Does (λ _. tt) result (state_seen s.new (O.told out.new)) (single_form (level (W.code inside.now) (W.depth inside.now)) at (variable_of variable.now) (state_seen s.old (O.told out.old))) }
+    ensures did { Does (λ _. tt) result (state_seen s.new (O.told out.new))
+        (single_form (level (W.code inside.now) (W.depth inside.now)) at (variable_of variable.now)
+        (state_seen s.old (O.told out.old))) }
 {
     let domain = domain_of(s, out, inside, &variable.domain)?;
     let kind = variable_kind(variable.kind);
@@ -98,7 +104,9 @@ pub(crate) fn domain_of<O: Outside, W: Within<O>>(
     domain: &Option<Typed>,
 ) -> Result<Bounds, Stop>
     requires ready { W.is_ready inside.now }
-    ensures did { Does bounds_seen result (state_seen s.new (O.told out.new)) (domain_form (level (W.code inside.now) (W.depth inside.now)) (option_map seen domain.now) (state_seen s.old (O.told out.old))) }
+    ensures did { Does bounds_seen result (state_seen s.new (O.told out.new))
+        (domain_form (level (W.code inside.now) (W.depth inside.now)) (option_map seen domain.now)
+        (state_seen s.old (O.told out.old))) }
 {
     match domain {
         None => Ok(Bounds {
@@ -120,7 +128,9 @@ pub(crate) fn beginning_of<O: Outside, W: Defining<O>>(
 ) -> Result<Beginning, Stop>
     requires ready { W.is_ready inside.now }
     requires defines { W.can_define inside.now }
-    ensures did { Does beginning_seen result (state_seen s.new (O.told out.new)) (beginning_form (level (W.code inside.now) (W.depth inside.now)) kind (option_map start_of start.now) (state_seen s.old (O.told out.old))) }
+    ensures did { Does beginning_seen result (state_seen s.new (O.told out.new))
+        (beginning_form (level (W.code inside.now) (W.depth inside.now)) kind
+        (option_map start_of start.now) (state_seen s.old (O.told out.old))) }
 {
     match start {
         None => Ok(begins_with(s.alloc, kind, 0)),
@@ -140,7 +150,9 @@ fn begin<O: Outside, W: Defining<O>>(
 ) -> Result<Beginning, Stop>
     requires ready { W.is_ready inside.now }
     requires defines { W.can_define inside.now }
-    ensures did { Does beginning_seen result (state_seen s.new (O.told out.new)) (started_form (level (W.code inside.now) (W.depth inside.now)) kind way (whole (seen value.now)) (state_seen s.old (O.told out.old))) }
+    ensures did { Does beginning_seen result (state_seen s.new (O.told out.new))
+        (started_form (level (W.code inside.now) (W.depth inside.now)) kind way
+        (whole (seen value.now)) (state_seen s.old (O.told out.old))) }
 {
     match way {
         Way::Define => as_defined(single_term(s, out, inside, value)),
@@ -158,7 +170,9 @@ fn begin_number<O: Outside, W: Within<O>>(
     value: &Typed,
 ) -> Result<Beginning, Stop>
     requires ready { W.is_ready inside.now }
-    ensures did { Does beginning_seen result (state_seen s.new (O.told out.new)) (begun_number (level (W.code inside.now) (W.depth inside.now)) kind (whole (seen value.now)) (state_seen s.old (O.told out.old))) }
+    ensures did { Does beginning_seen result (state_seen s.new (O.told out.new))
+        (begun_number (level (W.code inside.now) (W.depth inside.now)) kind (whole (seen value.now))
+        (state_seen s.old (O.told out.old))) }
 {
     let number = number_of(s, out, inside, value);
     as_free(s.alloc, kind, number)

@@ -34,7 +34,9 @@ pub fn declare_object<O: Outside, W: Defining<O>>(
 ) -> Result<(), Stop>
     requires ready { W.is_ready inside.now }
     requires defines { W.can_define inside.now }
-    ensures did { Does (λ _. tt) result (state_seen s.new (O.told out.new)) (object_form (level (W.code inside.now) (W.depth inside.now)) at slot kind (map seen arguments.now) (state_seen s.old (O.told out.old))) }
+    ensures did { Does (λ _. tt) result (state_seen s.new (O.told out.new))
+        (object_form (level (W.code inside.now) (W.depth inside.now)) at slot kind
+        (map seen arguments.now) (state_seen s.old (O.told out.old))) }
 {
     match kind {
         Kind::Solver => {
@@ -83,7 +85,9 @@ fn new_system<O: Outside, W: Within<O>>(
     arguments: &[Typed],
 ) -> Result<Value, Stop>
     requires ready { W.is_ready inside.now }
-    ensures did { Does value_seen result (state_seen s.new (O.told out.new)) (declarations.made_in (level (W.code inside.now) (W.depth inside.now)) (make_system at) (map seen arguments.now) (state_seen s.old (O.told out.old))) }
+    ensures did { Does value_seen result (state_seen s.new (O.told out.new))
+        (declarations.made_in (level (W.code inside.now) (W.depth inside.now)) (make_system at)
+        (map seen arguments.now) (state_seen s.old (O.told out.old))) }
 {
     if arguments.len() != 1 {
         return Ok(Value::Nothing);
@@ -102,7 +106,9 @@ fn new_sum<O: Outside, W: Within<O>>(
     arguments: &[Typed],
 ) -> Result<Value, Stop>
     requires ready { W.is_ready inside.now }
-    ensures did { Does value_seen result (state_seen s.new (O.told out.new)) (declarations.made_in (level (W.code inside.now) (W.depth inside.now)) (make_sum at) (map seen arguments.now) (state_seen s.old (O.told out.old))) }
+    ensures did { Does value_seen result (state_seen s.new (O.told out.new))
+        (declarations.made_in (level (W.code inside.now) (W.depth inside.now)) (make_sum at)
+        (map seen arguments.now) (state_seen s.old (O.told out.old))) }
 {
     if arguments.len() != 1 {
         return Ok(Value::Nothing);
@@ -121,7 +127,9 @@ fn new_objective<O: Outside, W: Defining<O>>(
     arguments: &[Typed],
 ) -> Result<Value, Stop>
     requires defines { W.can_define inside.now }
-    ensures did { Does value_seen result (state_seen s.new (O.told out.new)) (declarations.made_of_term (level (W.code inside.now) (W.depth inside.now)) at (map seen arguments.now) (state_seen s.old (O.told out.old))) }
+    ensures did { Does value_seen result (state_seen s.new (O.told out.new))
+        (declarations.made_of_term (level (W.code inside.now) (W.depth inside.now)) at
+        (map seen arguments.now) (state_seen s.old (O.told out.old))) }
 {
     if arguments.len() != 1 {
         return Ok(Value::Nothing);
@@ -140,7 +148,9 @@ fn new_solution<O: Outside, W: Within<O>>(
     arguments: &[Typed],
 ) -> Result<Value, Stop>
     requires ready { W.is_ready inside.now }
-    ensures did { Does value_seen result (state_seen s.new (O.told out.new)) (declarations.made_in (level (W.code inside.now) (W.depth inside.now)) (make_solution at) (map seen arguments.now) (state_seen s.old (O.told out.old))) }
+    ensures did { Does value_seen result (state_seen s.new (O.told out.new))
+        (declarations.made_in (level (W.code inside.now) (W.depth inside.now)) (make_solution at)
+        (map seen arguments.now) (state_seen s.old (O.told out.old))) }
 {
     if arguments.len() != 1 {
         return Ok(Value::Nothing);
@@ -158,7 +168,9 @@ fn new_distribution<O: Outside, W: Within<O>>(
     arguments: &[Typed],
 ) -> Result<Value, Stop>
     requires ready { W.is_ready inside.now }
-    ensures did { Does value_seen result (state_seen s.new (O.told out.new)) (declarations.made_of_range (level (W.code inside.now) (W.depth inside.now)) (map seen arguments.now) (state_seen s.old (O.told out.old))) }
+    ensures did { Does value_seen result (state_seen s.new (O.told out.new))
+        (declarations.made_of_range (level (W.code inside.now) (W.depth inside.now))
+        (map seen arguments.now) (state_seen s.old (O.told out.old))) }
 {
     if arguments.len() != 1 {
         return Ok(Value::Nothing);

@@ -44,7 +44,9 @@ pub(crate) fn declare_variables<O: Outside, W: Defining<O>>(
 ) -> Result<(), Stop>
     requires ready { W.is_ready inside.now }
     requires defines { W.can_define inside.now }
-    ensures did { Does (λ _. tt) result (state_seen s.new (O.told out.new)) (several_form (level (W.code inside.now) (W.depth inside.now)) at (variable_of variable.now) (state_seen s.old (O.told out.old))) }
+    ensures did { Does (λ _. tt) result (state_seen s.new (O.told out.new))
+        (several_form (level (W.code inside.now) (W.depth inside.now)) at (variable_of variable.now)
+        (state_seen s.old (O.told out.old))) }
 {
     let extents = extents_of(s, out, inside, &variable.dimensions)?;
     let sides = extents.as_slice();
@@ -155,7 +157,9 @@ fn numbers_of_list<O: Outside, W: Defining<O>>(
     list: &Typed,
 ) -> Result<Vec<i64>, Stop>
     requires ready { W.is_ready inside.now }
-    ensures did { Does (λ numbers. numbers.items) result (state_seen s.new (O.told out.new)) (exact_list (level (W.code inside.now) (W.depth inside.now)) at count (seen list.now) (state_seen s.old (O.told out.old))) }
+    ensures did { Does (λ numbers. numbers.items) result (state_seen s.new (O.told out.new))
+        (exact_list (level (W.code inside.now) (W.depth inside.now)) at count (seen list.now)
+        (state_seen s.old (O.told out.old))) }
 {
     let place = list.place;
     let value = value_of(s, out, inside, list);
@@ -361,7 +365,9 @@ fn push_listed<O: Outside>(
     indices: &[i64],
     cells: Vec<VarId>,
 ) -> Result<Vec<VarId>, Stop>
-    ensures did { Does (λ cells. cells.items) result (state_seen s.new (O.told out.new)) (listed_cell at (variable_of variable.now) decl numbers.now indices.now cells.items (state_seen s.old (O.told out.old))) }
+    ensures did { Does (λ cells. cells.items) result (state_seen s.new (O.told out.new))
+        (listed_cell at (variable_of variable.now) decl numbers.now indices.now cells.items
+        (state_seen s.old (O.told out.old))) }
 {
     s.charge(1, at)?;
     let number = number_at(numbers, cells.len());

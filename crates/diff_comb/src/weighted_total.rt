@@ -38,7 +38,8 @@ struct Share {
 impl WeightedTotal {
     /// The node of the total of so many members: the sum of the members, each times its weight.
     pub fn new(alloc: Global, members: u32) -> WeightedTotal
-        ensures { rule_of_numbers (⟦<WeightedTotal as NumberNode>⟧.number_rule result) ≡ weighted_total members }
+        ensures { rule_of_numbers (⟦<WeightedTotal as NumberNode>⟧.number_rule result) ≡
+            weighted_total members }
     {
         WeightedTotal {
             members,
@@ -73,7 +74,8 @@ impl NumberNode for WeightedTotal {
 
     ghost number_rule = { λ s. total_of_members s.members };
 
-    ghost settled = { λ s. AreTotals s.products (products_of s.members s.numbers.items) × (length s.numbers.items ≡ s.members + s.members) };
+    ghost settled = { λ s. AreTotals s.products (products_of s.members s.numbers.items) ×
+        (length s.numbers.items ≡ s.members + s.members) };
 
     ghost held_numbers = { λ s. s.numbers.items };
 
@@ -117,7 +119,8 @@ impl NumberNode for WeightedTotal {
 impl Products {
     /// The total. `Overflow` exactly where a product or the total doesn't fit.
     fn total(self) -> Result<i64, RunFault>
-        ensures { (members : ℕ) → (inputs : List ℤ) → AreTotals self (products_of members inputs) → result ≡ weighted_total_value members inputs }
+        ensures { (members : ℕ) → (inputs : List ℤ) → AreTotals self (products_of members inputs) →
+            result ≡ weighted_total_value members inputs }
     {
         if self.unfit == 0 {
             self.narrowed()
@@ -152,8 +155,10 @@ impl Products {
         requires small { IsSmall self.fitting }
         requires few { self.unfit < 2 ^ 63 }
         requires counted { misfit (old *ℤ factor) ≤ self.unfit }
-        ensures fitting { result.fitting ≡ (self.fitting -ℤ part (old *ℤ factor)) +ℤ part (new *ℤ factor) }
-        ensures unfit { result.unfit + misfit (old *ℤ factor) ≡ self.unfit + misfit (new *ℤ factor) }
+        ensures fitting { result.fitting ≡
+            (self.fitting -ℤ part (old *ℤ factor)) +ℤ part (new *ℤ factor) }
+        ensures unfit { result.unfit + misfit (old *ℤ factor) ≡
+            self.unfit + misfit (new *ℤ factor) }
     {
         let gone = share_of(old, factor);
         let come = share_of(new, factor);

@@ -18,7 +18,8 @@ pub struct AllDifferent {
 impl AllDifferent {
     /// A node with the rule of `alldifferent`.
     pub fn new(alloc: Global) -> AllDifferent
-        ensures rule { rule_of_numbers (⟦<AllDifferent as NumberNode>⟧.number_rule result) ≡ all_different }
+        ensures rule { rule_of_numbers (⟦<AllDifferent as NumberNode>⟧.number_rule result) ≡
+            all_different }
     {
         AllDifferent {
             tally: Tally::new(alloc),

@@ -47,7 +47,8 @@ impl Cardinality {
     /// A node with the rule of `atmost`, `atleast` or `exactly`. The first of the bounds is that of the
     /// value `low`, and each next one that of the value one above.
     pub fn new(alloc: Global, demand: Demand, low: i64, bounds: Numbers) -> Cardinality
-        ensures rule { rule_of_numbers (⟦<Cardinality as NumberNode>⟧.number_rule result) ≡ rule_of_cardinality demand low bounds }
+        ensures rule { rule_of_numbers (⟦<Cardinality as NumberNode>⟧.number_rule result) ≡
+            rule_of_cardinality demand low bounds }
     {
         Cardinality {
             demand,
@@ -74,7 +75,8 @@ impl Cardinality {
     /// it has none.
     fn is_over(&self, value: i64, times: usize) -> Option<bool>
         requires { times < 2 ^ 62 }
-        ensures { result ≡ option_map (λ c. int_lt c (pos times)) (bound_of self.now.low self.now.bounds value) }
+        ensures { result ≡ option_map (λ c.
+            int_lt c (pos times)) (bound_of self.now.low self.now.bounds value) }
     {
         match self.bound_of(value) {
             Some(bound) => Some(i128::from(bound) < times as i128),
@@ -87,7 +89,9 @@ impl Cardinality {
         requires before { before < 2 ^ 62 }
         requires after { after < 2 ^ 62 }
         requires room { AreRoomy totals }
-        ensures { (xs ys : List ℤ) → IsShifted xs ys value before after → AreTotals self.now.demand self.now.low self.now.bounds xs totals → AreTotals self.now.demand self.now.low self.now.bounds ys result }
+        ensures { (xs ys : List ℤ) → IsShifted xs ys value before after →
+            AreTotals self.now.demand self.now.low self.now.bounds xs totals →
+            AreTotals self.now.demand self.now.low self.now.bounds ys result }
     {
         match self.bound_of(value) {
             Some(bound) => totals
@@ -227,7 +231,8 @@ impl NumberNode for Cardinality {
 
     ghost number_rule = { λ s. cardinality_rule s.demand s.low s.bounds };
 
-    ghost settled = { λ s. AreTotals s.demand s.low s.bounds s.tally s.totals × AreBounds s.bounds × (length s.tally < 2 ^ 61) };
+    ghost settled = { λ s. AreTotals s.demand s.low s.bounds s.tally s.totals × AreBounds s.bounds ×
+        (length s.tally < 2 ^ 61) };
 
     ghost held_numbers = { λ s. s.tally };
 

@@ -24,7 +24,8 @@ pub(crate) fn place_of_bin(low: i64, bins: usize, bin: i64) -> Option<usize>
 /// Puts so much into a bin, if it is one.
 fn raise_bin(bins: &mut Levels, low: i64, bin: i64, by: i128)
     requires kept { IsKept bins.old }
-    requires room { (place : ℕ) → place < length bins.old.each.items → IsRaisable (level_at bins.old.each.items place) by }
+    requires room { (place : ℕ) → place < length bins.old.each.items →
+        IsRaisable (level_at bins.old.each.items place) by }
     ensures each { bins.new.each.items ≡ bin_raised low bin by bins.old.each.items }
     ensures kept { IsKept bins.new }
 {
@@ -42,8 +43,10 @@ fn raise_bin_over(
     by: i128,
 ) -> Result<(), NoMemory>
     requires kept { IsKeptOver bins.now.each.items over.old }
-    requires room { (place : ℕ) → place < length bins.now.each.items → IsRaisable (level_at (shown bins.now.each.items over.old) place) by }
-    ensures shown { OnOk result (shown bins.now.each.items over.new ≡ bin_raised low bin by (shown bins.now.each.items over.old)) }
+    requires room { (place : ℕ) → place < length bins.now.each.items →
+        IsRaisable (level_at (shown bins.now.each.items over.old) place) by }
+    ensures shown { OnOk result (shown bins.now.each.items over.new ≡
+        bin_raised low bin by (shown bins.now.each.items over.old)) }
     ensures kept { OnOk result (IsKeptOver bins.now.each.items over.new) }
 {
     match place_of_bin(low, bins.each.len(), bin) {
@@ -73,7 +76,8 @@ pub(crate) fn move_item_over(
 ) -> Result<(), NoMemory>
     requires kept { IsKeptOver bins.now.each.items over.old }
     requires room { AreLow (shown bins.now.each.items over.old) }
-    ensures shown { OnOk result (shown bins.now.each.items over.new ≡ item_moved low size change (shown bins.now.each.items over.old)) }
+    ensures shown { OnOk result (shown bins.now.each.items over.new ≡
+        item_moved low size change (shown bins.now.each.items over.old)) }
     ensures kept { OnOk result (IsKeptOver bins.now.each.items over.new) }
 {
     raise_bin_over(over, bins, low, change.old, -i128::from(size))?;
@@ -103,7 +107,8 @@ pub(crate) fn filled_bins(
     numbers: &[i64],
 ) -> Result<Levels, NoMemory>
     requires { length numbers.now ≡ length sizes.now }
-    ensures each { IfOk result (λ bins. bins.each.items ≡ bins_of sizes.now low capacities.now numbers.now) }
+    ensures each { IfOk result (λ bins.
+        bins.each.items ≡ bins_of sizes.now low capacities.now numbers.now) }
     ensures kept { IfOk result IsKept }
     ensures sizes { OnOk result (AllFit (length numbers.now) sizes.now) }
 {

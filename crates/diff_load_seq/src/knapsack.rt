@@ -23,7 +23,8 @@ pub struct Knapsack {
 impl Knapsack {
     /// The node with these weights, one for each number that it takes, and this capacity.
     pub fn new(alloc: Global, weights: Numbers, capacity: i64) -> Knapsack
-        ensures { rule_of_numbers (⟦<Knapsack as NumberNode>⟧.number_rule result) ≡ knapsack weights capacity }
+        ensures { rule_of_numbers (⟦<Knapsack as NumberNode>⟧.number_rule result) ≡
+            knapsack weights capacity }
     {
         Knapsack {
             weights,
@@ -37,7 +38,8 @@ impl Knapsack {
     fn moved(&self, load: RunningSum, change: NumberChange) -> RunningSum
         requires within { change.place < length self.now.weights }
         requires room { HasRoom load (product_of self.now.weights change.place change.old) }
-        ensures { IsReplaced load (product_of self.now.weights change.place change.old) (product_of self.now.weights change.place change.new) result }
+        ensures { IsReplaced load (product_of self.now.weights change.place change.old)
+            (product_of self.now.weights change.place change.new) result }
     {
         let weight = self.weights.as_slice()[change.place];
         load.replaced(mul(weight, change.old), mul(weight, change.new))
@@ -73,7 +75,8 @@ impl NumberNode for Knapsack {
 
     ghost number_rule = { λ s. record { takes = λ n. n == length s.weights; value = knapsack_violations s.weights s.capacity; violation_at = knapsack_violation_at s.weights s.capacity } };
 
-    ghost settled = { λ s. (length s.numbers.items ≡ length s.weights) × IsSumOf s.load (products s.weights s.numbers.items) };
+    ghost settled = { λ s. (length s.numbers.items ≡ length s.weights) ×
+        IsSumOf s.load (products s.weights s.numbers.items) };
 
     ghost held_numbers = { λ s. s.numbers.items };
 

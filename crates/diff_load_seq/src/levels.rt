@@ -71,7 +71,8 @@ impl Levels {
         requires within { place < length self.old.each.items }
         requires kept { IsKept self.old }
         requires room { IsRaisable (level_at self.old.each.items place) by }
-        ensures each { self.new.each.items ≡ slice_set self.old.each.items place (raised by (level_at self.old.each.items place)) }
+        ensures each { self.new.each.items ≡
+            slice_set self.old.each.items place (raised by (level_at self.old.each.items place)) }
         ensures kept { IsKept self.new }
     {
         let old = self.each[place];
@@ -85,7 +86,8 @@ impl Levels {
         requires order { first ≤ last }
         requires within { last ≤ length self.old.each.items }
         requires kept { IsKept self.old }
-        requires room { (place : ℕ) → place < last → IsRaisable (level_at self.old.each.items place) by }
+        requires room { (place : ℕ) → place < last →
+            IsRaisable (level_at self.old.each.items place) by }
         ensures each { self.new.each.items ≡ raised_between first last by self.old.each.items }
         ensures kept { IsKept self.new }
     {
@@ -116,7 +118,8 @@ impl Levels {
     pub(crate) fn excess_between(&self, first: usize, last: usize) -> Result<i64, RunFault>
         requires order { first ≤ last }
         requires within { last ≤ length self.now.each.items }
-        ensures { result ≡ exact (sum_of (excesses_between self.now.each.items first (last - first))) }
+        ensures { result ≡ exact (sum_of (excesses_between self.now.each.items first
+            (last - first))) }
     {
         let mut sum = RunningSum::empty();
         for place in first..last {

@@ -47,7 +47,9 @@ impl LevelsOver {
         requires within { place < length levels.now.each.items }
         requires kept { IsKeptOver levels.now.each.items self.old }
         requires room { IsRaisable (level_over levels.now.each.items self.old place) by }
-        ensures shown { OnOk result (shown levels.now.each.items self.new ≡ slice_set (shown levels.now.each.items self.old) place (raised by (level_over levels.now.each.items self.old place))) }
+        ensures shown { OnOk result (shown levels.now.each.items self.new ≡
+            slice_set (shown levels.now.each.items self.old) place
+            (raised by (level_over levels.now.each.items self.old place))) }
         ensures kept { OnOk result (IsKeptOver levels.now.each.items self.new) }
     {
         let old = self.level(levels, place);
@@ -68,8 +70,10 @@ impl LevelsOver {
         requires order { first ≤ last }
         requires within { last ≤ length levels.now.each.items }
         requires kept { IsKeptOver levels.now.each.items self.old }
-        requires room { (place : ℕ) → place < last → IsRaisable (level_at (shown levels.now.each.items self.old) place) by }
-        ensures shown { OnOk result (shown levels.now.each.items self.new ≡ raised_between first last by (shown levels.now.each.items self.old)) }
+        requires room { (place : ℕ) → place < last →
+            IsRaisable (level_at (shown levels.now.each.items self.old) place) by }
+        ensures shown { OnOk result (shown levels.now.each.items self.new ≡
+            raised_between first last by (shown levels.now.each.items self.old)) }
         ensures kept { OnOk result (IsKeptOver levels.now.each.items self.new) }
     {
         for place in first..last {

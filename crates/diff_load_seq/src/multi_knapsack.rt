@@ -27,7 +27,8 @@ impl MultiKnapsack {
     /// The node with these sizes, one for each number that it takes, and these capacities: the first is
     /// that of the bin `low`, and each next one that of the bin one above.
     pub fn new(alloc: Global, sizes: Numbers, low: i64, capacities: Numbers) -> MultiKnapsack
-        ensures { rule_of_numbers (⟦<MultiKnapsack as NumberNode>⟧.number_rule result) ≡ multi_knapsack sizes low capacities }
+        ensures { rule_of_numbers (⟦<MultiKnapsack as NumberNode>⟧.number_rule result) ≡
+            multi_knapsack sizes low capacities }
     {
         MultiKnapsack {
             sizes,
@@ -56,7 +57,9 @@ impl NumberNode for MultiKnapsack {
 
     ghost number_rule = { λ s. record { takes = λ n. n == length s.sizes; value = multi_knapsack_violations s.sizes s.low s.capacities; violation_at = multi_knapsack_violation_at s.sizes s.low s.capacities } };
 
-    ghost settled = { λ s. (length s.numbers.items ≡ length s.sizes) × (s.bins.each.items ≡ bins_of s.sizes s.low s.capacities s.numbers.items) × IsKept s.bins × AllFit (length s.numbers.items) s.sizes };
+    ghost settled = { λ s. (length s.numbers.items ≡ length s.sizes) ×
+        (s.bins.each.items ≡ bins_of s.sizes s.low s.capacities s.numbers.items) × IsKept s.bins ×
+        AllFit (length s.numbers.items) s.sizes };
 
     ghost held_numbers = { λ s. s.numbers.items };
 

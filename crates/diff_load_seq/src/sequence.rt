@@ -26,7 +26,8 @@ pub struct Sequence {
 impl Sequence {
     /// The node with this set of values, this most and so many places to a window.
     pub fn new(alloc: Global, values: IntSet, most: i64, window: i64) -> Sequence
-        ensures { rule_of_numbers (⟦<Sequence as NumberNode>⟧.number_rule result) ≡ sequence values most window }
+        ensures { rule_of_numbers (⟦<Sequence as NumberNode>⟧.number_rule result) ≡
+            sequence values most window }
     {
         Sequence {
             values,
@@ -47,7 +48,8 @@ impl NumberNode for Sequence {
 
     ghost number_rule = { λ s. record { takes = λ _. true; value = sequence_violations s.values s.most s.window; violation_at = sequence_violation_at s.values s.most s.window } };
 
-    ghost settled = { λ s. (s.windows.each.items ≡ windows_of s.values s.most (size_of s.window) s.numbers.items) × IsKept s.windows };
+    ghost settled = { λ s. (s.windows.each.items ≡
+        windows_of s.values s.most (size_of s.window) s.numbers.items) × IsKept s.windows };
 
     ghost held_numbers = { λ s. s.numbers.items };
 

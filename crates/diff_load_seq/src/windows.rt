@@ -51,7 +51,8 @@ pub(crate) fn move_number(windows: &mut Levels, values: &IntSet, size: usize, ch
     requires room { AreLow windows.old.each.items }
     requires place { change.place < 2 ^ 63 }
     requires within { first_holding size change.place ≤ length windows.old.each.items }
-    ensures each { windows.new.each.items ≡ number_moved values.now size change windows.old.each.items }
+    ensures each { windows.new.each.items ≡
+        number_moved values.now size change windows.old.each.items }
     ensures kept { IsKept windows.new }
 {
     let gain = gain_of(values, change);
@@ -74,7 +75,8 @@ pub(crate) fn move_number_over(
     requires room { AreLow (shown windows.now.each.items over.old) }
     requires place { change.place < 2 ^ 63 }
     requires within { first_holding size change.place ≤ length windows.now.each.items }
-    ensures shown { OnOk result (shown windows.now.each.items over.new ≡ number_moved values.now size change (shown windows.now.each.items over.old)) }
+    ensures shown { OnOk result (shown windows.now.each.items over.new ≡
+        number_moved values.now size change (shown windows.now.each.items over.old)) }
     ensures kept { OnOk result (IsKeptOver windows.now.each.items over.new) }
 {
     let gain = gain_of(values, change);
@@ -87,7 +89,8 @@ pub(crate) fn move_number_over(
 
 /// How many more values of the set stand before the next place than before this one.
 fn more_at(numbers: &[i64], place: usize, values: &IntSet) -> usize
-    ensures more { count_in values.now (take (place + 1) numbers.now) ≡ count_in values.now (take place numbers.now) + result }
+    ensures more { count_in values.now (take (place + 1) numbers.now) ≡
+        count_in values.now (take place numbers.now) + result }
     ensures one { result ≤ 1 }
 {
     match numbers.get(place) {
@@ -116,7 +119,8 @@ pub(crate) fn counted_windows(
     most: i64,
     size: usize,
 ) -> Result<Levels, NoMemory>
-    ensures each { IfOk result (λ windows. windows.each.items ≡ windows_of values.now most size numbers.now) }
+    ensures each { IfOk result (λ windows.
+        windows.each.items ≡ windows_of values.now most size numbers.now) }
     ensures kept { IfOk result IsKept }
 {
     let mut windows = Levels::new(alloc);

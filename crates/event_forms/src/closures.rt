@@ -32,7 +32,9 @@ pub fn run_closure<O: Outside, W: Within<O>>(
     binding: Option<Binding>,
 ) -> Result<(), Stop>
     requires ready { W.is_ready inside.now }
-    ensures did { Does (λ _. tt) result (state_seen s.new (O.told out.new)) (events.run_closure (level (W.code inside.now) (W.depth inside.now)) (closure_seen closure) (bound_by binding) (state_seen s.old (O.told out.old))) }
+    ensures did { Does (λ _. tt) result (state_seen s.new (O.told out.new))
+        (events.run_closure (level (W.code inside.now) (W.depth inside.now)) (closure_seen closure)
+        (bound_by binding) (state_seen s.old (O.told out.old))) }
 {
     let frame = mem::replace(&mut s.frame, closure.frame);
     bind(s, binding)?;
@@ -43,7 +45,8 @@ pub fn run_closure<O: Outside, W: Within<O>>(
 
 /// The names get their values.
 fn bind(s: &mut State, binding: Option<Binding>) -> Result<(), Stop>
-    ensures did { (told : Told) → Did (λ _. tt) result (state_seen s.new told) (bound_by binding (state_seen s.old told)) }
+    ensures did { (told : Told) → Did (λ _.
+        tt) result (state_seen s.new told) (bound_by binding (state_seen s.old told)) }
     ensures fuel { s.new.fuel ≡ s.old.fuel }
 {
     match binding {

@@ -32,7 +32,9 @@ pub fn run_queue<O: Outside, W: Within<O>>(
     at: Place,
 ) -> Result<(), Stop>
     requires ready { W.is_ready inside.now }
-    ensures did { Does (λ _. tt) result (state_seen s.new (O.told out.new)) (events.run_queue (level (W.code inside.now) (W.depth inside.now)) at (state_seen s.old (O.told out.old))) }
+    ensures did { Does (λ _. tt) result (state_seen s.new (O.told out.new))
+        (events.run_queue (level (W.code inside.now) (W.depth inside.now)) at
+        (state_seen s.old (O.told out.old))) }
 {
     if s.search.is_running() {
         return Ok(());
@@ -48,7 +50,9 @@ fn run_all<O: Outside, W: Within<O>>(
     at: Place,
 ) -> Result<(), Stop>
     requires ready { W.is_ready inside.now }
-    ensures did { Does (λ _. tt) result (state_seen s.new (O.told out.new)) (events.run_all (level (W.code inside.now) (W.depth inside.now)) at (state_seen s.old (O.told out.old))) }
+    ensures did { Does (λ _. tt) result (state_seen s.new (O.told out.new))
+        (events.run_all (level (W.code inside.now) (W.depth inside.now)) at
+        (state_seen s.old (O.told out.old))) }
 {
     s.search.set_running(true);
     run_events(s, out, inside, at)?;
@@ -64,7 +68,9 @@ fn run_events<O: Outside, W: Within<O>>(
     at: Place,
 ) -> Result<(), Stop>
     requires ready { W.is_ready inside.now }
-    ensures did { Does (λ _. levels.Next) result (state_seen s.new (O.told out.new)) (repeated at (events.next_event (level (W.code inside.now) (W.depth inside.now))) (state_seen s.old (O.told out.old))) }
+    ensures did { Does (λ _. levels.Next) result (state_seen s.new (O.told out.new))
+        (repeated at (events.next_event (level (W.code inside.now) (W.depth inside.now)))
+        (state_seen s.old (O.told out.old))) }
 {
     'events: loop {
         match s.search.next_event() {
@@ -130,7 +136,9 @@ fn run_behind<O: Outside, W: Within<O>>(
     target: &Target,
 ) -> Result<(), Stop>
     requires ready { W.is_ready inside.now }
-    ensures did { Does (λ _. tt) result (state_seen s.new (O.told out.new)) (events.behind_commit (level (W.code inside.now) (W.depth inside.now)) at (target_seen target.now) (state_seen s.old (O.told out.old))) }
+    ensures did { Does (λ _. tt) result (state_seen s.new (O.told out.new))
+        (events.behind_commit (level (W.code inside.now) (W.depth inside.now)) at
+        (target_seen target.now) (state_seen s.old (O.told out.old))) }
 {
     match target {
         Target::Moved(_) => run_queue(s, out, inside, at),
@@ -164,7 +172,9 @@ fn run_before_flow<O: Outside, W: Within<O>>(
     flow: Flow,
 ) -> Result<Flow, Stop>
     requires ready { W.is_ready inside.now }
-    ensures did { Does flow_seen result (state_seen s.new (O.told out.new)) (then_do (events.run_queue (level (W.code inside.now) (W.depth inside.now)) at (state_seen s.old (O.told out.old))) (λ _. give (flow_seen flow))) }
+    ensures did { Does flow_seen result (state_seen s.new (O.told out.new))
+        (then_do (events.run_queue (level (W.code inside.now) (W.depth inside.now)) at
+        (state_seen s.old (O.told out.old))) (λ _. give (flow_seen flow))) }
 {
     match run_queue(s, out, inside, at) {
         Err(stop) => Err(stop),
@@ -198,7 +208,9 @@ fn run_before_value<O: Outside, W: Within<O>>(
     value: Value,
 ) -> Result<Value, Stop>
     requires ready { W.is_ready inside.now }
-    ensures did { Does value_seen result (state_seen s.new (O.told out.new)) (then_do (events.run_queue (level (W.code inside.now) (W.depth inside.now)) at (state_seen s.old (O.told out.old))) (λ _. give (value_seen value))) }
+    ensures did { Does value_seen result (state_seen s.new (O.told out.new))
+        (then_do (events.run_queue (level (W.code inside.now) (W.depth inside.now)) at
+        (state_seen s.old (O.told out.old))) (λ _. give (value_seen value))) }
 {
     match run_queue(s, out, inside, at) {
         Err(stop) => Err(stop),

@@ -112,7 +112,9 @@ fn passes<O: Outside, W: Within<O>>(
     condition: &Option<Box<Typed>>,
 ) -> Result<bool, Stop>
     requires ready { W.is_ready inside.now }
-    ensures did { Does (λ b. b) result (state_seen s.new (O.told out.new)) (parts.condition (level (W.code inside.now) (W.depth inside.now)) (part_or_none condition.now) (state_seen s.old (O.told out.old))) }
+    ensures did { Does (λ b. b) result (state_seen s.new (O.told out.new))
+        (parts.condition (level (W.code inside.now) (W.depth inside.now))
+        (part_or_none condition.now) (state_seen s.old (O.told out.old))) }
 {
     match condition {
         None => Ok(true),

@@ -28,7 +28,9 @@ pub fn evaluate_list<O: Outside, W: Within<O>>(
     cells: &[Typed],
 ) -> Result<Value, Stop>
     requires ready { W.is_ready inside.now }
-    ensures did { Does value_seen result (state_seen s.new (O.told out.new)) (arrays.list_form (level (W.code inside.now) (W.depth inside.now)) (row cells.now) (state_seen s.old (O.told out.old))) }
+    ensures did { Does value_seen result (state_seen s.new (O.told out.new))
+        (arrays.list_form (level (W.code inside.now) (W.depth inside.now)) (row cells.now)
+        (state_seen s.old (O.told out.old))) }
 {
     let values = values_of(s, out, inside, cells)?;
     row_of_values(s.alloc, &values)
@@ -43,7 +45,9 @@ pub fn evaluate_set<O: Outside, W: Within<O>>(
     members: &[Typed],
 ) -> Result<Value, Stop>
     requires ready { W.is_ready inside.now }
-    ensures did { Does value_seen result (state_seen s.new (O.told out.new)) (expressions.set_form (level (W.code inside.now) (W.depth inside.now)) (row members.now) (state_seen s.old (O.told out.old))) }
+    ensures did { Does value_seen result (state_seen s.new (O.told out.new))
+        (expressions.set_form (level (W.code inside.now) (W.depth inside.now)) (row members.now)
+        (state_seen s.old (O.told out.old))) }
 {
     let values = values_of(s, out, inside, members)?;
     set_of_values(s.alloc, &values)
@@ -60,7 +64,9 @@ pub fn evaluate_index<O: Outside, W: Within<O>>(
     index: &Typed,
 ) -> Result<Value, Stop>
     requires ready { W.is_ready inside.now }
-    ensures did { Does value_seen result (state_seen s.new (O.told out.new)) (arrays.index_form (level (W.code inside.now) (W.depth inside.now)) at (part array.now) (part index.now) (state_seen s.old (O.told out.old))) }
+    ensures did { Does value_seen result (state_seen s.new (O.told out.new))
+        (arrays.index_form (level (W.code inside.now) (W.depth inside.now)) at (part array.now)
+        (part index.now) (state_seen s.old (O.told out.old))) }
 {
     let array = value_of(s, out, inside, array)?;
     let index = number_of(s, out, inside, index);
@@ -79,7 +85,9 @@ pub fn evaluate_cell<O: Outside, W: Within<O>>(
     column: &Typed,
 ) -> Result<Value, Stop>
     requires ready { W.is_ready inside.now }
-    ensures did { Does value_seen result (state_seen s.new (O.told out.new)) (arrays.cell_form (level (W.code inside.now) (W.depth inside.now)) at (part grid.now) (part row.now) (part column.now) (state_seen s.old (O.told out.old))) }
+    ensures did { Does value_seen result (state_seen s.new (O.told out.new))
+        (arrays.cell_form (level (W.code inside.now) (W.depth inside.now)) at (part grid.now)
+        (part row.now) (part column.now) (state_seen s.old (O.told out.old))) }
 {
     let grid = value_of(s, out, inside, grid)?;
     let row = number_of(s, out, inside, row)?;
@@ -98,7 +106,9 @@ fn evaluate_count<O: Outside, W: Within<O>>(
     number: &Typed,
 ) -> Result<Value, Stop>
     requires ready { W.is_ready inside.now }
-    ensures did { Does value_seen result (state_seen s.new (O.told out.new)) (arrays.count_form (level (W.code inside.now) (W.depth inside.now)) at (part array.now) (part number.now) (state_seen s.old (O.told out.old))) }
+    ensures did { Does value_seen result (state_seen s.new (O.told out.new))
+        (arrays.count_form (level (W.code inside.now) (W.depth inside.now)) at (part array.now)
+        (part number.now) (state_seen s.old (O.told out.old))) }
 {
     let place = array.place;
     let array = value_of(s, out, inside, array)?;
@@ -116,7 +126,9 @@ pub fn evaluate_builtin<O: Outside, W: Within<O>>(
     arguments: &[Typed],
 ) -> Result<Value, Stop>
     requires ready { W.is_ready inside.now }
-    ensures did { Does value_seen result (state_seen s.new (O.told out.new)) (builtins.builtin_form (level (W.code inside.now) (W.depth inside.now)) at function (row arguments.now) (state_seen s.old (O.told out.old))) }
+    ensures did { Does value_seen result (state_seen s.new (O.told out.new))
+        (builtins.builtin_form (level (W.code inside.now) (W.depth inside.now)) at function
+        (row arguments.now) (state_seen s.old (O.told out.old))) }
 {
     match function {
         Builtin::Count => evaluate_count_call(s, out, inside, at, arguments),
@@ -133,7 +145,9 @@ fn evaluate_count_call<O: Outside, W: Within<O>>(
     arguments: &[Typed],
 ) -> Result<Value, Stop>
     requires ready { W.is_ready inside.now }
-    ensures did { Does value_seen result (state_seen s.new (O.told out.new)) (builtins.builtin_form (level (W.code inside.now) (W.depth inside.now)) at Count (row arguments.now) (state_seen s.old (O.told out.old))) }
+    ensures did { Does value_seen result (state_seen s.new (O.told out.new))
+        (builtins.builtin_form (level (W.code inside.now) (W.depth inside.now)) at Count
+        (row arguments.now) (state_seen s.old (O.told out.old))) }
 {
     if arguments.len() != 2 {
         return evaluate_plain(s, out, inside, at, Builtin::Count, arguments);
@@ -151,7 +165,9 @@ fn evaluate_plain<O: Outside, W: Within<O>>(
     arguments: &[Typed],
 ) -> Result<Value, Stop>
     requires ready { W.is_ready inside.now }
-    ensures did { Does value_seen result (state_seen s.new (O.told out.new)) (plain_builtin (level (W.code inside.now) (W.depth inside.now)) at function (row arguments.now) (state_seen s.old (O.told out.old))) }
+    ensures did { Does value_seen result (state_seen s.new (O.told out.new))
+        (plain_builtin (level (W.code inside.now) (W.depth inside.now)) at function
+        (row arguments.now) (state_seen s.old (O.told out.old))) }
 {
     let values = values_of(s, out, inside, arguments);
     call_builtin(s, at, function, values)

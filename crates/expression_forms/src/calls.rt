@@ -53,7 +53,9 @@ fn call<O: Outside, W: Within<O>>(
     arguments: &[Typed],
 ) -> Result<Value, Stop>
     requires ready { W.is_ready inside.now }
-    ensures did { Does value_seen result (state_seen s.new (O.told out.new)) (calls.called (level (W.code inside.now) (W.depth inside.now)) at (row arguments.now) «pure» (Some (function_of callee.now)) (state_seen s.old (O.told out.old))) }
+    ensures did { Does value_seen result (state_seen s.new (O.told out.new))
+        (calls.called (level (W.code inside.now) (W.depth inside.now)) at (row arguments.now) «pure»
+        (Some (function_of callee.now)) (state_seen s.old (O.told out.old))) }
 {
     let values = arguments_of(s, out, inside, &callee.parameters, arguments)?;
     s.charge(1, at)?;
@@ -92,7 +94,9 @@ fn argument_of<O: Outside, W: Within<O>>(
     e: &Typed,
 ) -> Result<Value, Stop>
     requires ready { W.is_ready inside.now }
-    ensures did { Does value_seen result (state_seen s.new (O.told out.new)) (calls.argument_form (level (W.code inside.now) (W.depth inside.now)) kind (part e.now) (state_seen s.old (O.told out.old))) }
+    ensures did { Does value_seen result (state_seen s.new (O.told out.new))
+        (calls.argument_form (level (W.code inside.now) (W.depth inside.now)) kind (part e.now)
+        (state_seen s.old (O.told out.old))) }
 {
     if is_handed_itself(kind) {
         inside.evaluate(s, out, e)
@@ -111,7 +115,9 @@ fn execute_body<O: Outside, W: Within<O>>(
     arguments: Vec<Value>,
 ) -> Result<Value, Stop>
     requires ready { W.is_ready inside.now }
-    ensures did { Does value_seen result (state_seen s.new (O.told out.new)) (calls.body_form (level (W.code inside.now) (W.depth inside.now)) (function_of callee.now) (map value_seen arguments.items) (state_seen s.old (O.told out.old))) }
+    ensures did { Does value_seen result (state_seen s.new (O.told out.new))
+        (calls.body_form (level (W.code inside.now) (W.depth inside.now)) (function_of callee.now)
+        (map value_seen arguments.items) (state_seen s.old (O.told out.old))) }
 {
     let frame = mem::replace(&mut s.frame, arguments);
     let flow = inside.execute(s, out, &callee.body)?;

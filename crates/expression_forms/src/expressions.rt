@@ -40,7 +40,9 @@ pub fn evaluate_form<O: Outside, W: Defining<O>>(
     requires ready { W.is_ready inside.now }
     requires defines { W.can_define inside.now }
     requires same_code { W.code inside.now ≡ code_seen code.now }
-    ensures did { Does value_seen result (state_seen s.new (O.told out.new)) (value_of_form (W.code inside.now) (level (W.code inside.now) (W.depth inside.now)) at kind (shape_of form.now) (state_seen s.old (O.told out.old))) }
+    ensures did { Does value_seen result (state_seen s.new (O.told out.new))
+        (value_of_form (W.code inside.now) (level (W.code inside.now) (W.depth inside.now)) at kind
+        (shape_of form.now) (state_seen s.old (O.told out.old))) }
 {
     match form {
         Form::Number(number) => Ok(Value::Number(*number)),
@@ -97,7 +99,9 @@ pub fn value_of<O: Outside, W: Within<O>>(
     e: &Typed,
 ) -> Result<Value, Stop>
     requires ready { W.is_ready inside.now }
-    ensures did { Does value_seen result (state_seen s.new (O.told out.new)) (parts.value (level (W.code inside.now) (W.depth inside.now)) (part e.now) (state_seen s.old (O.told out.old))) }
+    ensures did { Does value_seen result (state_seen s.new (O.told out.new))
+        (parts.value (level (W.code inside.now) (W.depth inside.now)) (part e.now)
+        (state_seen s.old (O.told out.old))) }
 {
     match plain_value(s, inside.room(), e) {
         Some(value) => Ok(value),
@@ -113,7 +117,9 @@ fn called_value_of<O: Outside, W: Within<O>>(
     e: &Typed,
 ) -> Result<Value, Stop>
     requires ready { W.is_ready inside.now }
-    ensures did { Does value_seen result (state_seen s.new (O.told out.new)) (parts.value (level (W.code inside.now) (W.depth inside.now)) (part e.now) (state_seen s.old (O.told out.old))) }
+    ensures did { Does value_seen result (state_seen s.new (O.told out.new))
+        (parts.value (level (W.code inside.now) (W.depth inside.now)) (part e.now)
+        (state_seen s.old (O.told out.old))) }
 {
     match inside.called_number(s, e) {
         Some(number) => Ok(Value::Number(number)),
@@ -130,7 +136,9 @@ fn evaluated_value_of<O: Outside, W: Within<O>>(
     e: &Typed,
 ) -> Result<Value, Stop>
     requires ready { W.is_ready inside.now }
-    ensures did { Does value_seen result (state_seen s.new (O.told out.new)) (parts.value (level (W.code inside.now) (W.depth inside.now)) (part e.now) (state_seen s.old (O.told out.old))) }
+    ensures did { Does value_seen result (state_seen s.new (O.told out.new))
+        (parts.value (level (W.code inside.now) (W.depth inside.now)) (part e.now)
+        (state_seen s.old (O.told out.old))) }
 {
     let value = inside.evaluate(s, out, e);
     read_part(s, out, e, value)
@@ -145,7 +153,9 @@ pub fn other_value_of<O: Outside, W: Within<O>>(
     e: &Typed,
 ) -> Result<Value, Stop>
     requires ready { W.is_ready inside.now }
-    ensures did { Does value_seen result (state_seen s.new (O.told out.new)) (parts.value (level (W.code inside.now) (W.depth inside.now)) (part e.now) (state_seen s.old (O.told out.old))) }
+    ensures did { Does value_seen result (state_seen s.new (O.told out.new))
+        (parts.value (level (W.code inside.now) (W.depth inside.now)) (part e.now)
+        (state_seen s.old (O.told out.old))) }
 {
     match plain_name(s, inside.room(), e) {
         Some(value) => Ok(value),
@@ -162,7 +172,9 @@ pub fn number_of<O: Outside, W: Within<O>>(
     e: &Typed,
 ) -> Result<i64, Stop>
     requires ready { W.is_ready inside.now }
-    ensures did { Does (λ z. z) result (state_seen s.new (O.told out.new)) (parts.number (level (W.code inside.now) (W.depth inside.now)) (part e.now) (state_seen s.old (O.told out.old))) }
+    ensures did { Does (λ z. z) result (state_seen s.new (O.told out.new))
+        (parts.number (level (W.code inside.now) (W.depth inside.now)) (part e.now)
+        (state_seen s.old (O.told out.old))) }
 {
     match plain_number(s, inside.room(), e) {
         Some(number) => Ok(number),
@@ -179,7 +191,9 @@ pub fn truth_of<O: Outside, W: Within<O>>(
     e: &Typed,
 ) -> Result<bool, Stop>
     requires ready { W.is_ready inside.now }
-    ensures did { Does (λ b. b) result (state_seen s.new (O.told out.new)) (parts.truth (level (W.code inside.now) (W.depth inside.now)) (part e.now) (state_seen s.old (O.told out.old))) }
+    ensures did { Does (λ b. b) result (state_seen s.new (O.told out.new))
+        (parts.truth (level (W.code inside.now) (W.depth inside.now)) (part e.now)
+        (state_seen s.old (O.told out.old))) }
 {
     match plain_truth(s, inside.room(), e) {
         Some(truth) => Ok(truth),
@@ -196,7 +210,9 @@ pub fn bounds_of<O: Outside, W: Within<O>>(
     e: &Typed,
 ) -> Result<Bounds, Stop>
     requires ready { W.is_ready inside.now }
-    ensures did { Does bounds_seen result (state_seen s.new (O.told out.new)) (parts.bounds (level (W.code inside.now) (W.depth inside.now)) (part e.now) (state_seen s.old (O.told out.old))) }
+    ensures did { Does bounds_seen result (state_seen s.new (O.told out.new))
+        (parts.bounds (level (W.code inside.now) (W.depth inside.now)) (part e.now)
+        (state_seen s.old (O.told out.old))) }
 {
     as_bounds(value_of(s, out, inside, e))
 }
@@ -210,7 +226,9 @@ pub fn condition<O: Outside, W: Within<O>>(
     test: Option<&Typed>,
 ) -> Result<bool, Stop>
     requires ready { W.is_ready inside.now }
-    ensures did { Does (λ b. b) result (state_seen s.new (O.told out.new)) (parts.condition (level (W.code inside.now) (W.depth inside.now)) (optional (λ e. part e.now) test.entry) (state_seen s.old (O.told out.old))) }
+    ensures did { Does (λ b. b) result (state_seen s.new (O.told out.new))
+        (parts.condition (level (W.code inside.now) (W.depth inside.now))
+        (optional (λ e. part e.now) test.entry) (state_seen s.old (O.told out.old))) }
 {
     match test {
         None => Ok(true),
@@ -227,7 +245,9 @@ pub fn value_as<O: Outside, W: Within<O>>(
     e: &Typed,
 ) -> Result<Value, Stop>
     requires ready { W.is_ready inside.now }
-    ensures did { Does value_seen result (state_seen s.new (O.told out.new)) (value_as (level (W.code inside.now) (W.depth inside.now)) kind (part e.now) (state_seen s.old (O.told out.old))) }
+    ensures did { Does value_seen result (state_seen s.new (O.told out.new))
+        (value_as (level (W.code inside.now) (W.depth inside.now)) kind (part e.now)
+        (state_seen s.old (O.told out.old))) }
 {
     as_held(kind, value_of(s, out, inside, e))
 }

@@ -30,7 +30,9 @@ pub fn evaluate_method<O: Outside, W: Defining<O>>(
 ) -> Result<Value, Stop>
     requires ready { W.is_ready inside.now }
     requires defines { W.can_define inside.now }
-    ensures did { Does value_seen result (state_seen s.new (O.told out.new)) (method_form (level (W.code inside.now) (W.depth inside.now)) at method (part object.now) (row arguments.now) (state_seen s.old (O.told out.old))) }
+    ensures did { Does value_seen result (state_seen s.new (O.told out.new))
+        (method_form (level (W.code inside.now) (W.depth inside.now)) at method (part object.now)
+        (row arguments.now) (state_seen s.old (O.told out.old))) }
 {
     match method {
         Method::Post => post_constraint(s, out, inside, at, object, arguments),
@@ -51,7 +53,9 @@ fn restore<O: Outside, W: Within<O>>(
     arguments: &[Typed],
 ) -> Result<Value, Stop>
     requires ready { W.is_ready inside.now }
-    ensures did { Does value_seen result (state_seen s.new (O.told out.new)) (restore_form (level (W.code inside.now) (W.depth inside.now)) at (part object.now) (row arguments.now) (state_seen s.old (O.told out.old))) }
+    ensures did { Does value_seen result (state_seen s.new (O.told out.new))
+        (restore_form (level (W.code inside.now) (W.depth inside.now)) at (part object.now)
+        (row arguments.now) (state_seen s.old (O.told out.old))) }
 {
     let restored = call_method(s, out, inside, at, Method::Restore, object, arguments);
     behind_restore(s, out, inside, at, restored)
@@ -69,7 +73,9 @@ fn call_method<O: Outside, W: Within<O>>(
     arguments: &[Typed],
 ) -> Result<Value, Stop>
     requires ready { W.is_ready inside.now }
-    ensures did { Does value_seen result (state_seen s.new (O.told out.new)) (called_form (level (W.code inside.now) (W.depth inside.now)) at method (part object.now) (row arguments.now) (state_seen s.old (O.told out.old))) }
+    ensures did { Does value_seen result (state_seen s.new (O.told out.new))
+        (called_form (level (W.code inside.now) (W.depth inside.now)) at method (part object.now)
+        (row arguments.now) (state_seen s.old (O.told out.old))) }
 {
     let value = object_value(s, out, inside, method, object)?;
     let values = asked_values(s, out, inside, variables_asked(method), arguments);
@@ -86,7 +92,9 @@ fn object_value<O: Outside, W: Within<O>>(
     object: &Typed,
 ) -> Result<Value, Stop>
     requires ready { W.is_ready inside.now }
-    ensures did { Does value_seen result (state_seen s.new (O.told out.new)) (object_value (level (W.code inside.now) (W.depth inside.now)) method (part object.now) (state_seen s.old (O.told out.old))) }
+    ensures did { Does value_seen result (state_seen s.new (O.told out.new))
+        (object_value (level (W.code inside.now) (W.depth inside.now)) method (part object.now)
+        (state_seen s.old (O.told out.old))) }
 {
     match method {
         Method::Domain => inside.evaluate(s, out, object),
@@ -138,7 +146,9 @@ fn asked_value<O: Outside, W: Within<O>>(
     e: &Typed,
 ) -> Result<Value, Stop>
     requires ready { W.is_ready inside.now }
-    ensures did { Does value_seen result (state_seen s.new (O.told out.new)) (methods.asked_value (level (W.code inside.now) (W.depth inside.now)) (nat_lt 0 left) (part e.now) (state_seen s.old (O.told out.old))) }
+    ensures did { Does value_seen result (state_seen s.new (O.told out.new))
+        (methods.asked_value (level (W.code inside.now) (W.depth inside.now)) (nat_lt 0 left)
+        (part e.now) (state_seen s.old (O.told out.old))) }
 {
     if left == 0 {
         value_of(s, out, inside, e)

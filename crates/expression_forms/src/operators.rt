@@ -28,7 +28,9 @@ pub fn evaluate_unary<O: Outside, W: Within<O>>(
     operand: &Typed,
 ) -> Result<Value, Stop>
     requires ready { W.is_ready inside.now }
-    ensures did { Does value_seen result (state_seen s.new (O.told out.new)) (operators.unary_form (level (W.code inside.now) (W.depth inside.now)) at operator (part operand.now) (state_seen s.old (O.told out.old))) }
+    ensures did { Does value_seen result (state_seen s.new (O.told out.new))
+        (operators.unary_form (level (W.code inside.now) (W.depth inside.now)) at operator
+        (part operand.now) (state_seen s.old (O.told out.old))) }
 {
     apply_unary(at, operator, value_of(s, out, inside, operand))
 }
@@ -44,7 +46,9 @@ pub fn evaluate_compare<O: Outside, W: Within<O>>(
     right: &Typed,
 ) -> Result<Value, Stop>
     requires ready { W.is_ready inside.now }
-    ensures did { Does value_seen result (state_seen s.new (O.told out.new)) (operators.compare_form (level (W.code inside.now) (W.depth inside.now)) comparison (part left.now) (part right.now) (state_seen s.old (O.told out.old))) }
+    ensures did { Does value_seen result (state_seen s.new (O.told out.new))
+        (operators.compare_form (level (W.code inside.now) (W.depth inside.now)) comparison
+        (part left.now) (part right.now) (state_seen s.old (O.told out.old))) }
 {
     let left = number_of(s, out, inside, left)?;
     let right = number_of(s, out, inside, right)?;
@@ -61,7 +65,9 @@ pub fn evaluate_range<O: Outside, W: Within<O>>(
     high: &Typed,
 ) -> Result<Value, Stop>
     requires ready { W.is_ready inside.now }
-    ensures did { Does value_seen result (state_seen s.new (O.told out.new)) (operators.range_form (level (W.code inside.now) (W.depth inside.now)) (part low.now) (part high.now) (state_seen s.old (O.told out.old))) }
+    ensures did { Does value_seen result (state_seen s.new (O.told out.new))
+        (operators.range_form (level (W.code inside.now) (W.depth inside.now)) (part low.now)
+        (part high.now) (state_seen s.old (O.told out.old))) }
 {
     let low = number_of(s, out, inside, low)?;
     let up = number_of(s, out, inside, high)?;
@@ -99,7 +105,9 @@ pub fn evaluate_chain<O: Outside, W: Within<O>>(
     links: &[Link],
 ) -> Result<Value, Stop>
     requires ready { W.is_ready inside.now }
-    ensures did { Does value_seen result (state_seen s.new (O.told out.new)) (operators.chain_form (level (W.code inside.now) (W.depth inside.now)) (part first.now) (links_seen links.now) (state_seen s.old (O.told out.old))) }
+    ensures did { Does value_seen result (state_seen s.new (O.told out.new))
+        (operators.chain_form (level (W.code inside.now) (W.depth inside.now)) (part first.now)
+        (links_seen links.now) (state_seen s.old (O.told out.old))) }
 {
     let value = value_of(s, out, inside, first)?;
     evaluate_links(s, out, inside, links, value)
@@ -114,7 +122,9 @@ fn evaluate_links<O: Outside, W: Within<O>>(
     first: Value,
 ) -> Result<Value, Stop>
     requires ready { W.is_ready inside.now }
-    ensures did { Does value_seen result (state_seen s.new (O.told out.new)) (operators.links_form (level (W.code inside.now) (W.depth inside.now)) (links_seen links.now) (value_seen first) (state_seen s.old (O.told out.old))) }
+    ensures did { Does value_seen result (state_seen s.new (O.told out.new))
+        (operators.links_form (level (W.code inside.now) (W.depth inside.now))
+        (links_seen links.now) (value_seen first) (state_seen s.old (O.told out.old))) }
 {
     let mut value = first;
     for link in links {

@@ -23,7 +23,9 @@ pub fn single_term<O: Outside, W: Defining<O>>(
     e: &Typed,
 ) -> Result<Built, Stop>
     requires defines { W.can_define inside.now }
-    ensures did { Does (λ t. t) result (state_seen s.new (O.told out.new)) (parts.term (level (W.code inside.now) (W.depth inside.now)) (part e.now) (state_seen s.old (O.told out.old))) }
+    ensures did { Does (λ t. t) result (state_seen s.new (O.told out.new))
+        (parts.term (level (W.code inside.now) (W.depth inside.now)) (part e.now)
+        (state_seen s.old (O.told out.old))) }
 {
     as_single(inside.define(s, out, e))
 }
@@ -37,7 +39,9 @@ pub fn term_cells<O: Outside, W: Defining<O>>(
     e: &Typed,
 ) -> Result<TermCells, Stop>
     requires defines { W.can_define inside.now }
-    ensures did { Does term_cells_seen result (state_seen s.new (O.told out.new)) (parts.terms (level (W.code inside.now) (W.depth inside.now)) (part e.now) (state_seen s.old (O.told out.old))) }
+    ensures did { Does term_cells_seen result (state_seen s.new (O.told out.new))
+        (parts.terms (level (W.code inside.now) (W.depth inside.now)) (part e.now)
+        (state_seen s.old (O.told out.old))) }
 {
     let term = inside.define(s, out, e);
     as_several(s.alloc, term)
@@ -53,7 +57,9 @@ pub fn constraint_part<O: Outside, W: Defining<O>>(
 ) -> Result<Built, Stop>
     requires ready { W.is_ready inside.now }
     requires defines { W.can_define inside.now }
-    ensures did { Does (λ t. t) result (state_seen s.new (O.told out.new)) (parts.constraint (level (W.code inside.now) (W.depth inside.now)) (part e.now) (state_seen s.old (O.told out.old))) }
+    ensures did { Does (λ t. t) result (state_seen s.new (O.told out.new))
+        (parts.constraint (level (W.code inside.now) (W.depth inside.now)) (part e.now)
+        (state_seen s.old (O.told out.old))) }
 {
     if e.moving {
         single_term(s, out, inside, e)

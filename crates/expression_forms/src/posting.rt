@@ -27,7 +27,9 @@ pub fn post_constraint<O: Outside, W: Defining<O>>(
 ) -> Result<Value, Stop>
     requires ready { W.is_ready inside.now }
     requires defines { W.can_define inside.now }
-    ensures did { Does value_seen result (state_seen s.new (O.told out.new)) (posting.post_constraint (level (W.code inside.now) (W.depth inside.now)) at (part object.now) (row arguments.now) (state_seen s.old (O.told out.old))) }
+    ensures did { Does value_seen result (state_seen s.new (O.told out.new))
+        (posting.post_constraint (level (W.code inside.now) (W.depth inside.now)) at
+        (part object.now) (row arguments.now) (state_seen s.old (O.told out.old))) }
 {
     if arguments.len() == 0 {
         return Ok(Value::Nothing);
@@ -68,7 +70,9 @@ fn add_one<O: Outside, W: Defining<O>>(
 ) -> Result<Value, Stop>
     requires ready { W.is_ready inside.now }
     requires defines { W.can_define inside.now }
-    ensures did { Does value_seen result (state_seen s.new (O.told out.new)) (posting.post_one (level (W.code inside.now) (W.depth inside.now)) at (part object.now) (part constraint.now) (row weights.now) (state_seen s.old (O.told out.old))) }
+    ensures did { Does value_seen result (state_seen s.new (O.told out.new))
+        (posting.post_one (level (W.code inside.now) (W.depth inside.now)) at (part object.now)
+        (part constraint.now) (row weights.now) (state_seen s.old (O.told out.old))) }
 {
     let value = value_of(s, out, inside, object)?;
     let term = constraint_part(s, out, inside, constraint)?;
@@ -87,7 +91,9 @@ pub fn post_part<O: Outside, W: Defining<O>>(
 ) -> Result<Value, Stop>
     requires ready { W.is_ready inside.now }
     requires defines { W.can_define inside.now }
-    ensures did { Does value_seen result (state_seen s.new (O.told out.new)) (posting.post_part (level (W.code inside.now) (W.depth inside.now)) at (part object.now) (row arguments.now) (state_seen s.old (O.told out.old))) }
+    ensures did { Does value_seen result (state_seen s.new (O.told out.new))
+        (posting.post_part (level (W.code inside.now) (W.depth inside.now)) at (part object.now)
+        (row arguments.now) (state_seen s.old (O.told out.old))) }
 {
     if arguments.len() == 0 {
         return Ok(Value::Nothing);
@@ -108,7 +114,9 @@ fn add_part<O: Outside, W: Defining<O>>(
 ) -> Result<Value, Stop>
     requires ready { W.is_ready inside.now }
     requires defines { W.can_define inside.now }
-    ensures did { Does value_seen result (state_seen s.new (O.told out.new)) (posting.post_part (level (W.code inside.now) (W.depth inside.now)) at (part object.now) (part term.now ∷ row weights.now) (state_seen s.old (O.told out.old))) }
+    ensures did { Does value_seen result (state_seen s.new (O.told out.new))
+        (posting.post_part (level (W.code inside.now) (W.depth inside.now)) at (part object.now)
+        (part term.now ∷ row weights.now) (state_seen s.old (O.told out.old))) }
 {
     let value = value_of(s, out, inside, object)?;
     let term = single_term(s, out, inside, term)?;
@@ -125,7 +133,9 @@ pub(crate) fn weight_of<O: Outside, W: Within<O>>(
     weights: &[Typed],
 ) -> Result<i64, Stop>
     requires ready { W.is_ready inside.now }
-    ensures did { Does (λ z. z) result (state_seen s.new (O.told out.new)) (posting.weight_form (level (W.code inside.now) (W.depth inside.now)) (row weights.now) (state_seen s.old (O.told out.old))) }
+    ensures did { Does (λ z. z) result (state_seen s.new (O.told out.new))
+        (posting.weight_form (level (W.code inside.now) (W.depth inside.now)) (row weights.now)
+        (state_seen s.old (O.told out.old))) }
 {
     if weights.len() == 0 {
         return Ok(1);

@@ -102,7 +102,9 @@ pub(crate) fn add_named<O: Outside, W: Defining<O>>(
 ) -> Result<Value, Stop>
     requires ready { W.is_ready inside.now }
     requires defines { W.can_define inside.now }
-    ensures did { Does value_seen result (state_seen s.new (O.told out.new)) (posting.post_named (level (W.code inside.now) (W.depth inside.now)) at (part object.now) (part constraint.now) (row weights.now) name.now (state_seen s.old (O.told out.old))) }
+    ensures did { Does value_seen result (state_seen s.new (O.told out.new))
+        (posting.post_named (level (W.code inside.now) (W.depth inside.now)) at (part object.now)
+        (part constraint.now) (row weights.now) name.now (state_seen s.old (O.told out.old))) }
 {
     let place = constraint.place;
     let value = value_of(s, out, inside, object)?;
@@ -143,7 +145,8 @@ fn take_and_post<O: Outside, W: Defining<O>>(
 
 /// The number of the first user's constraint that is free and has this name, which is taken.
 fn take_named<O: Outside>(s: &State, out: &mut O, place: Place, name: &[u8]) -> Result<usize, Stop>
-    ensures did { Does (λ n. n) result (state_seen s.now (O.told out.new)) (take_user place name.now (state_seen s.now (O.told out.old))) }
+    ensures did { Does (λ n. n) result (state_seen s.now (O.told out.new))
+        (take_user place name.now (state_seen s.now (O.told out.old))) }
 {
     out.take_user(place, name)
 }
@@ -158,7 +161,9 @@ fn post_user_with<O: Outside>(
     places: Vec<Built>,
     weight: Result<i64, Stop>,
 ) -> Result<Value, Stop>
-    ensures did { Follows (λ z. z) value_seen weight result (state_seen s.old (O.told out.old)) (state_seen s.new (O.told out.new)) (user_posted_with at taken places.items (value_seen object.now)) }
+    ensures did { Follows (λ z. z) value_seen weight result (state_seen s.old (O.told out.old))
+        (state_seen s.new (O.told out.new))
+        (user_posted_with at taken places.items (value_seen object.now)) }
 {
     match weight {
         Err(stop) => Err(stop),
@@ -176,7 +181,9 @@ fn post_user_behind<O: Outside>(
     places: Vec<Built>,
     weight: i64,
 ) -> Result<Value, Stop>
-    ensures did { Does value_seen result (state_seen s.new (O.told out.new)) (user_posted_with at taken places.items (value_seen object.now) weight (state_seen s.old (O.told out.old))) }
+    ensures did { Does value_seen result (state_seen s.new (O.told out.new))
+        (user_posted_with at taken places.items (value_seen object.now) weight
+        (state_seen s.old (O.told out.old))) }
 {
     s.charge(1, at)?;
     post_taken(s, out, at, object, taken, places, weight)
@@ -192,7 +199,9 @@ fn post_taken<O: Outside>(
     places: Vec<Built>,
     weight: i64,
 ) -> Result<Value, Stop>
-    ensures did { Does value_seen result (state_seen s.now (O.told out.new)) (posting.post_taken at taken places.items weight (value_seen object.now) (state_seen s.now (O.told out.old))) }
+    ensures did { Does value_seen result (state_seen s.now (O.told out.new))
+        (posting.post_taken at taken places.items weight (value_seen object.now)
+        (state_seen s.now (O.told out.old))) }
 {
     match out.post_user(at, object, taken, places, weight) {
         Ok(()) => Ok(Value::Nothing),

@@ -13,6 +13,7 @@ ghost use Rattle.statement_forms.specs.OfRunSteps.Views.{code_seen, flow_seen, p
 ghost use Rattle.statement_forms.specs.OfRunValues.Views.{value_seen};
 
 use cbl_base::RunFault;
+use cbl_base::limits::MAX_RUNNING_DEPTH;
 use checked_tree::{Kind, Task, Typed};
 use constraint_forms::constraints::constraint_form;
 use constraint_forms::defining::{constant_term, moving_term};
@@ -24,7 +25,7 @@ use statement_forms::targets::target_of_form;
 use statement_forms::values_of_runs::{Stop, Value};
 
 /// How many statements and expressions may be executed inside each other.
-const MOST_DEPTH: u32 = 1000;
+const MOST_DEPTH: u32 = MAX_RUNNING_DEPTH;
 
 /// The value of an expression; of a variable the variable itself. `room` tells how many parts may still be executed
 /// inside each other: the fault `Depth` comes at the place of an expression for which there is none.
@@ -36,20 +37,27 @@ pub fn evaluate<O: Outside>(
     room: u32,
     e: &Typed,
 ) -> Result<Value, Stop>
-    ensures did { Does value_seen result (state_seen s.new (O.told out.new)) ((level (code_seen code.now) room).expr (part e.now) (state_seen s.old (O.told out.old))) }
+    ensures did { Does value_seen result (state_seen s.new (O.told out.new))
+        ((level (code_seen code.now) room).expr (part e.now) (state_seen s.old (O.told out.old))) }
 {
     if room == 0 {
         return Err(Stop::Fault(e.place, RunFault::Depth));
     }
     let room = room - 1;
     let value = |s: &mut State, out: &mut O, e: &Typed| -> Result<Value, Stop>
-        ensures did { Does value_seen result (state_seen s.new (O.told out.new)) ((level (code_seen code.entry.now) room).expr (part e.now) (state_seen s.old (O.told out.old))) }
+        ensures did { Does value_seen result (state_seen s.new (O.told out.new))
+            ((level (code_seen code.entry.now) room).expr (part e.now)
+            (state_seen s.old (O.told out.old))) }
     { evaluate(s, out, code, room, e) };
     let statement = |s: &mut State, out: &mut O, t: &Task| -> Result<Flow, Stop>
-        ensures did { Does flow_seen result (state_seen s.new (O.told out.new)) ((level (code_seen code.entry.now) room).stmt (work_of t.now) (state_seen s.old (O.told out.old))) }
+        ensures did { Does flow_seen result (state_seen s.new (O.told out.new))
+            ((level (code_seen code.entry.now) room).stmt (work_of t.now)
+            (state_seen s.old (O.told out.old))) }
     { execute(s, out, code, room, t) };
     let term = |s: &mut State, out: &mut O, e: &Typed| -> Result<InTerm, Stop>
-        ensures did { Does in_term_seen result (state_seen s.new (O.told out.new)) ((level (code_seen code.entry.now) room).term (part e.now) (state_seen s.old (O.told out.old))) }
+        ensures did { Does in_term_seen result (state_seen s.new (O.told out.new))
+            ((level (code_seen code.entry.now) room).term (part e.now)
+            (state_seen s.old (O.told out.old))) }
     { define(s, out, code, room, e) };
     let inside = Inside {
         code,
@@ -71,17 +79,23 @@ fn locate<O: Outside>(
     room: u32,
     e: &Typed,
 ) -> Result<Target, Stop>
-    ensures did { Does target_seen result (state_seen s.new (O.told out.new)) ((level (code_seen code.now) room).target (part e.now) (state_seen s.old (O.told out.old))) }
+    ensures did { Does target_seen result (state_seen s.new (O.told out.new))
+        ((level (code_seen code.now) room).target (part e.now)
+        (state_seen s.old (O.told out.old))) }
 {
     if room == 0 {
         return Err(Stop::Fault(e.place, RunFault::Depth));
     }
     let room = room - 1;
     let value = |s: &mut State, out: &mut O, e: &Typed| -> Result<Value, Stop>
-        ensures did { Does value_seen result (state_seen s.new (O.told out.new)) ((level (code_seen code.entry.now) room).expr (part e.now) (state_seen s.old (O.told out.old))) }
+        ensures did { Does value_seen result (state_seen s.new (O.told out.new))
+            ((level (code_seen code.entry.now) room).expr (part e.now)
+            (state_seen s.old (O.told out.old))) }
     { evaluate(s, out, code, room, e) };
     let statement = |s: &mut State, out: &mut O, t: &Task| -> Result<Flow, Stop>
-        ensures did { Does flow_seen result (state_seen s.new (O.told out.new)) ((level (code_seen code.entry.now) room).stmt (work_of t.now) (state_seen s.old (O.told out.old))) }
+        ensures did { Does flow_seen result (state_seen s.new (O.told out.new))
+            ((level (code_seen code.entry.now) room).stmt (work_of t.now)
+            (state_seen s.old (O.told out.old))) }
     { execute(s, out, code, room, t) };
     let inside = Inside {
         code,
@@ -92,7 +106,9 @@ fn locate<O: Outside>(
         locate: (),
     };
     let target = |s: &mut State, out: &mut O, e: &Typed| -> Result<Target, Stop>
-        ensures did { Does target_seen result (state_seen s.new (O.told out.new)) ((level (code_seen code.entry.now) room).target (part e.now) (state_seen s.old (O.told out.old))) }
+        ensures did { Does target_seen result (state_seen s.new (O.told out.new))
+            ((level (code_seen code.entry.now) room).target (part e.now)
+            (state_seen s.old (O.told out.old))) }
     { locate(s, out, code, room, e) };
     target_of_form(s, out, &inside, &target, e.place, e.kind, &e.form)
 }
@@ -107,20 +123,27 @@ fn define<O: Outside>(
     room: u32,
     e: &Typed,
 ) -> Result<InTerm, Stop>
-    ensures did { Does in_term_seen result (state_seen s.new (O.told out.new)) ((level (code_seen code.now) room).term (part e.now) (state_seen s.old (O.told out.old))) }
+    ensures did { Does in_term_seen result (state_seen s.new (O.told out.new))
+        ((level (code_seen code.now) room).term (part e.now) (state_seen s.old (O.told out.old))) }
 {
     if room == 0 {
         return Err(Stop::Fault(e.place, RunFault::Depth));
     }
     let room = room - 1;
     let value = |s: &mut State, out: &mut O, e: &Typed| -> Result<Value, Stop>
-        ensures did { Does value_seen result (state_seen s.new (O.told out.new)) ((level (code_seen code.entry.now) room).expr (part e.now) (state_seen s.old (O.told out.old))) }
+        ensures did { Does value_seen result (state_seen s.new (O.told out.new))
+            ((level (code_seen code.entry.now) room).expr (part e.now)
+            (state_seen s.old (O.told out.old))) }
     { evaluate(s, out, code, room, e) };
     let statement = |s: &mut State, out: &mut O, t: &Task| -> Result<Flow, Stop>
-        ensures did { Does flow_seen result (state_seen s.new (O.told out.new)) ((level (code_seen code.entry.now) room).stmt (work_of t.now) (state_seen s.old (O.told out.old))) }
+        ensures did { Does flow_seen result (state_seen s.new (O.told out.new))
+            ((level (code_seen code.entry.now) room).stmt (work_of t.now)
+            (state_seen s.old (O.told out.old))) }
     { execute(s, out, code, room, t) };
     let term = |s: &mut State, out: &mut O, e: &Typed| -> Result<InTerm, Stop>
-        ensures did { Does in_term_seen result (state_seen s.new (O.told out.new)) ((level (code_seen code.entry.now) room).term (part e.now) (state_seen s.old (O.told out.old))) }
+        ensures did { Does in_term_seen result (state_seen s.new (O.told out.new))
+            ((level (code_seen code.entry.now) room).term (part e.now)
+            (state_seen s.old (O.told out.old))) }
     { define(s, out, code, room, e) };
     let inside = Inside {
         code,
@@ -150,7 +173,9 @@ fn execute<O: Outside>(
     room: u32,
     t: &Task,
 ) -> Result<Flow, Stop>
-    ensures did { Does flow_seen result (state_seen s.new (O.told out.new)) ((level (code_seen code.now) room).stmt (work_of t.now) (state_seen s.old (O.told out.old))) }
+    ensures did { Does flow_seen result (state_seen s.new (O.told out.new))
+        ((level (code_seen code.now) room).stmt (work_of t.now)
+        (state_seen s.old (O.told out.old))) }
 {
     if room == 0 {
         return Err(Stop::Fault(t.place, RunFault::Depth));
@@ -158,16 +183,24 @@ fn execute<O: Outside>(
     s.charge(1, t.place)?;
     let room = room - 1;
     let value = |s: &mut State, out: &mut O, e: &Typed| -> Result<Value, Stop>
-        ensures did { Does value_seen result (state_seen s.new (O.told out.new)) ((level (code_seen code.entry.now) room).expr (part e.now) (state_seen s.old (O.told out.old))) }
+        ensures did { Does value_seen result (state_seen s.new (O.told out.new))
+            ((level (code_seen code.entry.now) room).expr (part e.now)
+            (state_seen s.old (O.told out.old))) }
     { evaluate(s, out, code, room, e) };
     let statement = |s: &mut State, out: &mut O, t: &Task| -> Result<Flow, Stop>
-        ensures did { Does flow_seen result (state_seen s.new (O.told out.new)) ((level (code_seen code.entry.now) room).stmt (work_of t.now) (state_seen s.old (O.told out.old))) }
+        ensures did { Does flow_seen result (state_seen s.new (O.told out.new))
+            ((level (code_seen code.entry.now) room).stmt (work_of t.now)
+            (state_seen s.old (O.told out.old))) }
     { execute(s, out, code, room, t) };
     let term = |s: &mut State, out: &mut O, e: &Typed| -> Result<InTerm, Stop>
-        ensures did { Does in_term_seen result (state_seen s.new (O.told out.new)) ((level (code_seen code.entry.now) room).term (part e.now) (state_seen s.old (O.told out.old))) }
+        ensures did { Does in_term_seen result (state_seen s.new (O.told out.new))
+            ((level (code_seen code.entry.now) room).term (part e.now)
+            (state_seen s.old (O.told out.old))) }
     { define(s, out, code, room, e) };
     let target = |s: &mut State, out: &mut O, e: &Typed| -> Result<Target, Stop>
-        ensures did { Does target_seen result (state_seen s.new (O.told out.new)) ((level (code_seen code.entry.now) room).target (part e.now) (state_seen s.old (O.told out.old))) }
+        ensures did { Does target_seen result (state_seen s.new (O.told out.new))
+            ((level (code_seen code.entry.now) room).target (part e.now)
+            (state_seen s.old (O.told out.old))) }
     { locate(s, out, code, room, e) };
     let inside = Inside {
         code,
@@ -197,14 +230,20 @@ pub fn run<O: Outside>(
     code: &Code<'_>,
     tasks: &[Task],
 ) -> Result<Flow, Stop>
-    ensures did { Does flow_seen result (state_seen s.new (O.told out.new)) (tasks_form (level (code_seen code.now) most_depth) (map work_of tasks.now) (state_seen s.old (O.told out.old))) }
+    ensures did { Does flow_seen result (state_seen s.new (O.told out.new))
+        (tasks_form (level (code_seen code.now) most_depth) (map work_of tasks.now)
+        (state_seen s.old (O.told out.old))) }
 {
     let room = MOST_DEPTH;
     let value = |s: &mut State, out: &mut O, e: &Typed| -> Result<Value, Stop>
-        ensures did { Does value_seen result (state_seen s.new (O.told out.new)) ((level (code_seen code.entry.now) room).expr (part e.now) (state_seen s.old (O.told out.old))) }
+        ensures did { Does value_seen result (state_seen s.new (O.told out.new))
+            ((level (code_seen code.entry.now) room).expr (part e.now)
+            (state_seen s.old (O.told out.old))) }
     { evaluate(s, out, code, room, e) };
     let statement = |s: &mut State, out: &mut O, t: &Task| -> Result<Flow, Stop>
-        ensures did { Does flow_seen result (state_seen s.new (O.told out.new)) ((level (code_seen code.entry.now) room).stmt (work_of t.now) (state_seen s.old (O.told out.old))) }
+        ensures did { Does flow_seen result (state_seen s.new (O.told out.new))
+            ((level (code_seen code.entry.now) room).stmt (work_of t.now)
+            (state_seen s.old (O.told out.old))) }
     { execute(s, out, code, room, t) };
     let inside = Inside {
         code,

@@ -65,9 +65,12 @@ impl ClaimSeat {
     pub fn claim(&mut self, claims: &Claims) -> Option<u32>
         requires { IsSeatOf claims.now self.old }
         ensures seat { IsSeatOf claims.now self.new × (seats_from self.new ≡ seats_from self.old) }
-        ensures number { IfSome result (λ k. (k < count_of claims.now) × AllLess k (drawn_by self.old) × (drawn_by self.new ≡ drawn_by self.old ++ k ∷ [])) }
-        ensures going { IfSome result (λ _. (is_done self.old ≡ false) × (is_done self.new ≡ false)) }
-        ensures none { IfNone result ((is_done self.new ≡ true) × (drawn_by self.new ≡ drawn_by self.old)) }
+        ensures number { IfSome result (λ k. (k < count_of claims.now) ×
+            AllLess k (drawn_by self.old) × (drawn_by self.new ≡ drawn_by self.old ++ k ∷ [])) }
+        ensures going { IfSome result (λ _. (is_done self.old ≡ false) ×
+            (is_done self.new ≡ false)) }
+        ensures none { IfNone result ((is_done self.new ≡ true) ×
+            (drawn_by self.new ≡ drawn_by self.old)) }
     {
         if self.stopped {
             return None;

@@ -48,7 +48,8 @@ impl Join<View> for Sharing {
 pub struct Claims {
     pub(crate) table: Table<(), View, u32, Drawing, Global>,
     pub(crate) count: u32,
-    ghost one_word: { (table.shared.table_id.words ≡ 1) × (table.shared.table_id.slots ≡ 0) × (table.shared.key ≡ count) },
+    ghost one_word: { (table.shared.table_id.words ≡ 1) × (table.shared.table_id.slots ≡ 0) ×
+        (table.shared.key ≡ count) },
 }
 
 /// Where a thread draws from. It can go to another thread.

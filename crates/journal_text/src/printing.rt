@@ -44,7 +44,8 @@ fn push_field(out: &mut Vec<u8>, number: u64) -> Result<(), NoMemory>
 // Numbers, each behind a comma.
 #[tactic(auto, using(crate::proofs::PrintLaws::rest_more))]
 fn push_rest(out: &mut Vec<u8>, numbers: &[i64]) -> Result<(), NoMemory>
-    ensures { OnOk result (out.new.items ≡ out.old.items ++ flat_map (λ z. 44 ∷ signed_decimal z) numbers.now) }
+    ensures { OnOk result (out.new.items ≡
+        out.old.items ++ flat_map (λ z. 44 ∷ signed_decimal z) numbers.now) }
 {
     for number in numbers {
         push_text(out, ",")?;
@@ -55,7 +56,8 @@ fn push_rest(out: &mut Vec<u8>, numbers: &[i64]) -> Result<(), NoMemory>
 
 #[tactic(auto, using(crate::proofs::PrintLaws::items_text))]
 fn push_items(out: &mut Vec<u8>, numbers: &[i64]) -> Result<(), NoMemory>
-    ensures { OnOk result (out.new.items ≡ out.old.items ++ joined 44 (map signed_decimal numbers.now)) }
+    ensures { OnOk result (out.new.items ≡
+        out.old.items ++ joined 44 (map signed_decimal numbers.now)) }
 {
     match numbers {
         [] => Ok(()),
@@ -87,14 +89,16 @@ fn push_report(out: &mut Vec<u8>, monitor: u32, value: i64, list: &[i64]) -> Res
 
 // A word, and a number.
 fn push_named(out: &mut Vec<u8>, name: &str, number: u64) -> Result<(), NoMemory>
-    ensures { OnOk result (out.new.items ≡ out.old.items ++ joined 32 (name.now ∷ decimal number ∷ [])) }
+    ensures { OnOk result (out.new.items ≡
+        out.old.items ++ joined 32 (name.now ∷ decimal number ∷ [])) }
 {
     push_text(out, name)?;
     push_field(out, number)
 }
 
 fn push_copy(out: &mut Vec<u8>, monitor: u32, room: u64) -> Result<(), NoMemory>
-    ensures { OnOk result (out.new.items ≡ out.old.items ++ joined 32 (codes "copy" ∷ decimal monitor ∷ decimal room ∷ [])) }
+    ensures { OnOk result (out.new.items ≡
+        out.old.items ++ joined 32 (codes "copy" ∷ decimal monitor ∷ decimal room ∷ [])) }
 {
     push_named(out, "copy", u64::from(monitor))?;
     push_field(out, room)
@@ -134,7 +138,8 @@ fn push_reply(out: &mut Vec<u8>, reply: &Reply) -> Result<(), NoMemory>
 // The line of an entry, with a line feed behind it.
 #[tactic(auto, using(crate::proofs::PrintLaws::pushed_entry))]
 fn push_entry(out: &mut Vec<u8>, entry: &Entry<Request, Reply>) -> Result<(), NoMemory>
-    ensures { OnOk result (out.new.items ≡ out.old.items ++ (entry_line version_1 entry.now ++ codes "\n")) }
+    ensures { OnOk result (out.new.items ≡
+        out.old.items ++ (entry_line version_1 entry.now ++ codes "\n")) }
 {
     push_unsigned(out, u64::from(entry.iteration))?;
     push_text(out, " ")?;
@@ -146,7 +151,8 @@ fn push_entry(out: &mut Vec<u8>, entry: &Entry<Request, Reply>) -> Result<(), No
 
 #[tactic(auto, using(crate::proofs::PrintLaws::entries_more))]
 fn push_entries(out: &mut Vec<u8>, entries: &[Entry<Request, Reply>]) -> Result<(), NoMemory>
-    ensures { OnOk result (out.new.items ≡ out.old.items ++ ended (map (entry_line version_1) entries.now)) }
+    ensures { OnOk result (out.new.items ≡
+        out.old.items ++ ended (map (entry_line version_1) entries.now)) }
 {
     for entry in entries {
         push_entry(out, entry)?;
@@ -156,7 +162,8 @@ fn push_entries(out: &mut Vec<u8>, entries: &[Entry<Request, Reply>]) -> Result<
 
 #[tactic(auto, using(crate::proofs::PrintLaws::pushed_loop))]
 fn push_loop(out: &mut Vec<u8>, history: &LoopHistory) -> Result<(), NoMemory>
-    ensures { OnOk result (out.new.items ≡ out.old.items ++ ended (loop_lines version_1 history.now)) }
+    ensures { OnOk result (out.new.items ≡
+        out.old.items ++ ended (loop_lines version_1 history.now)) }
 {
     push_named(out, "loop", u64::from(history.iterations))?;
     push_text(out, "\n")?;
@@ -165,7 +172,8 @@ fn push_loop(out: &mut Vec<u8>, history: &LoopHistory) -> Result<(), NoMemory>
 
 #[tactic(auto, using(crate::proofs::PrintLaws::loops_more))]
 fn push_loops(out: &mut Vec<u8>, loops: &[LoopHistory]) -> Result<(), NoMemory>
-    ensures { OnOk result (out.new.items ≡ out.old.items ++ ended (flat_map (loop_lines version_1) loops.now)) }
+    ensures { OnOk result (out.new.items ≡
+        out.old.items ++ ended (flat_map (loop_lines version_1) loops.now)) }
 {
     for history in loops {
         push_loop(out, history)?;

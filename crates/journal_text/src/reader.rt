@@ -184,7 +184,8 @@ fn read_lines(alloc: Global, text: &[u8]) -> Result<Journal, JournalStop>
 /// together with the end of the text. `NoMemory` where there is none for the journal.
 pub fn read(alloc: Global, text: &[u8]) -> Result<Journal, JournalStop>
     ensures found { IfOk result (λ journal. Spells version_1 text.now journal) }
-    ensures only { (journal : List LoopHistory) → Spells version_1 text.now journal → Reads result (Ok journal) }
+    ensures only { (journal : List LoopHistory) → Spells version_1 text.now journal →
+        Reads result (Ok journal) }
     ensures fault { (line : ℕ) → result ≡ Err (Fault line) → IsFirstFault version_1 text.now line }
 {
     read_lines(alloc, text)

@@ -59,8 +59,11 @@ fn close_all(marks: &mut Vec<Mark>, items: &[u32])
     requires { (i : ℕ) → i < length items.now → slice_index items.now i < length marks.old.items }
     ensures count { length marks.new.items ≡ length marks.old.items }
     ensures work { sum_by weight marks.new.items ≤ sum_by weight marks.old.items }
-    ensures closed { (v : ℕ) → Contains items.now v → slice_index_or marks.new.items v Mark.Untouched ≡ Mark.Closed }
-    ensures others { (v : ℕ) → (Contains items.now v → ⊥) → slice_index_or marks.new.items v Mark.Untouched ≡ slice_index_or marks.old.items v Mark.Untouched }
+    ensures closed { (v : ℕ) → Contains items.now v →
+        slice_index_or marks.new.items v Mark.Untouched ≡ Mark.Closed }
+    ensures others { (v : ℕ) → (Contains items.now v → ⊥) →
+        slice_index_or marks.new.items v Mark.Untouched ≡
+        slice_index_or marks.old.items v Mark.Untouched }
 {
     for item in items {
         marks[*item as usize] = Mark::Closed;
@@ -97,7 +100,8 @@ impl Components {
         requires sound { AreComponents deps.now self.old }
         requires item { item < length deps.now }
         requires untouched { mark_of self.old item ≡ Mark.Untouched }
-        requires leads { (i : ℕ) → i < length self.old.path.items → HasWay deps.now (slice_index self.old.path.items i) item }
+        requires leads { (i : ℕ) → i < length self.old.path.items →
+            HasWay deps.now (slice_index self.old.path.items i) item }
         ensures sound { OnOk result (AreComponents deps.now self.new) }
         ensures work { OnOk result (work self.new < work self.old) }
         ensures touched { OnOk result (KeepsTouched self.old self.new) }
@@ -116,7 +120,8 @@ impl Components {
     fn close(&mut self, deps: &[Vec<u32>], start: usize)
         requires sound { AreComponents deps.now self.old }
         requires start { IsLast self.old.starts.items start }
-        requires done { (i : ℕ) → i < length self.old.trail.items → place_of self.old (slice_index self.old.trail.items i) < start }
+        requires done { (i : ℕ) → i < length self.old.trail.items →
+            place_of self.old (slice_index self.old.trail.items i) < start }
         ensures sound { AreComponents deps.now self.new }
         ensures work { work self.new < work self.old }
         ensures touched { KeepsTouched self.old self.new }

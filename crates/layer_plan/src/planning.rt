@@ -26,7 +26,8 @@ pub fn plan(alloc: Global, deps: &[Vec<u32>]) -> Result<Layers, PlanStop>
     requires items { AreItems deps.now }
     requires few { length deps.now < 2 ^ 32 }
     ensures count { IfOk result (λ layers. length layers ≡ length deps.now) }
-    ensures longest { IfOk result (λ layers. (item : ℕ) → item < length deps.now → IsLongest deps.now item (slice_index layers item)) }
+    ensures longest { IfOk result (λ layers. (item : ℕ) → item < length deps.now →
+        IsLongest deps.now item (slice_index layers item)) }
     ensures no_cycle { OnOk result ((list : List ℕ) → IsCycle deps.now list → ⊥) }
     ensures cycle { IfErr result (λ stop. IsNamedStop deps.now stop) }
 {

@@ -44,7 +44,8 @@ impl Rounds {
         requires uses { DependsOn uses.now (slice_index self.old.queue.items head) user }
         ensures rounds { OnOk result (AreRounds uses.now self.new head) }
         ensures kept { OnOk result (KeepsReached uses.now self.old self.new) }
-        ensures reached { OnOk result (IsReachedFrom (near_of self.new) (length uses.now) (slice_index self.old.queue.items head) user) }
+        ensures reached { OnOk result (IsReachedFrom (near_of self.new) (length uses.now)
+            (slice_index self.old.queue.items head) user) }
     {
         if self.near[user as usize] < uses.len() as u32 {
             return Ok(());
@@ -79,7 +80,8 @@ pub(crate) fn near(alloc: Global, uses: &[Vec<u32>], root: u32) -> Result<Vec<u3
     requires items { AreItems uses.now }
     requires root { root < length uses.now }
     ensures count { IfOk result (λ near. length near.items ≡ length uses.now) }
-    ensures near { IfOk result (λ near. (deps : List (Vec ℕ Heap)) → AreUses deps uses.now → IsNear deps (slice_index near.items) root) }
+    ensures near { IfOk result (λ near. (deps : List (Vec ℕ Heap)) → AreUses deps uses.now →
+        IsNear deps (slice_index near.items) root) }
 {
     let mut rounds = Rounds::new(alloc, uses, root)?;
     let mut head = 0;

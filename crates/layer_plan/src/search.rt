@@ -211,7 +211,8 @@ impl Search {
 /// How long the lists are.
 pub(crate) fn lengths(alloc: Global, deps: &[Vec<u32>]) -> Result<Vec<usize>, NoMemory>
     ensures count { IfOk result (λ v. length v.items ≡ length deps.now) }
-    ensures each { IfOk result (λ v. (item : ℕ) → item < length deps.now → slice_index v.items item ≡ length (list_of deps.now item)) }
+    ensures each { IfOk result (λ v. (item : ℕ) → item < length deps.now →
+        slice_index v.items item ≡ length (list_of deps.now item)) }
 {
     let mut lengths = Vec::with_capacity(alloc, deps.len())?;
     for list in deps {
@@ -225,7 +226,8 @@ pub(crate) fn layers_of(alloc: Global, deps: &[Vec<u32>]) -> Result<Vec<u32>, Se
     requires few { length deps.now < 2 ^ 32 }
     requires items { AreItems deps.now }
     ensures count { IfOk result (λ layers. length layers.items ≡ length deps.now) }
-    ensures longest { IfOk result (λ layers. (item : ℕ) → item < length deps.now → IsLongest deps.now item (slice_index layers.items item)) }
+    ensures longest { IfOk result (λ layers. (item : ℕ) → item < length deps.now →
+        IsLongest deps.now item (slice_index layers.items item)) }
     ensures none { OnOk result ((list : List ℕ) → IsCycle deps.now list → ⊥) }
     ensures stop { IfErr result (λ stop. IsTrueStop deps.now stop) }
 {

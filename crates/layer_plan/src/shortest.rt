@@ -28,7 +28,8 @@ fn nearest(deps: &[Vec<u32>], near: &[u32], item: u32) -> u32
     requires item { item < length deps.now }
     requires some { 0 < length (list_of deps.now item) }
     ensures depends { DependsOn deps.now item result }
-    ensures first { (w : ℕ) → DependsOn deps.now item w → ComesFirst (slice_index near.now) result w }
+    ensures first { (w : ℕ) → DependsOn deps.now item w →
+        ComesFirst (slice_index near.now) result w }
 {
     let mut best = entry(deps, item, 0);
     for place in 1..list_of(deps, item).len() {

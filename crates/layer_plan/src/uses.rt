@@ -33,7 +33,8 @@ fn add_uses(uses: &mut Vec<Vec<u32>>, deps: &[Vec<u32>], item: u32) -> Result<()
     requires items { AreItems deps.now }
     requires count { length uses.old.items ≡ length deps.now }
     requires item { item < length deps.now }
-    ensures { OnOk result (Adds uses.old.items uses.new.items (λ w v. (v ≡ item) × DependsOn deps.now item w)) }
+    ensures { OnOk result (Adds uses.old.items uses.new.items (λ w v. (v ≡ item) ×
+        DependsOn deps.now item w)) }
 {
     for place in 0..list_of(deps, item).len() {
         let next = entry(deps, item, place);

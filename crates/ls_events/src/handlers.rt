@@ -45,7 +45,8 @@ impl Handlers {
 
     /// Adds a handler of a variable behind the others. With `NoMemory` they are as before.
     pub fn add(&mut self, var: VarId, closure: u32) -> Result<(), NoMemory>
-        ensures added { OnOk result (self.new ≡ self.old ++ record { var = var; closure = closure } ∷ []) }
+        ensures added { OnOk result (self.new ≡
+            self.old ++ record { var = var; closure = closure } ∷ []) }
         ensures kept { OnErr result (self.new ≡ self.old) }
     {
         self.handlers.push(Handler { var, closure })?;

@@ -44,7 +44,9 @@ impl Part {
         requires going { self.old.stop ≡ None }
         requires numbers { self.old.first + self.old.count + 1 < 2 ^ 64 }
         requires costs { self.old.cost + scored.cost < 2 ^ 64 }
-        ensures added { OnOk result ((scores : List Scored) → self.old ≡ part_of want self.old.first scores → self.new ≡ part_of want self.old.first (scores ++ scored ∷ [])) }
+        ensures added { OnOk result ((scores : List Scored) →
+            self.old ≡ part_of want self.old.first scores →
+            self.new ≡ part_of want self.old.first (scores ++ scored ∷ [])) }
         ensures scanned { OnOk result (IsOneMore want self.old scored self.new) }
         ensures kept { OnErr result (self.new ≡ self.old) }
     {

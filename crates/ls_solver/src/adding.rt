@@ -55,10 +55,12 @@ impl<U: LocalConstraint> Solver<U> {
     /// The constraint must be a number, as its violations are, and hold no user's constraint.
     pub fn post(&mut self, s: SystemId, c: Term, weight: i64) -> Result<(), SolverFault>
         requires usable { self.old.usable ≡ true }
-        requires kind { is_own_member self.old (of_system s) c ≡ true → kind_of_term (kinds_in self.old.model.vars.items) c ≡ Some number_kind }
+        requires kind { is_own_member self.old (of_system s) c ≡ true →
+            kind_of_term (kinds_in self.old.model.vars.items) c ≡ Some number_kind }
         requires users { users_of c ≡ [] }
         ensures answer { Answers (member_refusal self.old (of_system s) c weight) result }
-        ensures added { OnOk result (Adds self.old self.new (of_system s) (record { term = c; weight = weight })) }
+        ensures added { OnOk result (Adds self.old self.new (of_system s)
+            (record { term = c; weight = weight })) }
         ensures kept { OnErr result (IsUnchanged self.old self.new) }
     {
         self.add_member(TotalId::of_system(s), Member { term: c, weight })
@@ -69,10 +71,12 @@ impl<U: LocalConstraint> Solver<U> {
     /// The term must be a number, and hold no user's constraint.
     pub fn add_to(&mut self, f: ObjectiveId, term: Term, weight: i64) -> Result<(), SolverFault>
         requires usable { self.old.usable ≡ true }
-        requires kind { is_own_member self.old (of_objective f) term ≡ true → kind_of_term (kinds_in self.old.model.vars.items) term ≡ Some number_kind }
+        requires kind { is_own_member self.old (of_objective f) term ≡ true →
+            kind_of_term (kinds_in self.old.model.vars.items) term ≡ Some number_kind }
         requires users { users_of term ≡ [] }
         ensures answer { Answers (member_refusal self.old (of_objective f) term weight) result }
-        ensures added { OnOk result (Adds self.old self.new (of_objective f) (record { term = term; weight = weight })) }
+        ensures added { OnOk result (Adds self.old self.new (of_objective f)
+            (record { term = term; weight = weight })) }
         ensures kept { OnErr result (IsUnchanged self.old self.new) }
     {
         self.add_member(TotalId::of_objective(f), Member { term, weight })
@@ -81,7 +85,8 @@ impl<U: LocalConstraint> Solver<U> {
     /// The same of either.
     pub fn add_member(&mut self, k: TotalId, member: Member) -> Result<(), SolverFault>
         requires usable { self.old.usable ≡ true }
-        requires kind { is_own_member self.old k member.term ≡ true → kind_of_term (kinds_in self.old.model.vars.items) member.term ≡ Some number_kind }
+        requires kind { is_own_member self.old k member.term ≡ true →
+            kind_of_term (kinds_in self.old.model.vars.items) member.term ≡ Some number_kind }
         requires users { users_of member.term ≡ [] }
         ensures answer { Answers (member_refusal self.old k member.term member.weight) result }
         ensures added { OnOk result (Adds self.old self.new k member) }
@@ -101,7 +106,8 @@ impl<U: LocalConstraint> Solver<U> {
         requires usable { self.old.usable ≡ true }
         requires early { early_member_refusal self.old k member.term member.weight ≡ None }
         requires shallow { is_too_deep member.term ≡ false }
-        requires kind { kind_of_term (kinds_in self.old.model.vars.items) member.term ≡ Some number_kind }
+        requires kind { kind_of_term (kinds_in self.old.model.vars.items) member.term ≡
+            Some number_kind }
         requires users { users_of member.term ≡ [] }
         ensures answer { Answers (size_refusal self.old.model member.term) result }
         ensures added { OnOk result (Adds self.old self.new k member) }
@@ -124,9 +130,11 @@ impl<U: LocalConstraint> Solver<U> {
         requires usable { self.old.usable ≡ true }
         requires early { early_member_refusal self.old k member.term member.weight ≡ None }
         requires shallow { is_too_deep member.term ≡ false }
-        requires kind { kind_of_term (kinds_in self.old.model.vars.items) member.term ≡ Some number_kind }
+        requires kind { kind_of_term (kinds_in self.old.model.vars.items) member.term ≡
+            Some number_kind }
         requires users { users_of member.term ≡ [] }
-        requires counted { Counts counted (distinct_with (distinct_subterms self.old.model) member.term) }
+        requires counted { Counts counted
+            (distinct_with (distinct_subterms self.old.model) member.term) }
         ensures answer { Answers (size_refusal self.old.model member.term) result }
         ensures added { OnOk result (Adds self.old self.new k member) }
         ensures kept { OnErr result (IsUnchanged self.old self.new) }
@@ -147,9 +155,11 @@ impl<U: LocalConstraint> Solver<U> {
         requires usable { self.old.usable ≡ true }
         requires early { early_member_refusal self.old k member.term member.weight ≡ None }
         requires shallow { is_too_deep member.term ≡ false }
-        requires kind { kind_of_term (kinds_in self.old.model.vars.items) member.term ≡ Some number_kind }
+        requires kind { kind_of_term (kinds_in self.old.model.vars.items) member.term ≡
+            Some number_kind }
         requires users { users_of member.term ≡ [] }
-        requires counted { Counts counted (distinct_with (distinct_subterms self.old.model) member.term) }
+        requires counted { Counts counted
+            (distinct_with (distinct_subterms self.old.model) member.term) }
         ensures answer { Answers None result }
         ensures added { OnOk result (Adds self.old self.new k member) }
         ensures kept { OnErr result (IsUnchanged self.old self.new) }

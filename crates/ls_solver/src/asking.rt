@@ -30,7 +30,8 @@ impl<U: LocalConstraint> Solver<U> {
     /// The kind of a term that is no deeper than the limit, exactly where it is well kinded.
     pub fn kind_of(&self, term: &Term) -> Result<Option<VarKind>, NoMemory>
         requires { depth_of term.now ≤ MAX_TERM_DEPTH }
-        ensures { IfOk result (λ kind. option_map kind_of_var kind ≡ kind_of_term (kinds_in self.now.model.vars.items) term.now) }
+        ensures { IfOk result (λ kind. option_map kind_of_var kind ≡
+            kind_of_term (kinds_in self.now.model.vars.items) term.now) }
     {
         term_kind(self.alloc, &self.model.vars, term)
     }
@@ -38,7 +39,9 @@ impl<U: LocalConstraint> Solver<U> {
     /// Whether a term is of the kind of a variable, and holds no user's constraint, as `define` needs. That it says so
     /// wherever both hold is shown by tests alone.
     pub fn fits(&self, x: VarId, term: &Term) -> Result<bool, NoMemory>
-        ensures kind { IfOk result (λ fits. OnTrue fits (kind_of_term (kinds_in self.now.model.vars.items) term.now ≡ kinds_in self.now.model.vars.items x.index)) }
+        ensures kind { IfOk result (λ fits.
+            OnTrue fits (kind_of_term (kinds_in self.now.model.vars.items) term.now ≡
+            kinds_in self.now.model.vars.items x.index)) }
         ensures users { IfOk result (λ fits. OnTrue fits (users_of term.now ≡ [])) }
     {
         if holds_user(self.alloc, term)? {
@@ -50,7 +53,9 @@ impl<U: LocalConstraint> Solver<U> {
     /// Whether a term is a number, and holds no user's constraint, as `post` and `add_to` need. That it says so wherever both
     /// hold is shown by tests alone.
     pub fn is_number(&self, term: &Term) -> Result<bool, NoMemory>
-        ensures kind { IfOk result (λ is. OnTrue is (kind_of_term (kinds_in self.now.model.vars.items) term.now ≡ Some number_kind)) }
+        ensures kind { IfOk result (λ is.
+            OnTrue is (kind_of_term (kinds_in self.now.model.vars.items) term.now ≡
+            Some number_kind)) }
         ensures users { IfOk result (λ is. OnTrue is (users_of term.now ≡ [])) }
     {
         if holds_user(self.alloc, term)? {

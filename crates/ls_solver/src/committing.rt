@@ -43,7 +43,9 @@ impl<U: LocalConstraint> Solver<U> {
     ) -> Result<Vec<VarChange>, SolverFault>
         requires usable { self.old.usable ≡ true }
         requires distinct { AreDistinct moves.now }
-        requires kinds { (k : ℕ) (m : VarId × ℤ) → slice_get moves.now k ≡ Some m → is_own self.old m.0 ≡ true → kinds_in self.old.model.vars.items m.0.index ≡ Some number_kind }
+        requires kinds { (k : ℕ) (m : VarId × ℤ) → slice_get moves.now k ≡ Some m →
+            is_own self.old m.0 ≡ true → kinds_in self.old.model.vars.items m.0.index ≡
+            Some number_kind }
         ensures { Commits self.old moves.now self.new result }
     {
         self.commit_uncounted(moves)
@@ -56,7 +58,9 @@ impl<U: LocalConstraint> Solver<U> {
     ) -> Result<Vec<VarChange>, SolverFault>
         requires usable { self.old.usable ≡ true }
         requires distinct { AreDistinct moves.now }
-        requires kinds { (k : ℕ) (m : VarId × ℤ) → slice_get moves.now k ≡ Some m → is_own self.old m.0 ≡ true → kinds_in self.old.model.vars.items m.0.index ≡ Some number_kind }
+        requires kinds { (k : ℕ) (m : VarId × ℤ) → slice_get moves.now k ≡ Some m →
+            is_own self.old m.0 ≡ true → kinds_in self.old.model.vars.items m.0.index ≡
+            Some number_kind }
         ensures { Commits self.old moves.now self.new result }
     {
         match self.commit_refusal(moves) {

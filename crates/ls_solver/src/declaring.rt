@@ -71,7 +71,8 @@ impl<U: LocalConstraint> Solver<U> {
         requires { self.old.usable ≡ true }
         ensures answer { Answers (variable_refusal self.old) result }
         ensures id { IfOk result (λ x. x ≡ id_at self.old (length self.old.model.vars.items)) }
-        ensures declared { OnOk result (Declares self.old self.new (record { kind = Number; low = low; up = up }) start) }
+        ensures declared { OnOk result (Declares self.old self.new
+            (record { kind = Number; low = low; up = up }) start) }
         ensures kept { OnErr result (IsUnchanged self.old self.new) }
     {
         let decl = VarDecl {
@@ -88,7 +89,8 @@ impl<U: LocalConstraint> Solver<U> {
         requires { self.old.usable ≡ true }
         ensures answer { Answers (variable_refusal self.old) result }
         ensures id { IfOk result (λ x. x ≡ id_at self.old (length self.old.model.vars.items)) }
-        ensures declared { OnOk result (Declares self.old self.new (record { kind = Set; low = pos 0; up = pos 0 }) (pos 0)) }
+        ensures declared { OnOk result (Declares self.old self.new
+            (record { kind = Set; low = pos 0; up = pos 0 }) (pos 0)) }
         ensures kept { OnErr result (IsUnchanged self.old self.new) }
     {
         let decl = VarDecl {

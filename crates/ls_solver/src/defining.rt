@@ -43,10 +43,13 @@ impl<U: LocalConstraint> Solver<U> {
     /// The term must be of the variable's kind, and hold no user's constraint.
     pub fn define(&mut self, x: VarId, term: Term) -> Result<(), SolverFault>
         requires usable { self.old.usable ≡ true }
-        requires kind { is_own_definition self.old x term ≡ true → kind_of_term (kinds_in self.old.model.vars.items) term ≡ kinds_in self.old.model.vars.items x.index }
+        requires kind { is_own_definition self.old x term ≡ true →
+            kind_of_term (kinds_in self.old.model.vars.items) term ≡
+            kinds_in self.old.model.vars.items x.index }
         requires users { users_of term ≡ [] }
         ensures answer { Answers (define_refusal self.old x term) result }
-        ensures defined { OnOk result (Defines self.old self.new (record { var = x; term = term })) }
+        ensures defined { OnOk result (Defines self.old self.new
+            (record { var = x; term = term })) }
         ensures kept { OnErr result (IsUnchanged self.old self.new) }
     {
         if let Some(fault) = self.early_refusal(x, &term) {
@@ -63,7 +66,8 @@ impl<U: LocalConstraint> Solver<U> {
         requires usable { self.old.usable ≡ true }
         requires early { early_refusal self.old definition.var definition.term ≡ None }
         requires shallow { is_too_deep definition.term ≡ false }
-        requires kind { kind_of_term (kinds_in self.old.model.vars.items) definition.term ≡ kinds_in self.old.model.vars.items definition.var.index }
+        requires kind { kind_of_term (kinds_in self.old.model.vars.items) definition.term ≡
+            kinds_in self.old.model.vars.items definition.var.index }
         requires users { users_of definition.term ≡ [] }
         ensures answer { Answers (size_refusal self.old.model definition.term) result }
         ensures defined { OnOk result (Defines self.old self.new definition) }
@@ -85,9 +89,11 @@ impl<U: LocalConstraint> Solver<U> {
         requires usable { self.old.usable ≡ true }
         requires early { early_refusal self.old definition.var definition.term ≡ None }
         requires shallow { is_too_deep definition.term ≡ false }
-        requires kind { kind_of_term (kinds_in self.old.model.vars.items) definition.term ≡ kinds_in self.old.model.vars.items definition.var.index }
+        requires kind { kind_of_term (kinds_in self.old.model.vars.items) definition.term ≡
+            kinds_in self.old.model.vars.items definition.var.index }
         requires users { users_of definition.term ≡ [] }
-        requires counted { Counts counted (distinct_with (distinct_subterms self.old.model) definition.term) }
+        requires counted { Counts counted
+            (distinct_with (distinct_subterms self.old.model) definition.term) }
         ensures answer { Answers (size_refusal self.old.model definition.term) result }
         ensures defined { OnOk result (Defines self.old self.new definition) }
         ensures kept { OnErr result (IsUnchanged self.old self.new) }
@@ -107,9 +113,11 @@ impl<U: LocalConstraint> Solver<U> {
         requires usable { self.old.usable ≡ true }
         requires early { early_refusal self.old definition.var definition.term ≡ None }
         requires shallow { is_too_deep definition.term ≡ false }
-        requires kind { kind_of_term (kinds_in self.old.model.vars.items) definition.term ≡ kinds_in self.old.model.vars.items definition.var.index }
+        requires kind { kind_of_term (kinds_in self.old.model.vars.items) definition.term ≡
+            kinds_in self.old.model.vars.items definition.var.index }
         requires users { users_of definition.term ≡ [] }
-        requires counted { Counts counted (distinct_with (distinct_subterms self.old.model) definition.term) }
+        requires counted { Counts counted
+            (distinct_with (distinct_subterms self.old.model) definition.term) }
         ensures answer { Answers None result }
         ensures defined { OnOk result (Defines self.old self.new definition) }
         ensures kept { OnErr result (IsUnchanged self.old self.new) }

@@ -64,8 +64,11 @@ impl<U: LocalConstraint> Solver<U> {
         requires usable { self.old.usable ≡ true }
         requires kinds { is_own_member self.old (of_system s) (user_term (length self.old.rules) places) ≡ true → All (λ t. kind_of_term (kinds_in self.old.model.vars.items) t ≡ Some number_kind) places.items }
         requires users { All (λ t. users_of t ≡ []) places.items }
-        ensures answer { AnswersBack (member_refusal self.old (of_system s) (user_term (length self.old.rules) places) weight) result }
-        ensures posted { OnOk result (AddsUser self.old self.new (of_system s) (record { term = user_term (length self.old.rules) places; weight = weight }) (kept (U.user_rule user))) }
+        ensures answer { AnswersBack (member_refusal self.old (of_system s)
+            (user_term (length self.old.rules) places) weight) result }
+        ensures posted { OnOk result (AddsUser self.old self.new (of_system s)
+            (record { term = user_term (length self.old.rules) places; weight = weight })
+            (kept (U.user_rule user))) }
         ensures kept { OnErr result (IsUnchanged self.old self.new) }
         ensures rule { IfErr result (λ back. U.user_rule back.1 ≡ U.user_rule user) }
         ensures name { IfErr result (λ back. U.user_name back.1 ≡ U.user_name user) }
@@ -87,10 +90,12 @@ impl<U: LocalConstraint> Solver<U> {
         member: Member,
     ) -> Result<(), (SolverFault, U)>
         requires usable { self.old.usable ≡ true }
-        requires kind { is_own_member self.old k member.term ≡ true → kind_of_term (kinds_in self.old.model.vars.items) member.term ≡ Some number_kind }
+        requires kind { is_own_member self.old k member.term ≡ true →
+            kind_of_term (kinds_in self.old.model.vars.items) member.term ≡ Some number_kind }
         requires users { users_of member.term ≡ length self.old.rules ∷ [] }
         ensures answer { AnswersBack (member_refusal self.old k member.term member.weight) result }
-        ensures posted { OnOk result (AddsUser self.old self.new k member (kept (U.user_rule user))) }
+        ensures posted { OnOk result (AddsUser self.old self.new k member
+            (kept (U.user_rule user))) }
         ensures kept { OnErr result (IsUnchanged self.old self.new) }
         ensures rule { IfErr result (λ back. U.user_rule back.1 ≡ U.user_rule user) }
         ensures name { IfErr result (λ back. U.user_name back.1 ≡ U.user_name user) }
@@ -107,7 +112,8 @@ impl<U: LocalConstraint> Solver<U> {
         ensures same { self.new ≡ self.old }
         ensures early { OnOk result (early_member_refusal self.old k term.now weight ≡ None) }
         ensures shallow { OnOk result (is_too_deep term.now ≡ false) }
-        ensures counted { IfOk result (λ counted. Counts counted (distinct_with (distinct_subterms self.old.model) term.now)) }
+        ensures counted { IfOk result (λ counted.
+            Counts counted (distinct_with (distinct_subterms self.old.model) term.now)) }
     {
         if let Some(fault) = self.early_member_refusal(k, term, weight) {
             return Err(SolverFault::Run(fault));
@@ -127,7 +133,8 @@ impl<U: LocalConstraint> Solver<U> {
     /// The distinct subterms with a term.
     fn count_with(&mut self, term: &Term) -> Result<Subterms, NoMemory>
         ensures same { self.new ≡ self.old }
-        ensures counted { IfOk result (λ counted. Counts counted (distinct_with (distinct_subterms self.old.model) term.now)) }
+        ensures counted { IfOk result (λ counted.
+            Counts counted (distinct_with (distinct_subterms self.old.model) term.now)) }
     {
         let kept = mem::replace(&mut self.terms, None);
         counted_with(self.alloc, kept, &self.model, term)
@@ -145,11 +152,14 @@ impl<U: LocalConstraint> Solver<U> {
         requires usable { self.old.usable ≡ true }
         requires early { early_member_refusal self.old k member.term member.weight ≡ None }
         requires shallow { is_too_deep member.term ≡ false }
-        requires kind { kind_of_term (kinds_in self.old.model.vars.items) member.term ≡ Some number_kind }
+        requires kind { kind_of_term (kinds_in self.old.model.vars.items) member.term ≡
+            Some number_kind }
         requires users { users_of member.term ≡ length self.old.rules ∷ [] }
-        requires counted { Counts counted (distinct_with (distinct_subterms self.old.model) member.term) }
+        requires counted { Counts counted
+            (distinct_with (distinct_subterms self.old.model) member.term) }
         ensures answer { AnswersBack None result }
-        ensures posted { OnOk result (AddsUser self.old self.new k member (kept (U.user_rule user))) }
+        ensures posted { OnOk result (AddsUser self.old self.new k member
+            (kept (U.user_rule user))) }
         ensures kept { OnErr result (IsUnchanged self.old self.new) }
         ensures rule { IfErr result (λ back. U.user_rule back.1 ≡ U.user_rule user) }
         ensures name { IfErr result (λ back. U.user_name back.1 ≡ U.user_name user) }

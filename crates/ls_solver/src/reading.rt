@@ -47,7 +47,8 @@ impl<U: LocalConstraint> Solver<U> {
     /// has a definition, and then with `WrongSolver` where it isn't this solver's. It never wants memory.
     pub fn value(&self, x: VarId) -> Result<i64, SolverFault>
         requires usable { self.now.usable ≡ true }
-        requires kind { is_own self.now x ≡ true → kinds_in self.now.model.vars.items x.index ≡ Some number_kind }
+        requires kind { is_own self.now x ≡ true →
+            kinds_in self.now.model.vars.items x.index ≡ Some number_kind }
         ensures answer { Tells (value_refusal self.now x) result }
         ensures value { IfOk result (λ v. fresh_value self.now x.index ≡ Some (Int v)) }
     {
@@ -60,7 +61,8 @@ impl<U: LocalConstraint> Solver<U> {
     /// The value of a whole-number variable that may be read.
     fn number_at(&self, x: VarId) -> i64
         requires usable { self.now.usable ≡ true }
-        requires kind { is_own self.now x ≡ true → kinds_in self.now.model.vars.items x.index ≡ Some number_kind }
+        requires kind { is_own self.now x ≡ true →
+            kinds_in self.now.model.vars.items x.index ≡ Some number_kind }
         requires readable { value_refusal self.now x ≡ None }
         ensures { fresh_value self.now x.index ≡ Some (Int result) }
     {
@@ -88,7 +90,8 @@ impl<U: LocalConstraint> Solver<U> {
     /// where the variable isn't this solver's. It never wants memory.
     pub fn set_value(&self, x: VarId) -> Result<&IntSet, SolverFault>
         requires usable { self.now.usable ≡ true }
-        requires kind { is_own self.now x ≡ true → kinds_in self.now.model.vars.items x.index ≡ Some set_kind }
+        requires kind { is_own self.now x ≡ true →
+            kinds_in self.now.model.vars.items x.index ≡ Some set_kind }
         ensures answer { Tells (set_refusal self.now x) result }
         ensures value { IfOk result (λ set. fresh_value self.now x.index ≡ Some (Set set.now)) }
     {
@@ -103,7 +106,9 @@ impl<U: LocalConstraint> Solver<U> {
     pub fn domain(&self, x: VarId) -> Result<(i64, i64), SolverFault>
         requires usable { self.now.usable ≡ true }
         ensures answer { Tells (domain_refusal self.now x) result }
-        ensures domain { IfOk result (λ d. option_map (λ decl. (decl.low, decl.up)) (slice_get self.now.model.vars.items x.index) ≡ Some d) }
+        ensures domain { IfOk result (λ d.
+            option_map (λ decl. (decl.low, decl.up)) (slice_get self.now.model.vars.items x.index) ≡
+            Some d) }
     {
         if !self.owns(x) {
             return Err(SolverFault::Run(RunFault::WrongSolver));

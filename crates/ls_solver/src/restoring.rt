@@ -100,7 +100,8 @@ impl<U: LocalConstraint> Solver<U> {
         requires usable { self.old.usable ≡ true }
         requires closed { self.old.closed ≡ true }
         ensures commits { Commits self.old (moves_to self.old values.now) self.new result }
-        ensures values { OnOk result (length values.now ≡ length (free_places self.old.model) → free_values self.new ≡ values.now) }
+        ensures values { OnOk result (length values.now ≡ length (free_places self.old.model) →
+            free_values self.new ≡ values.now) }
     {
         match free_moves(self.alloc, self.number, &self.marks, values) {
             Ok(moves) => self.commit_own(&moves),

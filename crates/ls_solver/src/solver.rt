@@ -47,7 +47,8 @@ impl<U: LocalConstraint> Model for Solver<U> {
 
     ghost view = { λ a. record { number = a.number; model = a.model; assignment = a.assignment.items; rules = rules_of a.users.posted.items; closed = a.closed; usable = a.usable } };
 
-    ghost invariant = { λ a. IsKept a.model a.assignment.items a.marks.items (rules_of a.users.posted.items) a.terms (seen_values a.values) a.closed a.usable };
+    ghost invariant = { λ a. IsKept a.model a.assignment.items a.marks.items
+        (rules_of a.users.posted.items) a.terms (seen_values a.values) a.closed a.usable };
 }
 
 /// The solver whose users' constraints come in boxes.

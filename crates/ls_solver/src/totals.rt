@@ -27,7 +27,8 @@ impl<U: LocalConstraint> Solver<U> {
     pub fn new_system(&mut self, place: Place) -> Result<SystemId, SolverFault>
         requires { self.old.usable ≡ true }
         ensures answer { Answers (total_refusal self.old) result }
-        ensures id { IfOk result (λ s. of_system s ≡ total_at self.old Systems (length self.old.model.systems.items)) }
+        ensures id { IfOk result (λ s. of_system s ≡
+            total_at self.old Systems (length self.old.model.systems.items)) }
         ensures made { OnOk result (MakesTotal self.old self.new Systems place) }
         ensures kept { OnErr result (IsUnchanged self.old self.new) }
     {
@@ -42,7 +43,8 @@ impl<U: LocalConstraint> Solver<U> {
     pub fn new_objective(&mut self, place: Place) -> Result<ObjectiveId, SolverFault>
         requires { self.old.usable ≡ true }
         ensures answer { Answers (total_refusal self.old) result }
-        ensures id { IfOk result (λ f. of_objective f ≡ total_at self.old Objectives (length self.old.model.objectives.items)) }
+        ensures id { IfOk result (λ f. of_objective f ≡
+            total_at self.old Objectives (length self.old.model.objectives.items)) }
         ensures made { OnOk result (MakesTotal self.old self.new Objectives place) }
         ensures kept { OnErr result (IsUnchanged self.old self.new) }
     {

@@ -11,7 +11,8 @@ ghost use Rattle.main_constraints.specs.WholeRule.{capped};
 pub fn all_equal_law()
     ensures holds { (xs : List ℤ) → (all_equal.viol_of xs ≡ 0) ↔ AllPairs ◌≡◌ xs }
     ensures fewest { (xs : List ℤ) (v : ℤ) → all_equal.viol_of xs ≤ length xs - count_of v xs }
-    ensures reached { (xs : List ℤ) → (v : ℤ) × (all_equal.viol_of xs ≡ capped (length xs - count_of v xs)) }
+    ensures reached { (xs : List ℤ) → (v : ℤ) ×
+        (all_equal.viol_of xs ≡ capped (length xs - count_of v xs)) }
 {}
 
 /// `increasing` has 0 violations exactly where no number is below an earlier one.
@@ -23,7 +24,8 @@ pub fn increasing_law()
 pub fn all_equal_values()
     ensures none { all_equal.viol_of [] ≡ 0 }
     ensures two_of_three { all_equal.viol_of (pos 2 ∷ pos 2 ∷ pos 5 ∷ []) ≡ 1 }
-    ensures three_of_six { all_equal.viol_of (pos 2 ∷ pos 5 ∷ pos 2 ∷ pos 7 ∷ pos 5 ∷ pos 2 ∷ []) ≡ 3 }
+    ensures three_of_six { all_equal.viol_of (pos 2 ∷ pos 5 ∷ pos 2 ∷ pos 7 ∷ pos 5 ∷ pos 2 ∷ []) ≡
+        3 }
     ensures at_a_place { all_equal.viol_at (pos 2 ∷ pos 2 ∷ pos 5 ∷ []) 0 ≡ 1 }
 {}
 

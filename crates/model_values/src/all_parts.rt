@@ -39,7 +39,8 @@ fn add_to_parts<U: UserValues>(
     posted: Posted,
 ) -> Result<(), NoMemory>
     requires well_formed { IsWellFormed setting.now.model.now }
-    requires kinds { HasKinds (kinds_in setting.now.model.now.vars.items) (env_of setting.now.cells.now) }
+    requires kinds { HasKinds (kinds_in setting.now.model.now.vars.items)
+        (env_of setting.now.cells.now) }
     requires weighed { AreWeighed parts.old.items }
     ensures parts { OnOk result ((so_far : List Posted) →
         AreParts (user_rules (U.viol_of setting.now.users.now) (U.viol_at setting.now.users.now)) (env_of setting.now.cells.now) setting.now.model.now side so_far (all_seen parts.old.items) →
@@ -78,7 +79,8 @@ fn all_parts<U: UserValues>(
     side: Side,
 ) -> Result<Vec<PartsHeld>, NoMemory>
     requires well_formed { IsWellFormed setting.now.model.now }
-    requires kinds { HasKinds (kinds_in setting.now.model.now.vars.items) (env_of setting.now.cells.now) }
+    requires kinds { HasKinds (kinds_in setting.now.model.now.vars.items)
+        (env_of setting.now.cells.now) }
     ensures parts { IfOk result (λ v. AreParts (user_rules (U.viol_of setting.now.users.now) (U.viol_at setting.now.users.now)) (env_of setting.now.cells.now) setting.now.model.now side setting.now.model.now.posted.items (all_seen v.items)) }
     ensures weighed { IfOk result (λ v. AreWeighed v.items) }
 {
@@ -97,7 +99,8 @@ fn first_of(
     sums: Result<Vec<i64>, Failure>,
     sum: Sum,
 ) -> Result<Result<Vec<i64>, Failure>, NoMemory>
-    ensures { IfOk result (λ r. listed_sums (Some r) ≡ gather_sum (listed_sums (Some sums)) (Some sum)) }
+    ensures { IfOk result (λ r. listed_sums (Some r) ≡
+        gather_sum (listed_sums (Some sums)) (Some sum)) }
 {
     match (sums, sum) {
         (Ok(mut sums), Ok(sum)) => {
@@ -144,7 +147,8 @@ fn add_sum<U: UserValues>(
 #[tactic(auto, using(crate::proofs::TotalSteps::sums_all))]
 pub(crate) fn sums_in<U: UserValues>(setting: &Setting<'_, U>, side: Side) -> Result<Sums, NoMemory>
     requires well_formed { IsWellFormed setting.now.model.now }
-    requires kinds { HasKinds (kinds_in setting.now.model.now.vars.items) (env_of setting.now.cells.now) }
+    requires kinds { HasKinds (kinds_in setting.now.model.now.vars.items)
+        (env_of setting.now.cells.now) }
     ensures { IfOk result (λ r. listed_sums r ≡ fresh_sums (user_rules (U.viol_of setting.now.users.now) (U.viol_at setting.now.users.now)) setting.now.model.now (env_of setting.now.cells.now) side) }
 {
     let totals = totals_by(setting.model, side);

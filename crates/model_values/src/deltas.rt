@@ -40,8 +40,10 @@ pub fn whole_outcome<U: UserValues>(
     requires same { tables.now.model.now ≡ setting.now.model.now }
     requires well_formed { IsWellFormed setting.now.model.now }
     requires acyclic { IsAcyclic setting.now.model.now }
-    requires tables { AreTables tables.now.model.now tables.now.definitions.items (map (λ names. names.items) tables.now.named.items) }
-    requires kinds { HasKinds (kinds_in setting.now.model.now.vars.items) (env_of setting.now.cells.now) }
+    requires tables { AreTables tables.now.model.now tables.now.definitions.items
+        (map (λ names. names.items) tables.now.named.items) }
+    requires kinds { HasKinds (kinds_in setting.now.model.now.vars.items)
+        (env_of setting.now.cells.now) }
     ensures { IfOk result (λ o. o ≡ outcome_of_whole (user_rules (U.viol_of setting.now.users.now) (U.viol_at setting.now.users.now)) setting.now.model.now (env_of setting.now.cells.now) whole place) }
 {
     match sum_in(setting, whole, place)? {
@@ -164,7 +166,8 @@ pub fn delta<U: UserValues>(
     requires assigned { length assignment.now ≡ length model.now.vars.items }
     requires whole { IsOf model.now whole }
     requires own { AreOwn model.now change }
-    ensures { IsAnswer (delta_of (user_rules (U.viol_of users.now) (U.viol_at users.now)) model.now assignment.now whole change) result }
+    ensures { IsAnswer (delta_of (user_rules (U.viol_of users.now)
+        (U.viol_at users.now)) model.now assignment.now whole change) result }
 {
     if moves_defined(alloc, model, change)? {
         return Err(AskStop::Run(RunFault::DefinedVariable));

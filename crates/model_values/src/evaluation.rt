@@ -98,10 +98,15 @@ pub fn evaluate<'a, U: UserValues>(
     term: &'a Term,
     failing: &mut Vec<Failing<'a>>,
 ) -> Result<Outcome, NoMemory>
-    requires kinds { HasKinds (kinds_in setting.now.model.now.vars.items) (env_of setting.now.cells.now) }
-    requires well_kinded { IsSome (kind_of_term (kinds_in setting.now.model.now.vars.items) term.now) }
-    ensures outcome { IfOk result (λ o. o ≡ outcome_of (user_rules (U.viol_of setting.now.users.now) (U.viol_at setting.now.users.now)) (env_of setting.now.cells.now) term.now) }
-    ensures kind { IfOk result (λ o. IfSome o (λ x. kind_of_term (kinds_in setting.now.model.now.vars.items) term.now ≡ Some (kind_of x))) }
+    requires kinds { HasKinds (kinds_in setting.now.model.now.vars.items)
+        (env_of setting.now.cells.now) }
+    requires well_kinded { IsSome (kind_of_term
+        (kinds_in setting.now.model.now.vars.items) term.now) }
+    ensures outcome { IfOk result (λ o.
+        o ≡ outcome_of (user_rules (U.viol_of setting.now.users.now)
+        (U.viol_at setting.now.users.now)) (env_of setting.now.cells.now) term.now) }
+    ensures kind { IfOk result (λ o. IfSome o (λ x.
+        kind_of_term (kinds_in setting.now.model.now.vars.items) term.now ≡ Some (kind_of x))) }
     ensures failing { IfOk result (λ _. (before : List Term) → AreFailing (user_rules (U.viol_of setting.now.users.now) (U.viol_at setting.now.users.now)) (env_of setting.now.cells.now) failing.old.items before →
         AreFailing (user_rules (U.viol_of setting.now.users.now) (U.viol_at setting.now.users.now)) (env_of setting.now.cells.now) failing.new.items (before ++ filter (fails (user_rules (U.viol_of setting.now.users.now) (U.viol_at setting.now.users.now)) (env_of setting.now.cells.now)) (subterms term.now))) }
 {
@@ -136,10 +141,15 @@ pub fn term_outcome<U: UserValues>(
     setting: &Setting<'_, U>,
     term: &Term,
 ) -> Result<Outcome, NoMemory>
-    requires kinds { HasKinds (kinds_in setting.now.model.now.vars.items) (env_of setting.now.cells.now) }
-    requires well_kinded { IsSome (kind_of_term (kinds_in setting.now.model.now.vars.items) term.now) }
-    ensures outcome { IfOk result (λ o. o ≡ outcome_of (user_rules (U.viol_of setting.now.users.now) (U.viol_at setting.now.users.now)) (env_of setting.now.cells.now) term.now) }
-    ensures kind { IfOk result (λ o. IfSome o (λ x. kind_of_term (kinds_in setting.now.model.now.vars.items) term.now ≡ Some (kind_of x))) }
+    requires kinds { HasKinds (kinds_in setting.now.model.now.vars.items)
+        (env_of setting.now.cells.now) }
+    requires well_kinded { IsSome (kind_of_term
+        (kinds_in setting.now.model.now.vars.items) term.now) }
+    ensures outcome { IfOk result (λ o.
+        o ≡ outcome_of (user_rules (U.viol_of setting.now.users.now)
+        (U.viol_at setting.now.users.now)) (env_of setting.now.cells.now) term.now) }
+    ensures kind { IfOk result (λ o. IfSome o (λ x.
+        kind_of_term (kinds_in setting.now.model.now.vars.items) term.now ≡ Some (kind_of x))) }
 {
     let mut failing = Vec::new(setting.alloc);
     let outcome = evaluate(setting, term, &mut failing)?;

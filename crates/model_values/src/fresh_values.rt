@@ -36,7 +36,8 @@ fn totals_joined(
     systems: Result<Vec<i64>, Failure>,
     objectives: Result<Vec<i64>, Failure>,
 ) -> Result<Values, Failure>
-    ensures { Some (seen_fresh result) ≡ all_joined (Some vars.items) (listed_sums (Some systems)) (listed_sums (Some objectives)) }
+    ensures { Some (seen_fresh result) ≡
+        all_joined (Some vars.items) (listed_sums (Some systems)) (listed_sums (Some objectives)) }
 {
     match (systems, objectives) {
         (Ok(systems), Ok(objectives)) => Ok(Values {
@@ -51,7 +52,8 @@ fn totals_joined(
 
 /// The same, where all terms have values.
 fn all_joined(vars: Gathered, systems: Sums, objectives: Sums) -> Option<Result<Values, Failure>>
-    ensures { seen_all result ≡ all_joined (listed vars) (listed_sums systems) (listed_sums objectives) }
+    ensures { seen_all result ≡ all_joined (listed vars) (listed_sums systems)
+        (listed_sums objectives) }
 {
     match (vars, systems, objectives) {
         (Some(vars), Some(systems), Some(objectives)) => {
@@ -77,9 +79,12 @@ fn stopped(fresh: Result<Values, Failure>) -> Result<Values, ModelStop>
 #[tactic(auto, using(crate::proofs::FreshLaws::fresh_from, crate::proofs::FreshLaws::fresh_failing))]
 fn fresh_in<U: UserValues>(setting: &Setting<'_, U>) -> Result<Values, ModelStop>
     requires well_formed { IsWellFormed setting.now.model.now }
-    requires kinds { HasKinds (kinds_in setting.now.model.now.vars.items) (env_of setting.now.cells.now) }
+    requires kinds { HasKinds (kinds_in setting.now.model.now.vars.items)
+        (env_of setting.now.cells.now) }
     requires count { length setting.now.cells.now ≡ length setting.now.model.now.vars.items }
-    ensures { IsFresh (fresh_in (user_rules (U.viol_of setting.now.users.now) (U.viol_at setting.now.users.now)) setting.now.model.now (env_of setting.now.cells.now)) result }
+    ensures { IsFresh (fresh_in (user_rules (U.viol_of setting.now.users.now)
+        (U.viol_at setting.now.users.now)) setting.now.model.now
+        (env_of setting.now.cells.now)) result }
 {
     let vars = values_of(setting.alloc, setting.cells)?;
     let systems = sums_in(setting, Side::Systems)?;
@@ -109,7 +114,8 @@ pub fn fresh_with<U: UserValues>(
     requires sets { HasDefinedSets model.now }
     requires acyclic { IsAcyclic model.now }
     requires assigned { length assignment.now ≡ length model.now.vars.items }
-    ensures { IsFresh (fresh_of (user_rules (U.viol_of users.now) (U.viol_at users.now)) model.now assignment.now) result }
+    ensures { IsFresh (fresh_of (user_rules (U.viol_of users.now)
+        (U.viol_at users.now)) model.now assignment.now) result }
 {
     let tables = tables_of(alloc, users, model, assignment)?;
     let cells = outcomes_of(&tables)?;

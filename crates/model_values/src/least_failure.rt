@@ -35,7 +35,8 @@ fn push_failing<'a, U: UserValues>(
     into: &mut Vec<Failing<'a>>,
 ) -> Result<(), NoMemory>
     requires well_formed { IsWellFormed setting.now.model.now }
-    requires kinds { HasKinds (kinds_in setting.now.model.now.vars.items) (env_of setting.now.cells.now) }
+    requires kinds { HasKinds (kinds_in setting.now.model.now.vars.items)
+        (env_of setting.now.cells.now) }
     ensures { OnOk result ((before : List Term) → AreFailing (user_rules (U.viol_of setting.now.users.now) (U.viol_at setting.now.users.now)) (env_of setting.now.cells.now) into.old.items before →
         AreFailing (user_rules (U.viol_of setting.now.users.now) (U.viol_at setting.now.users.now)) (env_of setting.now.cells.now) into.new.items (before ++ filter (fails (user_rules (U.viol_of setting.now.users.now) (U.viol_at setting.now.users.now)) (env_of setting.now.cells.now)) (subterms_where (term_posted setting.now.model.now posted)))) }
 {
@@ -49,7 +50,8 @@ fn push_failing<'a, U: UserValues>(
 /// The subterms of a model that fail, in order of posting and each term's in post-order.
 fn all_failing<'a, U: UserValues>(setting: &Setting<'a, U>) -> Result<Vec<Failing<'a>>, NoMemory>
     requires well_formed { IsWellFormed setting.now.model.now }
-    requires kinds { HasKinds (kinds_in setting.now.model.now.vars.items) (env_of setting.now.cells.now) }
+    requires kinds { HasKinds (kinds_in setting.now.model.now.vars.items)
+        (env_of setting.now.cells.now) }
     ensures { IfOk result (λ v. AreFailing (user_rules (U.viol_of setting.now.users.now) (U.viol_at setting.now.users.now)) (env_of setting.now.cells.now) v.items (filter (fails (user_rules (U.viol_of setting.now.users.now) (U.viol_at setting.now.users.now)) (env_of setting.now.cells.now)) (subterms_posted setting.now.model.now setting.now.model.now.posted.items))) }
 {
     let mut failing = Vec::new(setting.alloc);
@@ -73,7 +75,8 @@ fn variable_defined(defs: &[Definition], number: u32) -> Option<u32>
 /// members depend.
 fn supports(model: &Model, whole: Whole, marks: &[bool], posted: Posted) -> bool
     requires well_formed { IsWellFormed model.now }
-    requires marks { AreReached model.now (roots_in model.now whole model.now.posted.items) marks.now }
+    requires marks { AreReached model.now
+        (roots_in model.now whole model.now.posted.items) marks.now }
     ensures { result ≡ supports model.now whole posted }
 {
     match posted {
@@ -103,8 +106,10 @@ fn push_supporting<'a, U: UserValues>(
     into: &mut Vec<Failing<'a>>,
 ) -> Result<(), NoMemory>
     requires well_formed { IsWellFormed setting.now.model.now }
-    requires kinds { HasKinds (kinds_in setting.now.model.now.vars.items) (env_of setting.now.cells.now) }
-    requires marks { AreReached setting.now.model.now (roots_in setting.now.model.now whole setting.now.model.now.posted.items) marks.now }
+    requires kinds { HasKinds (kinds_in setting.now.model.now.vars.items)
+        (env_of setting.now.cells.now) }
+    requires marks { AreReached setting.now.model.now
+        (roots_in setting.now.model.now whole setting.now.model.now.posted.items) marks.now }
     ensures { OnOk result ((before : List Term) → AreFailing (user_rules (U.viol_of setting.now.users.now) (U.viol_at setting.now.users.now)) (env_of setting.now.cells.now) into.old.items before →
         AreFailing (user_rules (U.viol_of setting.now.users.now) (U.viol_at setting.now.users.now)) (env_of setting.now.cells.now) into.new.items (before ++ filter (fails (user_rules (U.viol_of setting.now.users.now) (U.viol_at setting.now.users.now)) (env_of setting.now.cells.now)) (subterms_posted setting.now.model.now (filter (supports setting.now.model.now whole) (posted ∷ []))))) }
 {
@@ -122,8 +127,10 @@ fn supporting_failing<'a, U: UserValues>(
     marks: &[bool],
 ) -> Result<Vec<Failing<'a>>, NoMemory>
     requires well_formed { IsWellFormed setting.now.model.now }
-    requires kinds { HasKinds (kinds_in setting.now.model.now.vars.items) (env_of setting.now.cells.now) }
-    requires marks { AreReached setting.now.model.now (roots_in setting.now.model.now whole setting.now.model.now.posted.items) marks.now }
+    requires kinds { HasKinds (kinds_in setting.now.model.now.vars.items)
+        (env_of setting.now.cells.now) }
+    requires marks { AreReached setting.now.model.now
+        (roots_in setting.now.model.now whole setting.now.model.now.posted.items) marks.now }
     ensures { IfOk result (λ v. AreFailing (user_rules (U.viol_of setting.now.users.now) (U.viol_at setting.now.users.now)) (env_of setting.now.cells.now) v.items (filter (fails (user_rules (U.viol_of setting.now.users.now) (U.viol_at setting.now.users.now)) (env_of setting.now.cells.now)) (subterms_posted setting.now.model.now (filter (supports setting.now.model.now whole) setting.now.model.now.posted.items)))) }
 {
     let mut failing = Vec::new(setting.alloc);
@@ -179,7 +186,8 @@ fn first_of(failing: &[Failing<'_>]) -> Option<Failure>
 #[tactic(auto, using(crate::proofs::FailureLaws::first_failing))]
 pub(crate) fn least_failure<U: UserValues>(setting: &Setting<'_, U>) -> Result<Failure, NoMemory>
     requires well_formed { IsWellFormed setting.now.model.now }
-    requires kinds { HasKinds (kinds_in setting.now.model.now.vars.items) (env_of setting.now.cells.now) }
+    requires kinds { HasKinds (kinds_in setting.now.model.now.vars.items)
+        (env_of setting.now.cells.now) }
     ensures { IfOk result (λ f. f ≡ unwrap_or (first_failure (user_rules (U.viol_of setting.now.users.now) (U.viol_at setting.now.users.now)) (env_of setting.now.cells.now) (distinct_subterms setting.now.model.now)) no_failure) }
 {
     let failing = all_failing(setting)?;
@@ -196,8 +204,10 @@ pub(crate) fn least_failure_below<U: UserValues>(
     requires same { tables.now.model.now ≡ setting.now.model.now }
     requires well_formed { IsWellFormed setting.now.model.now }
     requires acyclic { IsAcyclic setting.now.model.now }
-    requires tables { AreTables tables.now.model.now tables.now.definitions.items (map (λ names. names.items) tables.now.named.items) }
-    requires kinds { HasKinds (kinds_in setting.now.model.now.vars.items) (env_of setting.now.cells.now) }
+    requires tables { AreTables tables.now.model.now tables.now.definitions.items
+        (map (λ names. names.items) tables.now.named.items) }
+    requires kinds { HasKinds (kinds_in setting.now.model.now.vars.items)
+        (env_of setting.now.cells.now) }
     ensures { IfOk result (λ f. f ≡ unwrap_or (failure_below (user_rules (U.viol_of setting.now.users.now) (U.viol_at setting.now.users.now)) setting.now.model.now (env_of setting.now.cells.now) whole) no_failure) }
 {
     let roots = roots_of(tables, whole)?;

@@ -48,7 +48,8 @@ pub(crate) fn reached<U: UserValues>(
 ) -> Result<Vec<bool>, NoMemory>
     requires well_formed { IsWellFormed tables.now.model.now }
     requires acyclic { IsAcyclic tables.now.model.now }
-    requires tables { AreTables tables.now.model.now tables.now.definitions.items (map (λ names. names.items) tables.now.named.items) }
+    requires tables { AreTables tables.now.model.now tables.now.definitions.items
+        (map (λ names. names.items) tables.now.named.items) }
     requires roots { All (λ u. u < length tables.now.model.now.vars.items) roots.now }
     ensures { IfOk result (λ v. AreReached tables.now.model.now roots.now v.items) }
 {
@@ -69,7 +70,8 @@ fn push_roots(
     posted: Posted,
     into: &mut Vec<u32>,
 ) -> Result<(), NoMemory>
-    ensures { OnOk result (into.new.items ≡ into.old.items ++ vars_in (member_in model.now whole posted)) }
+    ensures { OnOk result (into.new.items ≡
+        into.old.items ++ vars_in (member_in model.now whole posted)) }
 {
     match member_in(model, whole, posted) {
         Some(member) => push_variables(&member.term, into),
@@ -82,7 +84,8 @@ pub(crate) fn roots_of<U: UserValues>(
     tables: &Tables<'_, U>,
     whole: Whole,
 ) -> Result<Vec<u32>, NoMemory>
-    ensures { IfOk result (λ v. v.items ≡ roots_in tables.now.model.now whole tables.now.model.now.posted.items) }
+    ensures { IfOk result (λ v. v.items ≡
+        roots_in tables.now.model.now whole tables.now.model.now.posted.items) }
 {
     let mut roots = Vec::new(tables.alloc);
     for turn in 0..tables.model.posted.len() {

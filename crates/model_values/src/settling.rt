@@ -57,7 +57,8 @@ fn assigned(assignment: &[i64], index: usize) -> Outcome
 
 /// The number of the definition of a variable.
 fn number_of<U: UserValues>(tables: &Tables<'_, U>, index: usize) -> Option<u32>
-    requires tables { AreTables tables.now.model.now tables.now.definitions.items (map (λ names. names.items) tables.now.named.items) }
+    requires tables { AreTables tables.now.model.now tables.now.definitions.items
+        (map (λ names. names.items) tables.now.named.items) }
     requires within { index < length tables.now.model.now.vars.items }
     ensures { definition_of tables.now.model.now index ≡ result }
 {
@@ -75,9 +76,11 @@ fn definition_at(model: &Model, number: u32) -> &Definition
 /// Whether all variables are known on which a variable depends.
 #[tactic(auto, using(crate::proofs::VarLaws::names_of_var, crate::proofs::VarLaws::lists_within))]
 fn is_ready<U: UserValues>(tables: &Tables<'_, U>, cells: &[Option<Outcome>], index: usize) -> bool
-    requires tables { AreTables tables.now.model.now tables.now.definitions.items (map (λ names. names.items) tables.now.named.items) }
+    requires tables { AreTables tables.now.model.now tables.now.definitions.items
+        (map (λ names. names.items) tables.now.named.items) }
     requires within { index < length tables.now.model.now.vars.items }
-    ensures { result ≡ list_all (is_known cells.now) (named_by tables.now.model.now.defs.items (definition_of tables.now.model.now index)) }
+    ensures { result ≡ list_all (is_known cells.now)
+        (named_by tables.now.model.now.defs.items (definition_of tables.now.model.now index)) }
 {
     are_known(cells, &tables.named[index])
 }
@@ -93,12 +96,18 @@ fn outcome_by<U: UserValues>(
     requires sets { HasDefinedSets tables.now.model.now }
     requires acyclic { IsAcyclic tables.now.model.now }
     requires assigned { length tables.now.assignment.now ≡ length tables.now.model.now.vars.items }
-    requires tables { AreTables tables.now.model.now tables.now.definitions.items (map (λ names. names.items) tables.now.named.items) }
-    requires right { IsRight (user_rules (U.viol_of tables.now.users.now) (U.viol_at tables.now.users.now)) tables.now.model.now tables.now.assignment.now cells.now }
+    requires tables { AreTables tables.now.model.now tables.now.definitions.items
+        (map (λ names. names.items) tables.now.named.items) }
+    requires right { IsRight (user_rules (U.viol_of tables.now.users.now)
+        (U.viol_at tables.now.users.now)) tables.now.model.now tables.now.assignment.now cells.now }
     requires within { index < length tables.now.model.now.vars.items }
-    requires ready { (d : ℕ) → DependsOn tables.now.model.now index d → is_known cells.now d ≡ true }
-    ensures outcome { IfOk result (λ o. o ≡ outcome_of_var (user_rules (U.viol_of tables.now.users.now) (U.viol_at tables.now.users.now)) tables.now.model.now tables.now.assignment.now index) }
-    ensures kind { IfOk result (λ o. IfSome o (λ x. kinds_in tables.now.model.now.vars.items index ≡ Some (kind_of x))) }
+    requires ready { (d : ℕ) → DependsOn tables.now.model.now index d →
+        is_known cells.now d ≡ true }
+    ensures outcome { IfOk result (λ o.
+        o ≡ outcome_of_var (user_rules (U.viol_of tables.now.users.now)
+        (U.viol_at tables.now.users.now)) tables.now.model.now tables.now.assignment.now index) }
+    ensures kind { IfOk result (λ o. IfSome o (λ x. kinds_in tables.now.model.now.vars.items index ≡
+        Some (kind_of x))) }
 {
     let Some(number) = number_of(tables, index) else {
         return Ok(assigned(tables.assignment, index));
@@ -132,12 +141,14 @@ fn settle<U: UserValues>(
     requires sets { HasDefinedSets tables.now.model.now }
     requires acyclic { IsAcyclic tables.now.model.now }
     requires assigned { length tables.now.assignment.now ≡ length tables.now.model.now.vars.items }
-    requires tables { AreTables tables.now.model.now tables.now.definitions.items (map (λ names. names.items) tables.now.named.items) }
+    requires tables { AreTables tables.now.model.now tables.now.definitions.items
+        (map (λ names. names.items) tables.now.named.items) }
     requires right { IsRight (user_rules (U.viol_of tables.now.users.now) (U.viol_at tables.now.users.now)) tables.now.model.now tables.now.assignment.now cells.old.items }
     requires within { index < length tables.now.model.now.vars.items }
     ensures right { OnOk result (IsRight (user_rules (U.viol_of tables.now.users.now) (U.viol_at tables.now.users.now)) tables.now.model.now tables.now.assignment.now cells.new.items) }
     ensures kept { OnOk result (KeepsKnown cells.old.items cells.new.items) }
-    ensures settled { OnOk result (((d : ℕ) → DependsOn tables.now.model.now index d → is_known cells.old.items d ≡ true) → is_known cells.new.items index ≡ true) }
+    ensures settled { OnOk result (((d : ℕ) → DependsOn tables.now.model.now index d →
+        is_known cells.old.items d ≡ true) → is_known cells.new.items index ≡ true) }
 {
     if is_known(cells, index) {
         return Ok(());
@@ -160,7 +171,8 @@ fn settle_in_order<U: UserValues>(
     requires sets { HasDefinedSets tables.now.model.now }
     requires acyclic { IsAcyclic tables.now.model.now }
     requires assigned { length tables.now.assignment.now ≡ length tables.now.model.now.vars.items }
-    requires tables { AreTables tables.now.model.now tables.now.definitions.items (map (λ names. names.items) tables.now.named.items) }
+    requires tables { AreTables tables.now.model.now tables.now.definitions.items
+        (map (λ names. names.items) tables.now.named.items) }
     requires right { IsRight (user_rules (U.viol_of tables.now.users.now) (U.viol_at tables.now.users.now)) tables.now.model.now tables.now.assignment.now cells.old.items }
     ensures right { OnOk result (IsRight (user_rules (U.viol_of tables.now.users.now) (U.viol_at tables.now.users.now)) tables.now.model.now tables.now.assignment.now cells.new.items) }
 {
@@ -181,10 +193,13 @@ fn settle_each<U: UserValues>(
     requires sets { HasDefinedSets tables.now.model.now }
     requires acyclic { IsAcyclic tables.now.model.now }
     requires assigned { length tables.now.assignment.now ≡ length tables.now.model.now.vars.items }
-    requires tables { AreTables tables.now.model.now tables.now.definitions.items (map (λ names. names.items) tables.now.named.items) }
+    requires tables { AreTables tables.now.model.now tables.now.definitions.items
+        (map (λ names. names.items) tables.now.named.items) }
     requires right { IsRight (user_rules (U.viol_of tables.now.users.now) (U.viol_at tables.now.users.now)) tables.now.model.now tables.now.assignment.now cells.old.items }
     ensures right { OnOk result (IsRight (user_rules (U.viol_of tables.now.users.now) (U.viol_at tables.now.users.now)) tables.now.model.now tables.now.assignment.now cells.new.items) }
-    ensures settled { OnOk result ((i : ℕ) → i < length tables.now.model.now.vars.items → ((d : ℕ) → DependsOn tables.now.model.now i d → is_known cells.old.items d ≡ true) → is_known cells.new.items i ≡ true) }
+    ensures settled { OnOk result ((i : ℕ) → i < length tables.now.model.now.vars.items →
+        ((d : ℕ) → DependsOn tables.now.model.now i d → is_known cells.old.items d ≡ true) →
+        is_known cells.new.items i ≡ true) }
 {
     for index in 0..tables.model.vars.len() {
         settle(tables, cells, index)?;
@@ -217,8 +232,10 @@ pub fn tables_of<'a, U>(
     model: &'a Model,
     assignment: &'a [i64],
 ) -> Result<Tables<'a, U>, NoMemory>
-    ensures same { IfOk result (λ t. (t.users.now ≡ users.now) × (t.model.now ≡ model.now) × (t.assignment.now ≡ assignment.now)) }
-    ensures tables { IfOk result (λ t. AreTables model.now t.definitions.items (map (λ names. names.items) t.named.items)) }
+    ensures same { IfOk result (λ t. (t.users.now ≡ users.now) × (t.model.now ≡ model.now) ×
+        (t.assignment.now ≡ assignment.now)) }
+    ensures tables { IfOk result (λ t.
+        AreTables model.now t.definitions.items (map (λ names. names.items) t.named.items)) }
 {
     let definitions = definitions_of(alloc, model)?;
     let named = dependencies_of(alloc, &model.defs, &definitions)?;
@@ -240,9 +257,13 @@ pub fn outcomes_of<U: UserValues>(tables: &Tables<'_, U>) -> Result<Vec<Option<O
     requires sets { HasDefinedSets tables.now.model.now }
     requires acyclic { IsAcyclic tables.now.model.now }
     requires assigned { length tables.now.assignment.now ≡ length tables.now.model.now.vars.items }
-    requires tables { AreTables tables.now.model.now tables.now.definitions.items (map (λ names. names.items) tables.now.named.items) }
-    ensures env { IfOk result (λ v. env_of v.items ≡ outcome_of_var (user_rules (U.viol_of tables.now.users.now) (U.viol_at tables.now.users.now)) tables.now.model.now tables.now.assignment.now) }
-    ensures kinds { IfOk result (λ v. HasKinds (kinds_in tables.now.model.now.vars.items) (env_of v.items)) }
+    requires tables { AreTables tables.now.model.now tables.now.definitions.items
+        (map (λ names. names.items) tables.now.named.items) }
+    ensures env { IfOk result (λ v. env_of v.items ≡
+        outcome_of_var (user_rules (U.viol_of tables.now.users.now)
+        (U.viol_at tables.now.users.now)) tables.now.model.now tables.now.assignment.now) }
+    ensures kinds { IfOk result (λ v. HasKinds (kinds_in tables.now.model.now.vars.items)
+        (env_of v.items)) }
     ensures count { IfOk result (λ v. length v.items ≡ length tables.now.model.now.vars.items) }
 {
     let count = tables.model.vars.len();

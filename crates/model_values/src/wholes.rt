@@ -91,9 +91,12 @@ pub fn add_posted<U: UserValues>(
     posted: Posted,
 ) -> Result<PartsHeld, NoMemory>
     requires well_formed { IsWellFormed setting.now.model.now }
-    requires kinds { HasKinds (kinds_in setting.now.model.now.vars.items) (env_of setting.now.cells.now) }
+    requires kinds { HasKinds (kinds_in setting.now.model.now.vars.items)
+        (env_of setting.now.cells.now) }
     requires weighed { HasWeights (listed_numbers parts.numbers) parts.weights.items }
-    ensures parts { IfOk result (λ p. seen p ≡ add_posted (user_rules (U.viol_of setting.now.users.now) (U.viol_at setting.now.users.now)) (env_of setting.now.cells.now) setting.now.model.now whole (seen parts) posted) }
+    ensures parts { IfOk result (λ p. seen p ≡
+        add_posted (user_rules (U.viol_of setting.now.users.now) (U.viol_at setting.now.users.now))
+        (env_of setting.now.cells.now) setting.now.model.now whole (seen parts) posted) }
     ensures weighed { IfOk result (λ p. HasWeights (listed_numbers p.numbers) p.weights.items) }
 {
     let Some(member) = member_in(setting.model, whole, posted) else {
@@ -109,7 +112,8 @@ pub fn add_posted<U: UserValues>(
 /// The parts of a system or an objective, in order of posting.
 fn parts_of<U: UserValues>(setting: &Setting<'_, U>, whole: Whole) -> Result<PartsHeld, NoMemory>
     requires well_formed { IsWellFormed setting.now.model.now }
-    requires kinds { HasKinds (kinds_in setting.now.model.now.vars.items) (env_of setting.now.cells.now) }
+    requires kinds { HasKinds (kinds_in setting.now.model.now.vars.items)
+        (env_of setting.now.cells.now) }
     ensures parts { IfOk result (λ p. seen p ≡ parts_in (user_rules (U.viol_of setting.now.users.now) (U.viol_at setting.now.users.now)) (env_of setting.now.cells.now) setting.now.model.now whole setting.now.model.now.posted.items) }
     ensures weighed { IfOk result (λ p. HasWeights (listed_numbers p.numbers) p.weights.items) }
 {
@@ -126,7 +130,8 @@ pub type Sum = Result<i64, Failure>;
 /// The total of the parts of a system or an objective that was declared at this place, where all have a number.
 pub fn sum_of(alloc: Global, place: Place, parts: &PartsHeld) -> Result<Option<Sum>, NoMemory>
     requires { HasWeights (listed_numbers parts.now.numbers) parts.now.weights.items }
-    ensures { IfOk result (λ o. o ≡ sum_of place (listed_numbers parts.now.numbers) parts.now.weights.items) }
+    ensures { IfOk result (λ o. o ≡ sum_of place
+        (listed_numbers parts.now.numbers) parts.now.weights.items) }
 {
     let Some(numbers) = &parts.numbers else {
         return Ok(None);
@@ -147,7 +152,8 @@ pub fn sum_in<U: UserValues>(
     place: Place,
 ) -> Result<Option<Sum>, NoMemory>
     requires well_formed { IsWellFormed setting.now.model.now }
-    requires kinds { HasKinds (kinds_in setting.now.model.now.vars.items) (env_of setting.now.cells.now) }
+    requires kinds { HasKinds (kinds_in setting.now.model.now.vars.items)
+        (env_of setting.now.cells.now) }
     ensures { IfOk result (λ o. o ≡ sum_in (user_rules (U.viol_of setting.now.users.now) (U.viol_at setting.now.users.now)) setting.now.model.now (env_of setting.now.cells.now) whole place) }
 {
     let parts = parts_of(setting, whole)?;

@@ -32,11 +32,14 @@ ghost use Rattle.model_view.specs.Variables.{all_variables};
 pub fn plain_terms_law()
     ensures depth { (t : Term) → depth_of (plain_term t) ≡ depth_of t }
     ensures vars { (t : Term) → vars_of (plain_term t) ≡ vars_of t }
-    ensures kind { (kinds : ℕ → Option InputKind) (t : Term) → kind_of_term kinds (plain_term t) ≡ kind_of_term kinds t }
+    ensures kind { (kinds : ℕ → Option InputKind) (t : Term) →
+        kind_of_term kinds (plain_term t) ≡ kind_of_term kinds t }
     ensures users { (t : Term) → users_of (plain_term t) ≡ users_of t }
-    ensures passes { (p : VarId → Bool) (t : Term) → all_variables p (plain_term t) ≡ all_variables p t }
+    ensures passes { (p : VarId → Bool) (t : Term) →
+        all_variables p (plain_term t) ≡ all_variables p t }
     ensures subterms { (t : Term) → subterms (plain_term t) ≡ map plain_term (subterms t) }
-    ensures value { (users : ℕ → NumberRule) (env : ℕ → Outcome) (t : Term) → outcome_of users env (plain_term t) ≡ outcome_of users env t }
+    ensures value { (users : ℕ → NumberRule) (env : ℕ → Outcome) (t : Term) →
+        outcome_of users env (plain_term t) ≡ outcome_of users env t }
     ensures equal { (t u : Term) → same_term (plain_term t) (plain_term u) ≡ same_term t u }
     ensures again { (t : Term) → plain_term (plain_term t) ≡ plain_term t }
 {}
@@ -44,10 +47,14 @@ pub fn plain_terms_law()
 /// A model has the definitions, the distinct subterms and the values, or the fault, that it has without where its lists
 /// lie.
 pub fn plain_models_law()
-    ensures definitions { (M : Model) (i : ℕ) → definition_of (plain_model M) i ≡ definition_of M i }
-    ensures distinct { (M : Model) → distinct_subterms (plain_model M) ≡ map plain_term (distinct_subterms M) }
-    ensures variables { (users : ℕ → NumberRule) (M : Model) (a : List ℤ) → outcome_of_var users (plain_model M) a ≡ outcome_of_var users M a }
-    ensures fresh { (users : ℕ → NumberRule) (M : Model) (a : List ℤ) → fresh_of users (plain_model M) a ≡ fresh_of users M a }
+    ensures definitions { (M : Model) (i : ℕ) →
+        definition_of (plain_model M) i ≡ definition_of M i }
+    ensures distinct { (M : Model) → distinct_subterms (plain_model M) ≡
+        map plain_term (distinct_subterms M) }
+    ensures variables { (users : ℕ → NumberRule) (M : Model) (a : List ℤ) →
+        outcome_of_var users (plain_model M) a ≡ outcome_of_var users M a }
+    ensures fresh { (users : ℕ → NumberRule) (M : Model) (a : List ℤ) →
+        fresh_of users (plain_model M) a ≡ fresh_of users M a }
     ensures dependencies { (M : Model) → dependencies (plain_model M) ≡ dependencies M }
 {}
 
@@ -66,14 +73,19 @@ pub fn plain_changes_law()
 pub fn dependencies_law()
     ensures count { (M : Model) → length (dependencies M) ≡ length M.vars.items }
     ensures items { (M : Model) → AreItems (dependencies M) }
-    ensures depends { (M : Model) (i d : ℕ) → i < length M.vars.items → DependsOn (dependencies M) i d → models.DependsOn M i d × (d < length M.vars.items) }
-    ensures all { (M : Model) (i d : ℕ) → i < length M.vars.items → d < length M.vars.items → models.DependsOn M i d → DependsOn (dependencies M) i d }
+    ensures depends { (M : Model) (i d : ℕ) → i < length M.vars.items →
+        DependsOn (dependencies M) i d → models.DependsOn M i d × (d < length M.vars.items) }
+    ensures all { (M : Model) (i d : ℕ) → i < length M.vars.items → d < length M.vars.items →
+        models.DependsOn M i d → DependsOn (dependencies M) i d }
 {}
 
 /// What the search finds is the named cycle, it finds one exactly where there is a cycle, and there is one named cycle at
 /// most.
 pub fn named_cycle_law()
-    ensures found { (deps : List (Vec ℕ Global)) (list : List ℕ) → AreItems deps → named_cycle deps ≡ Some list → IsNamedCycle deps list }
-    ensures none { (deps : List (Vec ℕ Global)) (list : List ℕ) → AreItems deps → named_cycle deps ≡ None → IsCycle deps list → ⊥ }
-    ensures once { (deps : List (Vec ℕ Global)) (a b : List ℕ) → IsNamedCycle deps a → IsNamedCycle deps b → a ≡ b }
+    ensures found { (deps : List (Vec ℕ Global)) (list : List ℕ) → AreItems deps →
+        named_cycle deps ≡ Some list → IsNamedCycle deps list }
+    ensures none { (deps : List (Vec ℕ Global)) (list : List ℕ) → AreItems deps →
+        named_cycle deps ≡ None → IsCycle deps list → ⊥ }
+    ensures once { (deps : List (Vec ℕ Global)) (a b : List ℕ) → IsNamedCycle deps a →
+        IsNamedCycle deps b → a ≡ b }
 {}

@@ -65,7 +65,8 @@ impl<U: UserConstraint> KindOf<U> {
     /// there exactly where the operation is one.
     pub fn of(alloc: Global, op: &Op, user: Option<U>) -> Result<KindOf<U>, NoMemory>
         requires { is_user op.now ≡ is_some user }
-        ensures { IfOk result (λ kind. ⟦<KindOf<U> as NodeRule>⟧.rule kind ≡ rule_of (users_of (option_map U.user_rule user)) op.now) }
+        ensures { IfOk result (λ kind. ⟦<KindOf<U> as NodeRule>⟧.rule kind ≡
+            rule_of (users_of (option_map U.user_rule user)) op.now) }
     {
         match user {
             Some(user) => Ok(KindOf::constraint(
@@ -79,7 +80,8 @@ impl<U: UserConstraint> KindOf<U> {
     /// The node of an operation or a constraint that isn't a user's.
     fn of_named(alloc: Global, op: &Op) -> Result<KindOf<U>, NoMemory>
         requires { is_user op.now ≡ false }
-        ensures { IfOk result (λ kind. ⟦<KindOf<U> as NodeRule>⟧.rule kind ≡ rule_of (users_of None) op.now) }
+        ensures { IfOk result (λ kind. ⟦<KindOf<U> as NodeRule>⟧.rule kind ≡
+            rule_of (users_of None) op.now) }
     {
         if is_constraint(op) {
             KindOf::of_constraint(alloc, op)
@@ -135,7 +137,8 @@ impl<U: UserConstraint> KindOf<U> {
     /// The node of an operation that takes or gives a set.
     fn of_sets(alloc: Global, op: &Op) -> Result<KindOf<U>, NoMemory>
         requires { has_sets op.now ≡ true }
-        ensures { IfOk result (λ kind. ⟦<KindOf<U> as NodeRule>⟧.rule kind ≡ rule_of (users_of None) op.now) }
+        ensures { IfOk result (λ kind. ⟦<KindOf<U> as NodeRule>⟧.rule kind ≡
+            rule_of (users_of None) op.now) }
     {
         Ok(match op {
             Op::SetOf { keys } => KindOf::set_of(alloc, keys)?,
@@ -154,7 +157,8 @@ impl<U: UserConstraint> KindOf<U> {
     fn of_constraint(alloc: Global, op: &Op) -> Result<KindOf<U>, NoMemory>
         requires constraint { is_constraint op.now ≡ true }
         requires no_user { is_user op.now ≡ false }
-        ensures { IfOk result (λ kind. ⟦<KindOf<U> as NodeRule>⟧.rule kind ≡ rule_of (users_of None) op.now) }
+        ensures { IfOk result (λ kind. ⟦<KindOf<U> as NodeRule>⟧.rule kind ≡
+            rule_of (users_of None) op.now) }
     {
         Ok(match op {
             Op::ViolEq => KindOf::relation(alloc, Relation::eq()),
@@ -192,28 +196,32 @@ impl<U: UserConstraint> KindOf<U> {
 
     /// A node of an operation on numbers.
     fn operation(alloc: Global, node: OperationKind) -> KindOf<U>
-        ensures { ⟦<KindOf<U> as NodeRule>⟧.rule result ≡ rule_of_numbers (⟦<OperationKind as NumberNode>⟧.number_rule node) }
+        ensures { ⟦<KindOf<U> as NodeRule>⟧.rule result ≡
+            rule_of_numbers (⟦<OperationKind as NumberNode>⟧.number_rule node) }
     {
         KindOf::Operation(OverNumbers::new(alloc, node))
     }
 
     /// A node of a constraint.
     fn constraint(alloc: Global, node: ConstraintKind<U>) -> KindOf<U>
-        ensures { ⟦<KindOf<U> as NodeRule>⟧.rule result ≡ rule_of_numbers (⟦<ConstraintKind<U> as NumberNode>⟧.number_rule node) }
+        ensures { ⟦<KindOf<U> as NodeRule>⟧.rule result ≡
+            rule_of_numbers (⟦<ConstraintKind<U> as NumberNode>⟧.number_rule node) }
     {
         KindOf::Constraint(OverNumbers::new(alloc, node))
     }
 
     /// The node of an operation on two numbers.
     fn binary(alloc: Global, operation: BinaryOperation) -> KindOf<U>
-        ensures { ⟦<KindOf<U> as NodeRule>⟧.rule result ≡ rule_of_numbers (rule_of_binary operation) }
+        ensures { ⟦<KindOf<U> as NodeRule>⟧.rule result ≡
+            rule_of_numbers (rule_of_binary operation) }
     {
         KindOf::operation(alloc, OperationKind::Binary(Binary::new(operation)))
     }
 
     /// The node of an operation on one number.
     fn unary(alloc: Global, operation: UnaryOperation) -> KindOf<U>
-        ensures { ⟦<KindOf<U> as NodeRule>⟧.rule result ≡ rule_of_numbers (rule_of_unary operation) }
+        ensures { ⟦<KindOf<U> as NodeRule>⟧.rule result ≡
+            rule_of_numbers (rule_of_unary operation) }
     {
         KindOf::operation(alloc, OperationKind::Unary(Unary::new(operation)))
     }
@@ -251,7 +259,8 @@ impl<U: UserConstraint> KindOf<U> {
 
     /// The node of a relation as a constraint.
     fn relation(alloc: Global, node: Relation) -> KindOf<U>
-        ensures { ⟦<KindOf<U> as NodeRule>⟧.rule result ≡ rule_of_numbers (⟦<Relation as NumberNode>⟧.number_rule node) }
+        ensures { ⟦<KindOf<U> as NodeRule>⟧.rule result ≡
+            rule_of_numbers (⟦<Relation as NumberNode>⟧.number_rule node) }
     {
         KindOf::constraint(alloc, ConstraintKind::Relation(node))
     }
@@ -263,7 +272,8 @@ impl<U: UserConstraint> KindOf<U> {
         low: i64,
         bounds: &Numbers,
     ) -> Result<KindOf<U>, NoMemory>
-        ensures { IfOk result (λ kind. ⟦<KindOf<U> as NodeRule>⟧.rule kind ≡ rule_of_cardinality demand low bounds.now) }
+        ensures { IfOk result (λ kind. ⟦<KindOf<U> as NodeRule>⟧.rule kind ≡
+            rule_of_cardinality demand low bounds.now) }
     {
         let bounds = Numbers::from_slice(alloc, bounds.as_slice())?;
         let node = Cardinality::new(alloc, demand, low, bounds);
@@ -272,7 +282,8 @@ impl<U: UserConstraint> KindOf<U> {
 
     /// The node of `knapsack`.
     fn knapsack(alloc: Global, weights: &Numbers, capacity: i64) -> Result<KindOf<U>, NoMemory>
-        ensures { IfOk result (λ kind. ⟦<KindOf<U> as NodeRule>⟧.rule kind ≡ knapsack weights.now capacity) }
+        ensures { IfOk result (λ kind. ⟦<KindOf<U> as NodeRule>⟧.rule kind ≡
+            knapsack weights.now capacity) }
     {
         let weights = Numbers::from_slice(alloc, weights.as_slice())?;
         let node = Knapsack::new(alloc, weights, capacity);
@@ -286,7 +297,8 @@ impl<U: UserConstraint> KindOf<U> {
         low: i64,
         capacities: &Numbers,
     ) -> Result<KindOf<U>, NoMemory>
-        ensures { IfOk result (λ kind. ⟦<KindOf<U> as NodeRule>⟧.rule kind ≡ multi_knapsack sizes.now low capacities.now) }
+        ensures { IfOk result (λ kind. ⟦<KindOf<U> as NodeRule>⟧.rule kind ≡
+            multi_knapsack sizes.now low capacities.now) }
     {
         let sizes = Numbers::from_slice(alloc, sizes.as_slice())?;
         let capacities = Numbers::from_slice(alloc, capacities.as_slice())?;
@@ -301,7 +313,8 @@ impl<U: UserConstraint> KindOf<U> {
         most: i64,
         window: i64,
     ) -> Result<KindOf<U>, NoMemory>
-        ensures { IfOk result (λ kind. ⟦<KindOf<U> as NodeRule>⟧.rule kind ≡ sequence values.now most window) }
+        ensures { IfOk result (λ kind. ⟦<KindOf<U> as NodeRule>⟧.rule kind ≡
+            sequence values.now most window) }
     {
         let values = copy_of_set(alloc, values)?;
         let node = Sequence::new(alloc, values, most, window);

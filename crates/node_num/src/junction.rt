@@ -37,7 +37,8 @@ impl Junction {
 
     /// The value of as many numbers as it holds, so many of which are true.
     fn value_with(&self, truths: usize) -> i64
-        ensures { (xs : List ℤ) → length xs ≡ length self.now.numbers.items → truths ≡ truths_in xs → Ok result ≡ (rule_of_junction self.now.kind).value xs }
+        ensures { (xs : List ℤ) → length xs ≡ length self.now.numbers.items →
+            truths ≡ truths_in xs → Ok result ≡ (rule_of_junction self.now.kind).value xs }
     {
         match self.kind {
             JunctionKind::And => truth_value(truths == self.numbers.len()),

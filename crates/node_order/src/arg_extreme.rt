@@ -62,7 +62,8 @@ impl Extreme {
         alloc: Global,
         changes: &[Change],
     ) -> Result<Vec<NumberChange>, NoMemory>
-        ensures { IfOk result (λ made. made.items ≡ map (turned_change self) (number_changes_of changes.now)) }
+        ensures { IfOk result (λ made. made.items ≡
+            map (turned_change self) (number_changes_of changes.now)) }
     {
         let mut made = Vec::with_capacity(alloc, changes.len())?;
         for change in changes {
@@ -131,7 +132,8 @@ impl NodeRule for ArgExtreme {
         × (length (⟦<Lowest as NumberNode>⟧.held_numbers s.least.lowest) ≡ length s.least.keys)
         × (s.kept ≡ Set (least_keys s.least.keys (⟦<Lowest as NumberNode>⟧.held_numbers s.least.lowest))) };
 
-    ghost held = { λ s. as_inputs (map (turned s.extreme) (⟦<Lowest as NumberNode>⟧.held_numbers s.least.lowest)) };
+    ghost held = { λ s. as_inputs (map (turned s.extreme)
+        (⟦<Lowest as NumberNode>⟧.held_numbers s.least.lowest)) };
 
     ghost one_kind = { λ s. one_kind_of_keys s.least.keys (extreme_keys s.extreme s.least.keys) };
 

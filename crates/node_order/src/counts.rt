@@ -19,7 +19,8 @@ pub(crate) fn first_left(
     counts: &OrderedCounts,
     changes: &[NumberChange],
 ) -> Result<Option<i64>, NoMemory>
-    ensures first { IfOk result (λ found. found ≡ first_left changes.now counts.now.by_number.entries) }
+    ensures first { IfOk result (λ found.
+        found ≡ first_left changes.now counts.now.by_number.entries) }
     ensures ordered { OnOk result (IsOrdered int_cmp counts.now.by_number) }
 {
     if changes.len() <= FEW {
@@ -45,7 +46,9 @@ pub(crate) fn first_left_by_few(counts: &OrderedCounts, changes: &[NumberChange]
 
 /// The first of the numbers of which changes that take so many away take fewer than there are.
 fn first_left_by_many(counts: &OrderedCounts, taken: &OrderedCounts) -> Option<i64>
-    ensures first { (changes : List Change) → ((v : ℤ) → times_kept taken.now v ≡ times_old v changes) → result ≡ first_left changes counts.now.by_number.entries }
+    ensures first { (changes : List Change) →
+        ((v : ℤ) → times_kept taken.now v ≡ times_old v changes) →
+        result ≡ first_left changes counts.now.by_number.entries }
     ensures ordered { IsOrdered int_cmp counts.now.by_number }
 {
     for (number, count) in counts.as_map().iter() {

@@ -34,7 +34,8 @@ impl NumberNode for Greatest {
 
     ghost number_rule = { λ _. greatest };
 
-    ghost settled = { λ s. ⟦<Lowest as NumberNode>⟧.settled s.lowest × (0 < length (⟦<Lowest as NumberNode>⟧.held_numbers s.lowest)) };
+    ghost settled = { λ s. ⟦<Lowest as NumberNode>⟧.settled s.lowest ×
+        (0 < length (⟦<Lowest as NumberNode>⟧.held_numbers s.lowest)) };
 
     ghost held_numbers = { λ s. map mirrored (⟦<Lowest as NumberNode>⟧.held_numbers s.lowest) };
 

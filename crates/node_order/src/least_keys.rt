@@ -38,7 +38,8 @@ impl LeastKeys {
     /// Takes these numbers in place of all that it holds.
     pub(crate) fn reset(&mut self, numbers: &[i64]) -> Result<(), NoMemory>
         ensures settled { OnOk result (⟦<Lowest as NumberNode>⟧.settled self.new.lowest) }
-        ensures numbers { OnOk result (⟦<Lowest as NumberNode>⟧.held_numbers self.new.lowest ≡ numbers.now) }
+        ensures numbers { OnOk result (⟦<Lowest as NumberNode>⟧.held_numbers self.new.lowest ≡
+            numbers.now) }
         ensures index { OnOk result (IsIndexOf self.new.index numbers.now) }
         ensures keys { self.new.keys ≡ self.old.keys }
     {
@@ -50,11 +51,14 @@ impl LeastKeys {
     /// Makes a change in the numbers that it holds.
     pub(crate) fn set(&mut self, change: NumberChange) -> Result<(), NoMemory>
         requires settled { ⟦<Lowest as NumberNode>⟧.settled self.old.lowest }
-        requires index { IsIndexOf self.old.index (⟦<Lowest as NumberNode>⟧.held_numbers self.old.lowest) }
+        requires index { IsIndexOf self.old.index
+            (⟦<Lowest as NumberNode>⟧.held_numbers self.old.lowest) }
         requires change { IsNumberChange (⟦<Lowest as NumberNode>⟧.held_numbers self.old.lowest) change }
         ensures settled { OnOk result (⟦<Lowest as NumberNode>⟧.settled self.new.lowest) }
-        ensures numbers { OnOk result (⟦<Lowest as NumberNode>⟧.held_numbers self.new.lowest ≡ after_number_change (⟦<Lowest as NumberNode>⟧.held_numbers self.old.lowest) change) }
-        ensures index { OnOk result (IsIndexOf self.new.index (after_number_change (⟦<Lowest as NumberNode>⟧.held_numbers self.old.lowest) change)) }
+        ensures numbers { OnOk result (⟦<Lowest as NumberNode>⟧.held_numbers self.new.lowest ≡
+            after_number_change (⟦<Lowest as NumberNode>⟧.held_numbers self.old.lowest) change) }
+        ensures index { OnOk result (IsIndexOf self.new.index
+            (after_number_change (⟦<Lowest as NumberNode>⟧.held_numbers self.old.lowest) change)) }
         ensures keys { self.new.keys ≡ self.old.keys }
     {
         self.lowest.set(change)?;
@@ -64,10 +68,15 @@ impl LeastKeys {
     /// The keys at which the least of the numbers stands as these changes would make them.
     pub(crate) fn found(&self, changes: &[NumberChange]) -> Result<IntSet, NoMemory>
         requires settled { ⟦<Lowest as NumberNode>⟧.settled self.now.lowest }
-        requires index { IsIndexOf self.now.index (⟦<Lowest as NumberNode>⟧.held_numbers self.now.lowest) }
-        requires length { length (⟦<Lowest as NumberNode>⟧.held_numbers self.now.lowest) ≡ length self.now.keys }
-        requires changes { AreNumberChanges (⟦<Lowest as NumberNode>⟧.held_numbers self.now.lowest) changes.now }
-        ensures { IfOk result (λ keys. keys ≡ least_keys self.now.keys (after_number_changes (⟦<Lowest as NumberNode>⟧.held_numbers self.now.lowest) changes.now)) }
+        requires index { IsIndexOf self.now.index
+            (⟦<Lowest as NumberNode>⟧.held_numbers self.now.lowest) }
+        requires length { length (⟦<Lowest as NumberNode>⟧.held_numbers self.now.lowest) ≡
+            length self.now.keys }
+        requires changes { AreNumberChanges
+            (⟦<Lowest as NumberNode>⟧.held_numbers self.now.lowest) changes.now }
+        ensures { IfOk result (λ keys. keys ≡
+            least_keys self.now.keys (after_number_changes
+            (⟦<Lowest as NumberNode>⟧.held_numbers self.now.lowest) changes.now)) }
     {
         let least = self.least(changes)?;
         let mut places = places_of(self.alloc, &self.index, least)?;
@@ -79,7 +88,8 @@ impl LeastKeys {
     /// The least of the numbers as these changes would make them, 0 where there is none.
     fn least(&self, changes: &[NumberChange]) -> Result<i64, NoMemory>
         requires settled { ⟦<Lowest as NumberNode>⟧.settled self.now.lowest }
-        requires changes { AreNumberChanges (⟦<Lowest as NumberNode>⟧.held_numbers self.now.lowest) changes.now }
+        requires changes { AreNumberChanges
+            (⟦<Lowest as NumberNode>⟧.held_numbers self.now.lowest) changes.now }
         ensures { IfOk result (λ least. least ≡ least_of (after_number_changes (⟦<Lowest as NumberNode>⟧.held_numbers self.now.lowest) changes.now)) }
     {
         match self.lowest.probe(changes) {

@@ -27,7 +27,8 @@ pub(crate) fn move_place(
     index: &mut BTreeSet<(i64, usize)>,
     change: NumberChange,
 ) -> Result<(), NoMemory>
-    ensures { OnOk result ((xs : List ℤ) → IsIndexOf index.old xs → IsNumberChange xs change → IsIndexOf index.new (after_number_change xs change)) }
+    ensures { OnOk result ((xs : List ℤ) → IsIndexOf index.old xs → IsNumberChange xs change →
+        IsIndexOf index.new (after_number_change xs change)) }
 {
     index.remove(&(change.old, change.place));
     index.insert((change.new, change.place))?;
@@ -40,7 +41,9 @@ pub(crate) fn places_of(
     index: &BTreeSet<(i64, usize)>,
     number: i64,
 ) -> Result<BTreeSet<usize>, NoMemory>
-    ensures { IfOk result (IsFromIterResult nat_cmp (map (λ pair. pair.1) (keys_between pair_cmp (Included (number, 0)) (Excluded (number, 2 ^ 64 - 1)) index.now))) }
+    ensures { IfOk result (IsFromIterResult nat_cmp
+        (map (λ pair. pair.1) (keys_between pair_cmp (Included (number, 0))
+        (Excluded (number, 2 ^ 64 - 1)) index.now))) }
 {
     let pairs = index.range((number, 0)..(number, usize::MAX));
     Ok(pairs.map(|pair| pair.1).collect(alloc)?)
@@ -52,7 +55,9 @@ pub(crate) fn move_places(
     number: i64,
     changes: &[NumberChange],
 ) -> Result<(), NoMemory>
-    ensures { OnOk result ((xs : List ℤ) → ArePlacesOf number xs places.old → AreNumberChanges xs changes.now → ArePlacesOf number (after_number_changes xs changes.now) places.new) }
+    ensures { OnOk result ((xs : List ℤ) → ArePlacesOf number xs places.old →
+        AreNumberChanges xs changes.now →
+        ArePlacesOf number (after_number_changes xs changes.now) places.new) }
 {
     for change in changes {
         if change.new == number {

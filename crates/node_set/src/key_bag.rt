@@ -55,7 +55,8 @@ impl KeyBag {
     pub(crate) fn change(&mut self, key: i64, was: bool, is: bool) -> Result<(), NoMemory>
         requires stood { IsTrue was → 0 < times_kept self.old.counts key }
         requires few { times_kept self.old.counts key + 1 < 2 ^ 64 }
-        ensures { OnOk result ((xs ys : List ℤ) → IsBagOf self.old xs → IsChangedBy key was is xs ys → IsBagOf self.new ys) }
+        ensures { OnOk result ((xs ys : List ℤ) → IsBagOf self.old xs →
+            IsChangedBy key was is xs ys → IsBagOf self.new ys) }
     {
         match (was, is) {
             (false, true) => self.add(key),
@@ -68,7 +69,8 @@ impl KeyBag {
     /// One more of the key.
     fn add(&mut self, key: i64) -> Result<(), NoMemory>
         requires { times_kept self.old.counts key + 1 < 2 ^ 64 }
-        ensures counts { OnOk result ((q : ℤ) → times_kept self.new.counts q ≡ times_kept self.old.counts q + one_where true key q) }
+        ensures counts { OnOk result ((q : ℤ) →
+            times_kept self.new.counts q ≡ times_kept self.old.counts q + one_where true key q) }
         ensures kept { OnOk result (self.new.kept ≡ placed_in key true self.old.kept) }
     {
         self.counts.add(key)?;
@@ -78,7 +80,8 @@ impl KeyBag {
     /// One less of the key.
     fn take(&mut self, key: i64) -> Result<(), NoMemory>
         requires { 0 < times_kept self.old.counts key }
-        ensures counts { OnOk result ((q : ℤ) → times_kept self.new.counts q + one_where true key q ≡ times_kept self.old.counts q) }
+        ensures counts { OnOk result ((q : ℤ) →
+            times_kept self.new.counts q + one_where true key q ≡ times_kept self.old.counts q) }
         ensures kept { OnOk result (self.new.kept ≡ (if times_kept self.old.counts key == 1 then placed_in key false self.old.kept else self.old.kept)) }
     {
         let times = self.counts.times(key);

@@ -44,7 +44,8 @@ impl NodeRule for SetOf {
 
     ghost rule = { λ s. set_of_ones s.keys };
 
-    ghost ready = { λ s. IsBagOf s.ones (keys_where is_one s.keys s.numbers.items) × (length s.numbers.items ≡ length s.keys) };
+    ghost ready = { λ s. IsBagOf s.ones (keys_where is_one s.keys s.numbers.items) ×
+        (length s.numbers.items ≡ length s.keys) };
 
     ghost held = { λ s. as_inputs s.numbers.items };
 

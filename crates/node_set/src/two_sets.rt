@@ -126,9 +126,13 @@ impl TwoSets {
     /// Gives the set at a place these members, and then takes those from it.
     fn edit(&mut self, place: u32, added: &IntSet, removed: &IntSet) -> Result<(), NoMemory>
         requires within { place < 2 }
-        requires kept { self.old.kept ≡ Set (combined self.old.combining self.old.first self.old.second) }
-        ensures kept { OnOk result (self.new.kept ≡ Set (combined self.new.combining self.new.first self.new.second)) }
-        ensures sets { OnOk result (both self.new.first self.new.second ≡ after_change (both self.old.first self.old.second) (SetChange place added.now removed.now)) }
+        requires kept { self.old.kept ≡ Set
+            (combined self.old.combining self.old.first self.old.second) }
+        ensures kept { OnOk result (self.new.kept ≡
+            Set (combined self.new.combining self.new.first self.new.second)) }
+        ensures sets { OnOk result (both self.new.first self.new.second ≡
+            after_change (both self.old.first self.old.second)
+            (SetChange place added.now removed.now)) }
         ensures combining { self.new.combining ≡ self.old.combining }
     {
         if place == 0 {
@@ -219,7 +223,8 @@ fn edit_one(
 ) -> Result<(), NoMemory>
     requires { kept.old ≡ Set (combined combining set.old other.now) }
     ensures kept { OnOk result (kept.new ≡ Set (combined combining set.new other.now)) }
-    ensures set { OnOk result (set.new ≡ without_members removed.now (with_members added.now set.old)) }
+    ensures set { OnOk result (set.new ≡
+        without_members removed.now (with_members added.now set.old)) }
 {
     for v in added.as_slice() {
         place_one(combining, set, other, kept, *v, true)?;

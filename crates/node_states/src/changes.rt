@@ -24,8 +24,10 @@ pub fn changes_between(
     to: &[Input],
     places: Places,
 ) -> Result<Option<Vec<Change>>, NoMemory>
-    ensures changes { IfOk result (λ found. IfSome found (λ changes. AreChanges from.now changes.items)) }
-    ensures after { IfOk result (λ found. IfSome found (λ changes. after_changes from.now changes.items ≡ to.now)) }
+    ensures changes { IfOk result (λ found.
+        IfSome found (λ changes. AreChanges from.now changes.items)) }
+    ensures after { IfOk result (λ found.
+        IfSome found (λ changes. after_changes from.now changes.items ≡ to.now)) }
 {
     if from.len() != to.len() || from.len() > u32::MAX as usize {
         return Ok(None);

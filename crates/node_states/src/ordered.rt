@@ -18,8 +18,10 @@ pub fn changes_at(
     to: &[Input],
     places: &[u32],
 ) -> Result<Option<Vec<Change>>, NoMemory>
-    ensures changes { IfOk result (λ found. IfSome found (λ changes. AreChanges from.now changes.items)) }
-    ensures after { IfOk result (λ found. IfSome found (λ changes. after_changes from.now changes.items ≡ to.now)) }
+    ensures changes { IfOk result (λ found.
+        IfSome found (λ changes. AreChanges from.now changes.items)) }
+    ensures after { IfOk result (λ found.
+        IfSome found (λ changes. after_changes from.now changes.items ≡ to.now)) }
 {
     if from.len() != to.len() {
         return Ok(None);

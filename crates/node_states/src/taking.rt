@@ -35,14 +35,16 @@ fn is_number(input: &Input) -> bool
 
 /// Whether they are so many numbers.
 pub fn are_so_many(inputs: &[Input], count: usize) -> bool
-    ensures { result ≡ (all_numbers (kinds_of inputs.now) && (length (kinds_of inputs.now) == count)) }
+    ensures { result ≡ (all_numbers (kinds_of inputs.now) &&
+        (length (kinds_of inputs.now) == count)) }
 {
     are_numbers(inputs) && inputs.len() == count
 }
 
 /// Whether they are numbers, one at least.
 fn are_some_numbers(inputs: &[Input]) -> bool
-    ensures { result ≡ (all_numbers (kinds_of inputs.now) && nat_lt 0 (length (kinds_of inputs.now))) }
+    ensures { result ≡ (all_numbers (kinds_of inputs.now) && nat_lt 0
+        (length (kinds_of inputs.now))) }
 {
     are_numbers(inputs) && inputs.len() > 0
 }
@@ -68,8 +70,10 @@ fn are_number_and_set(inputs: &[Input]) -> bool
 /// Whether an operation that isn't a user's constraint takes these inputs.
 pub fn takes(op: &Op, inputs: &[Input]) -> bool
     ensures no_user { result ≡ true → is_user op.now ≡ false }
-    ensures exact { (users : ℕ → NumberRule) → is_user op.now ≡ false → result ≡ (rule_of users op.now).takes (kinds_of inputs.now) }
-    ensures takes { result ≡ true → (users : ℕ → NumberRule) → IsTrue ((rule_of users op.now).takes (kinds_of inputs.now)) }
+    ensures exact { (users : ℕ → NumberRule) → is_user op.now ≡ false →
+        result ≡ (rule_of users op.now).takes (kinds_of inputs.now) }
+    ensures takes { result ≡ true → (users : ℕ → NumberRule) →
+        IsTrue ((rule_of users op.now).takes (kinds_of inputs.now)) }
 {
     match op {
         Op::Union | Op::Inter | Op::Minus => are_two_sets(inputs),

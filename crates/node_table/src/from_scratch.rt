@@ -40,7 +40,8 @@ fn told_of_operation(alloc: Global, op: &Op, inputs: &[Input]) -> Result<Told, N
 }
 
 fn told_of_taken(alloc: Global, op: &Op, inputs: &[Input]) -> Result<Told, NoMemory>
-    requires { (users : ℕ → NumberRule) → IsTrue ((rule_of users op.now).takes (kinds_of inputs.now)) }
+    requires { (users : ℕ → NumberRule) →
+        IsTrue ((rule_of users op.now).takes (kinds_of inputs.now)) }
 {
     match value_of(alloc, &NoUsers, op, inputs)? {
         Ok(value) => {

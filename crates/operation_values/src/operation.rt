@@ -65,8 +65,10 @@ pub fn value_of<U: UserValues>(
     op: &Op,
     inputs: &[Input],
 ) -> Result<Result<Input, RunFault>, NoMemory>
-    requires { IsTrue ((rule_of (user_rules (U.viol_of users.now) (U.viol_at users.now)) op.now).takes (kinds_of inputs.now)) }
-    ensures { IfOk result (λ v. v ≡ (rule_of (user_rules (U.viol_of users.now) (U.viol_at users.now)) op.now).value inputs.now) }
+    requires { IsTrue ((rule_of (user_rules (U.viol_of users.now)
+        (U.viol_at users.now)) op.now).takes (kinds_of inputs.now)) }
+    ensures { IfOk result (λ v. v ≡ (rule_of
+        (user_rules (U.viol_of users.now) (U.viol_at users.now)) op.now).value inputs.now) }
 {
     let xs = numbers_of(alloc, inputs)?;
     let number = match op {

@@ -19,10 +19,14 @@ pub fn violation_at<U: UserValues>(
     inputs: &[Input],
     place: usize,
 ) -> Result<i64, NoMemory>
-    requires takes { IsTrue ((rule_of (user_rules (U.viol_of users.now) (U.viol_at users.now)) op.now).takes (kinds_of inputs.now)) }
-    requires valued { IsOk ((rule_of (user_rules (U.viol_of users.now) (U.viol_at users.now)) op.now).value inputs.now) }
+    requires takes { IsTrue ((rule_of (user_rules (U.viol_of users.now)
+        (U.viol_at users.now)) op.now).takes (kinds_of inputs.now)) }
+    requires valued { IsOk ((rule_of (user_rules (U.viol_of users.now)
+        (U.viol_at users.now)) op.now).value inputs.now) }
     requires within { place < length inputs.now }
-    ensures { IfOk result (λ v. v ≡ (rule_of (user_rules (U.viol_of users.now) (U.viol_at users.now)) op.now).violation_at inputs.now place) }
+    ensures { IfOk result (λ v. v ≡ (rule_of
+        (user_rules (U.viol_of users.now)
+        (U.viol_at users.now)) op.now).violation_at inputs.now place) }
 {
     let xs = numbers_of(alloc, inputs)?;
     match op {

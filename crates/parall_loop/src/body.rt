@@ -22,8 +22,11 @@ pub trait IterBody<S: Replays> {
     /// Runs an iteration. It asks the port just what `asks` says of the replies so far. Unless it is cut, it
     /// ends as `asks` says.
     fn run<P: MonitorPort<S>>(&self, iteration: u32, port: &mut P) -> Self::Outcome
-        requires { (replies : List S.Reply) (q : S.Request) → asks self.now iteration replies ≡ Asks q → P.takes port.old q }
-        ensures ran { (asked : List (S.Request × S.Reply)) × (P.asked port.new ≡ P.asked port.old ++ asked) × Runs (asks self.now iteration) (is_cut result) asked result }
+        requires { (replies : List S.Reply) (q : S.Request) →
+            asks self.now iteration replies ≡ Asks q → P.takes port.old q }
+        ensures ran { (asked : List (S.Request × S.Reply)) ×
+            (P.asked port.new ≡ P.asked port.old ++ asked) ×
+            Runs (asks self.now iteration) (is_cut result) asked result }
         ensures base { P.base port.new ≡ P.base port.old };
 }
 
@@ -36,9 +39,13 @@ pub fn run_iteration<S: Replays, B: IterBody<S>, R: Wait>(
     iteration: u32,
 ) -> (Seat<S>, B::Outcome)
     requires seat { IsSeatOf turn.now seat }
-    requires takes { (replies : List S.Reply) (q : S.Request) → B.asks body.now iteration replies ≡ Asks q → S.takes (start_of turn.now) q }
-    ensures seat { IsSeatOf turn.now result.0 × ((view_of result.0).rest ≡ (view_of seat).rest) × (length (view_of result.0).made ≡ length (view_of seat).made) }
-    ensures made { (asked : List (S.Request × S.Reply)) × ((view_of result.0).made ≡ with_all (entries_for iteration asked) (view_of seat).made) × Runs (B.asks body.now iteration) (B.is_cut result.1) asked result.1 }
+    requires takes { (replies : List S.Reply) (q : S.Request) →
+        B.asks body.now iteration replies ≡ Asks q → S.takes (start_of turn.now) q }
+    ensures seat { IsSeatOf turn.now result.0 × ((view_of result.0).rest ≡ (view_of seat).rest) ×
+        (length (view_of result.0).made ≡ length (view_of seat).made) }
+    ensures made { (asked : List (S.Request × S.Reply)) ×
+        ((view_of result.0).made ≡ with_all (entries_for iteration asked) (view_of seat).made) ×
+        Runs (B.asks body.now iteration) (B.is_cut result.1) asked result.1 }
 {
     let mut port = SeatPort::new(rt, turn, seat, iteration);
     let outcome = body.run(iteration, &mut port);

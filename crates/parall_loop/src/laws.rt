@@ -9,5 +9,7 @@ use best_turn::Replays;
 /// it asks. Where all iterations have ended the history fits the loop. Each history that fits is that of the
 /// schedule of its own iteration numbers.
 pub fn schedule<S: Replays, T>()
-    ensures { (start : S) (asks : ℕ → List S.Reply → Next S.Request T) (n : ℕ) → MayAsk S.takes S.after S.answer start asks n → Schedules S.takes S.after S.answer start asks n }
+    ensures { (start : S) (asks : ℕ → List S.Reply → Next S.Request T) (n : ℕ) →
+        MayAsk S.takes S.after S.answer start asks n →
+        Schedules S.takes S.after S.answer start asks n }
 {}

@@ -54,14 +54,18 @@ where
     G: Gate + Sync,
     R: Threads + Wait + Sync,
     requires workers { (1 ≤ workers) × (workers ≤ 64) }
-    requires takes { (k : ℕ) (replies : List S.Reply) (q : S.Request) → k < n → B.asks body.now k replies ≡ Asks q → S.takes state q }
+    requires takes { (k : ℕ) (replies : List S.Reply) (q : S.Request) → k < n →
+        B.asks body.now k replies ≡ Asks q → S.takes state q }
     ensures legal { IfOk result (λ r. IsLegal S.takes S.after S.answer state r.history.items) }
     ensures state { IfOk result (λ r. r.state ≡ fold_of S.after state r.history.items) }
     ensures iterations { IfOk result (λ r. AllByRecursion (λ e. e.iteration < n) r.history.items) }
     ensures outcomes { IfOk result (λ r. length r.outcomes.items ≡ n) }
-    ensures ran { IfOk result (λ r. (k : ℕ) (t : B.Outcome) → slice_get r.outcomes.items k ≡ Some t → Runs (B.asks body.now k) (B.is_cut t) (asked_by k r.history.items) t) }
+    ensures ran { IfOk result (λ r. (k : ℕ) (t : B.Outcome) →
+        slice_get r.outcomes.items k ≡ Some t →
+        Runs (B.asks body.now k) (B.is_cut t) (asked_by k r.history.items) t) }
     ensures fits { IfOk result (λ r. (d : B.Outcome) → AllByRecursion (λ t. B.is_cut t ≡ false) r.outcomes.items → Fits S.takes S.after S.answer state (B.asks body.now) n (λ k. slice_index_or r.outcomes.items k d) r.history.items) }
-    ensures order { IfOk result (λ r. workers ≡ 1 → r.history.items ≡ one_by_one r.history.items 0 n) }
+    ensures order { IfOk result (λ r. workers ≡ 1 →
+        r.history.items ≡ one_by_one r.history.items 0 n) }
 {
     let (turn, seat) = Turn::make(alloc, state)?;
     let (claims, claimer) = Claims::make(alloc, n)?;
@@ -104,8 +108,10 @@ where
     requires first { HasSplit turn.now claims.now 0 first.old.seat first.old.claimer }
     requires count { count_of claims.now ≡ n }
     requires few { workers ≤ 64 }
-    requires takes { (k : ℕ) (replies : List S.Reply) (q : S.Request) → k < count_of claims.now → B.asks body.now k replies ≡ Asks q → S.takes (start_of turn.now) q }
-    ensures { IfOk result (λ places. HasTakenIn turn.now claims.now (B.asks body.now) B.is_cut workers 0 first.new.seat first.new.claimer places.items) }
+    requires takes { (k : ℕ) (replies : List S.Reply) (q : S.Request) → k < count_of claims.now →
+        B.asks body.now k replies ≡ Asks q → S.takes (start_of turn.now) q }
+    ensures { IfOk result (λ places. HasTakenIn turn.now claims.now
+        (B.asks body.now) B.is_cut workers 0 first.new.seat first.new.claimer places.items) }
 {
     let seated = seat_workers(alloc, turn, claims, workers, first)?;
     let worked = work_beside(rt, alloc, turn, claims, body, gate, seated)?;
@@ -130,7 +136,8 @@ fn seat_workers<S: Replays>(
     requires first { HasSplit turn.now claims.now 0 first.old.seat first.old.claimer }
     requires few { workers ≤ 64 }
     ensures count { IfOk result (λ seated. vec_len seated ≡ workers) }
-    ensures fresh { IfOk result (λ seated. All (λ w. IsFresh turn.now claims.now w.seat w.claimer) seated.items) }
+    ensures fresh { IfOk result (λ seated.
+        All (λ w. IsFresh turn.now claims.now w.seat w.claimer) seated.items) }
     ensures split { IfOk result (λ _. HasSplit turn.now claims.now workers first.new.seat first.new.claimer) }
 {
     let mut seated = Vec::new(alloc);
@@ -153,9 +160,11 @@ fn take_in<S: Replays, T: Drop>(
     worked: Worked<S, T>,
 )
     requires seats { IsSeatOf turn.now first.old.seat × IsSeatOf turn.now worked.seat }
-    requires claimers { IsClaimerOf claims.now first.old.claimer × IsClaimerOf claims.now worked.claimer }
+    requires claimers { IsClaimerOf claims.now first.old.claimer ×
+        IsClaimerOf claims.now worked.claimer }
     requires places { AllLess (length places.old.items) (map (λ x. x.0) worked.outcomes.items) }
-    ensures seat { IsSeatOf turn.now first.new.seat × (view_of first.new.seat ≡ both (view_of first.old.seat) (view_of worked.seat)) }
+    ensures seat { IsSeatOf turn.now first.new.seat ×
+        (view_of first.new.seat ≡ both (view_of first.old.seat) (view_of worked.seat)) }
     ensures claimer { IsClaimerOf claims.now first.new.claimer × (seats_from first.new.claimer ≡ seats_from first.old.claimer + seats_from worked.claimer) × (drawn_by first.new.claimer ≡ drawn_by first.old.claimer ++ drawn_by worked.claimer) × (is_done first.new.claimer ≡ (is_done first.old.claimer || is_done worked.claimer)) }
     ensures places { places.new.items ≡ put_into places.old.items worked.outcomes.items }
 {

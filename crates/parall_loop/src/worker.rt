@@ -42,8 +42,10 @@ fn work<S: Replays, B: IterBody<S>, G: Gate, R: Wait>(
     worker: Worker<S>,
 ) -> Option<Worked<S, B::Outcome>>
     requires fresh { IsFresh turn.now claims.now worker.seat worker.claimer }
-    requires takes { (k : ℕ) (replies : List S.Reply) (q : S.Request) → k < count_of claims.now → B.asks body.now k replies ≡ Asks q → S.takes (start_of turn.now) q }
-    ensures { IfSome result (λ w. HasEnded turn.now claims.now (B.asks body.now) B.is_cut w.seat w.claimer w.outcomes.items) }
+    requires takes { (k : ℕ) (replies : List S.Reply) (q : S.Request) → k < count_of claims.now →
+        B.asks body.now k replies ≡ Asks q → S.takes (start_of turn.now) q }
+    ensures { IfSome result (λ w. HasEnded turn.now claims.now
+        (B.asks body.now) B.is_cut w.seat w.claimer w.outcomes.items) }
 {
     let Worker {
         mut seat,
@@ -89,13 +91,17 @@ where
     G: Gate + Sync,
     R: Threads + Wait + Sync,
     requires fresh { All (λ w. IsFresh turn.now claims.now w.seat w.claimer) workers.items }
-    requires takes { (k : ℕ) (replies : List S.Reply) (q : S.Request) → k < count_of claims.now → B.asks body.now k replies ≡ Asks q → S.takes (start_of turn.now) q }
+    requires takes { (k : ℕ) (replies : List S.Reply) (q : S.Request) → k < count_of claims.now →
+        B.asks body.now k replies ≡ Asks q → S.takes (start_of turn.now) q }
     ensures count { IfOk result (λ all. vec_len all ≡ vec_len workers) }
     ensures ended { IfOk result (λ all. AllByRecursion (λ one. IfSome one (λ w. HasEnded turn.now claims.now (B.asks body.now) B.is_cut w.seat w.claimer w.outcomes.items)) all.items) }
 {
     let run = |worker: Worker<S>| -> Option<Worked<S, B::Outcome>>
-        requires { IsFresh turn.now claims.now worker.seat worker.claimer × ((k : ℕ) (replies : List S.Reply) (q : S.Request) → k < count_of claims.now → B.asks body.now k replies ≡ Asks q → S.takes (start_of turn.now) q) }
-        ensures { IfSome result (λ w. HasEnded turn.entry.now claims.entry.now (B.asks body.entry.now) B.is_cut w.seat w.claimer w.outcomes.items) }
+        requires { IsFresh turn.now claims.now worker.seat worker.claimer ×
+            ((k : ℕ) (replies : List S.Reply) (q : S.Request) → k < count_of claims.now →
+            B.asks body.now k replies ≡ Asks q → S.takes (start_of turn.now) q) }
+        ensures { IfSome result (λ w. HasEnded turn.entry.now claims.entry.now
+            (B.asks body.entry.now) B.is_cut w.seat w.claimer w.outcomes.items) }
     { work(rt, alloc, turn, claims, body, gate, worker) };
     let Ok(all) = thread::map_vec(rt, workers, &run) else {
         return Err(NoMemory);

@@ -78,7 +78,8 @@ fn pick(all: &'static [Row], tokens: &[Token]) -> Option<&'static Row>
 pub fn choose(tokens: &[Token], part: Part, depth: usize) -> Result<&'static Row, Stop>
     requires { CanCome (part_of part) depth }
     ensures ok { IfOk result (λ row. Chosen (part_of part) depth tokens.now (row_of row.now)) }
-    ensures err { IfErr result (λ stop. Fails 200 (same (part_of part) ∷ []) depth tokens.now stop) }
+    ensures err { IfErr result (λ stop.
+        Fails 200 (same (part_of part) ∷ []) depth tokens.now stop) }
 {
     match pick(rows(part), tokens) {
         Some(row) => {
@@ -98,7 +99,8 @@ pub fn choose(tokens: &[Token], part: Part, depth: usize) -> Result<&'static Row
 /// The tokens behind the next one, which is refused where it isn't of this kind.
 pub fn read(tokens: &[Token], kind: Kind) -> Result<&[Token], Stop>
     ensures ok { IfOk result (λ rest. IsNext tokens.now (kind_in kind) rest.now) }
-    ensures err { IfErr result (λ stop. (m : Bool) (d : ℕ) → Fails 200 (token m (kind_in kind) ∷ []) d tokens.now stop) }
+    ensures err { IfErr result (λ stop. (m : Bool) (d : ℕ) →
+        Fails 200 (token m (kind_in kind) ∷ []) d tokens.now stop) }
 {
     match tokens.split_first() {
         Some((token, behind)) => {

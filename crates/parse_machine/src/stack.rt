@@ -74,7 +74,8 @@ impl Stack {
 
     /// Takes what comes next.
     pub fn take(&mut self) -> Result<Option<Item>, Stop>
-        ensures ok { IfOk result (λ next. MatchOption next (self.old ≡ []) (λ item. self.old ≡ item_in item ∷ self.new)) }
+        ensures ok { IfOk result (λ next.
+            MatchOption next (self.old ≡ []) (λ item. self.old ≡ item_in item ∷ self.new)) }
         ensures err { IfErr result (λ stop. stop ≡ stops.NoMemory) }
     {
         match self.frames.pop() {

@@ -13,7 +13,8 @@ use crate::grammar::{Part, Row};
 
 /// The forms of a part.
 pub fn rows(part: Part) -> &'static [Row]
-    ensures { map row_of result.now ≡ map (production (part_of part)) (late (alternatives (part_of part))) }
+    ensures { map row_of result.now ≡ map (production (part_of part))
+        (late (alternatives (part_of part))) }
 {
     match part {
         Part::Program => &programs::PROGRAM,

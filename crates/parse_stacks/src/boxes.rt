@@ -28,7 +28,8 @@ pub fn box_three<A: Drop, B: Drop, C: Drop>(
     second: B,
     third: C,
 ) -> Result<(Box<A>, Box<B>, Box<C>), NoMemory>
-    ensures { IfOk result (λ boxes. (boxes.0.value ≡ first) × (boxes.1.value ≡ second) × (boxes.2.value ≡ third)) }
+    ensures { IfOk result (λ boxes. (boxes.0.value ≡ first) × (boxes.1.value ≡ second) ×
+        (boxes.2.value ≡ third)) }
 {
     let (first, second) = box_two(alloc, first, second)?;
     let third = Box::new(alloc, third)?;
@@ -55,7 +56,8 @@ pub fn box_branches<A: Drop, B: Drop>(
     then: B,
     otherwise: Option<B>,
 ) -> Result<(Box<A>, Box<B>, Option<Box<B>>), NoMemory>
-    ensures { IfOk result (λ boxes. (boxes.0.value ≡ test) × (boxes.1.value ≡ then) × (unboxed boxes.2 ≡ otherwise)) }
+    ensures { IfOk result (λ boxes. (boxes.0.value ≡ test) × (boxes.1.value ≡ then) ×
+        (unboxed boxes.2 ≡ otherwise)) }
 {
     let (test, then) = box_two(alloc, test, then)?;
     let otherwise = box_some(alloc, otherwise)?;

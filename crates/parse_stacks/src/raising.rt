@@ -23,7 +23,9 @@ fn make_postfix(
     primary: Expression,
     suffixes: Vec<Suffix>,
 ) -> Result<Expression, NoMemory>
-    ensures { IfOk result (λ e. written e ≡ postfix_by (written primary).primary_rest (written primary).head (map written_suffix suffixes.items)) }
+    ensures { IfOk result (λ e. written e ≡
+        postfix_by (written primary).primary_rest (written primary).head
+        (map written_suffix suffixes.items)) }
 {
     let primary = Box::new(alloc, primary)?;
     Ok(Expression::Postfix { primary, suffixes })
@@ -155,7 +157,8 @@ pub fn raise_to_comparison(
     up_to: Option<UpTo>,
     compared: Option<Compared>,
 ) -> Result<Expression, NoMemory>
-    ensures { IfOk result (λ e. written e ≡ comparison_level (written operand) product total up_to compared) }
+    ensures { IfOk result (λ e. written e ≡
+        comparison_level (written operand) product total up_to compared) }
 {
     let left = raise_to_range(alloc, operand, product, total, up_to);
     let (left, compared) = beside(left, compared)?;
@@ -173,7 +176,8 @@ pub fn raise_to_conjunction(
     compared: Option<Compared>,
     conjunction: Vec<Link>,
 ) -> Result<Expression, NoMemory>
-    ensures { IfOk result (λ e. written e ≡ conjunction_level (written operand) product total up_to compared conjunction) }
+    ensures { IfOk result (λ e. written e ≡
+        conjunction_level (written operand) product total up_to compared conjunction) }
 {
     let first = raise_to_comparison(alloc, operand, product, total, up_to, compared);
     let (first, conjunction) = beside(first, conjunction)?;

@@ -147,7 +147,8 @@ pub fn put<T: Drop>(stack: &mut Vec<T>, value: T) -> Result<(), NoMemory>
 
 /// Puts what was made on top of a stack.
 pub fn put_made<T: Drop>(stack: &mut Vec<T>, made: Result<T, NoMemory>) -> Result<(), NoMemory>
-    ensures { IfOk result (λ _. (value : T) × (made ≡ Ok value) × (reverse stack.new.items ≡ value ∷ reverse stack.old.items)) }
+    ensures { IfOk result (λ _. (value : T) × (made ≡ Ok value) ×
+        (reverse stack.new.items ≡ value ∷ reverse stack.old.items)) }
 {
     let value = made?;
     put(stack, value)

@@ -29,7 +29,8 @@ impl<U: LocalConstraint> Model for PostedUser<U> {
 
     ghost view = { λ a. record { held = a.numbers.items; rule = kept (U.user_rule a.user) } };
 
-    ghost invariant = { λ a. a.broken ≡ false → (U.usable a.user × (U.held a.user ≡ a.numbers.items)) };
+    ghost invariant = { λ a. a.broken ≡ false →
+        (U.usable a.user × (U.held a.user ≡ a.numbers.items)) };
 }
 
 /// So many zeros.

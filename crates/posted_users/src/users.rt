@@ -39,7 +39,8 @@ impl<U: LocalConstraint> PostedUsers<U> {
         requires room { vec_len self.old.posted < vec_capacity self.old.posted }
         requires usable { U.usable user }
         requires held { U.held user ≡ numbers.items }
-        ensures { rules_of self.new.posted.items ≡ rules_of self.old.posted.items ++ kept (U.user_rule user) ∷ [] }
+        ensures { rules_of self.new.posted.items ≡
+            rules_of self.old.posted.items ++ kept (U.user_rule user) ∷ [] }
     {
         self.posted
             .push_reserved(PostedUser::of(alloc, user, numbers));

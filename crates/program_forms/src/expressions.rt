@@ -140,7 +140,8 @@ fn is_built_generator(generator: &Generator) -> bool
 
 #[cycle(expression)]
 fn is_built_condition(condition: &Option<Box<Typed>>) -> bool
-    ensures { result ≡ built.is_built_expression (optional whole (option_map (λ e. seen e.value) condition.now)) }
+    ensures { result ≡ built.is_built_expression
+        (optional whole (option_map (λ e. seen e.value) condition.now)) }
 {
     match condition {
         None => true,

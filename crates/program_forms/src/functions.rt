@@ -54,7 +54,9 @@ fn returns_pure(known: &[bool], returned: Option<&Typed>) -> bool
 
 /// Adds whether a function is pure, where it is known which of those before it are.
 fn push_pure(known: &mut Vec<bool>, body: &Task) -> Result<(), NoMemory>
-    ensures { OnOk result (known.new.items ≡ known.old.items ++ purity.returns_pure (known.old.items ++ true ∷ []) (purity.returned_by (work_of body.now)) ∷ []) }
+    ensures { OnOk result (known.new.items ≡
+        known.old.items ++ purity.returns_pure (known.old.items ++ true ∷ [])
+        (purity.returned_by (work_of body.now)) ∷ []) }
 {
     known.push(true)?;
     let pure = returns_pure(known, returned_by(body));
@@ -65,7 +67,8 @@ fn push_pure(known: &mut Vec<bool>, body: &Task) -> Result<(), NoMemory>
 
 /// For each function whether it is pure. `NoMemory` where there is none for the answer.
 pub fn pure_functions(alloc: Global, functions: &[Function]) -> Result<Vec<bool>, NoMemory>
-    ensures { IfOk result (λ known. known.items ≡ purity.pure_functions (map function_of functions.now)) }
+    ensures { IfOk result (λ known. known.items ≡
+        purity.pure_functions (map function_of functions.now)) }
 {
     let mut known = Vec::new(alloc);
     for function in functions {

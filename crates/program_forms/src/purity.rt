@@ -129,7 +129,8 @@ fn is_pure_generator(known: &[bool], generator: &Generator) -> bool
 
 #[cycle(purity)]
 fn is_pure_condition(known: &[bool], condition: &Option<Box<Typed>>) -> bool
-    ensures { result ≡ purity.is_pure known.now (optional whole (option_map (λ e. seen e.value) condition.now)) }
+    ensures { result ≡ purity.is_pure known.now
+        (optional whole (option_map (λ e. seen e.value) condition.now)) }
 {
     match condition {
         None => true,

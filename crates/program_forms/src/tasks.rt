@@ -11,7 +11,8 @@ use crate::expressions::{are_built_generators, is_built_part};
 use checked_tree::{Act, Action, Counter, Generator, Task, Typed};
 
 fn is_built_counter(counter: &Option<Counter>) -> bool
-    ensures { result ≡ built.is_built_option (λ x. built.is_built_part x.start) (option_map counter_of counter.now) }
+    ensures { result ≡ built.is_built_option (λ x.
+        built.is_built_part x.start) (option_map counter_of counter.now) }
 {
     match counter {
         None => true,
@@ -30,7 +31,9 @@ fn is_built_step(step: &Option<Action>) -> bool
 
 #[tactic(auto, using(crate::proofs::Lists::built_rows))]
 fn is_built_head(generators: &[Generator], condition: &Option<Typed>) -> bool
-    ensures { result ≡ (list_all built.is_built_expression (map shape_of_generator generators.now) && built.is_built_option built.is_built_part (option_map seen condition.now)) }
+    ensures { result ≡ (list_all built.is_built_expression
+        (map shape_of_generator generators.now) && built.is_built_option built.is_built_part
+        (option_map seen condition.now)) }
 {
     are_built_generators(generators) && is_built_option(condition)
 }

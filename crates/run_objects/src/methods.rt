@@ -37,7 +37,9 @@ pub fn method<O: Outside>(
     value: &Value,
     arguments: &[Value],
 ) -> Result<Value, Stop>
-    ensures did { Did value_seen result (state_seen s.new (O.told out.new)) (method_value at method (whole (seen object.now)) (value_seen value.now) (map value_seen arguments.now) (state_seen s.old (O.told out.old))) }
+    ensures did { Did value_seen result (state_seen s.new (O.told out.new))
+        (method_value at method (whole (seen object.now)) (value_seen value.now)
+        (map value_seen arguments.now) (state_seen s.old (O.told out.old))) }
     ensures printed { (O.told out.new).printed ≡ (O.told out.old).printed }
     ensures stop { IfErr result IsEndOrMemory }
     ensures fuel { s.new.fuel ≡ s.old.fuel }
@@ -87,7 +89,9 @@ pub fn method<O: Outside>(
 
 /// How many numbers a range holds. `Overflow` at this place exactly where that doesn't fit.
 fn range_size(at: Place, range: &Value) -> Result<Value, Stop>
-    ensures did { (s : states.State) → Did value_seen result s (fitting_number at (pos (size_of (bounds_of (value_seen range.now)))) s) }
+    ensures did { (s : states.State) →
+        Did value_seen result s (fitting_number at
+        (pos (size_of (bounds_of (value_seen range.now)))) s) }
     ensures stop { IfErr result IsFaultOrMemory }
 {
     match fitting(range.bounds().size()) {
@@ -109,7 +113,8 @@ fn fitting(number: u128) -> Result<i64, RunFault>
 
 /// Whether the number is a member of the set.
 fn has_member(set: &Value, member: &Value) -> bool
-    ensures { result ≡ is_member (number_of (value_seen member.now)) (members_of (value_seen set.now)) }
+    ensures { result ≡ is_member (number_of (value_seen member.now))
+        (members_of (value_seen set.now)) }
 {
     match set {
         Value::Set(set) => set.contains(member.number()),
@@ -120,7 +125,9 @@ fn has_member(set: &Value, member: &Value) -> bool
 /// Makes the number a member of the set in a name's cell. Of an object that is no name nothing is changed.
 #[tactic(auto, unfolding(checked_tree::specs::Shape::shape_of))]
 fn insert(s: &mut State, object: &Typed, member: &Value) -> Result<Value, Stop>
-    ensures did { (told : Told) → Did value_seen result (state_seen s.new told) (put_set (whole (seen object.now)) (with_member (number_of (value_seen member.now))) (state_seen s.old told)) }
+    ensures did { (told : Told) → Did value_seen result (state_seen s.new told)
+        (put_set (whole (seen object.now)) (with_member (number_of (value_seen member.now)))
+        (state_seen s.old told)) }
     ensures memory { IfErr result (λ stop. stop ≡ NoMemory) }
     ensures fuel { s.new.fuel ≡ s.old.fuel }
 {
@@ -133,7 +140,9 @@ fn insert(s: &mut State, object: &Typed, member: &Value) -> Result<Value, Stop>
 /// Makes the number no member of the set in a name's cell. Of an object that is no name nothing is changed.
 #[tactic(auto, unfolding(checked_tree::specs::Shape::shape_of))]
 fn delete(s: &mut State, object: &Typed, member: &Value) -> Result<Value, Stop>
-    ensures did { (told : Told) → Did value_seen result (state_seen s.new told) (put_set (whole (seen object.now)) (without_member (number_of (value_seen member.now))) (state_seen s.old told)) }
+    ensures did { (told : Told) → Did value_seen result (state_seen s.new told)
+        (put_set (whole (seen object.now)) (without_member (number_of (value_seen member.now)))
+        (state_seen s.old told)) }
     ensures memory { IfErr result (λ stop. stop ≡ NoMemory) }
     ensures fuel { s.new.fuel ≡ s.old.fuel }
 {
@@ -145,7 +154,9 @@ fn delete(s: &mut State, object: &Typed, member: &Value) -> Result<Value, Stop>
 
 /// Makes the number a member of the set in this cell.
 fn insert_at(s: &mut State, slot: Slot, member: &Value) -> Result<Value, Stop>
-    ensures did { (told : Told) → Did value_seen result (state_seen s.new told) (set_changed slot (with_member (number_of (value_seen member.now))) (state_seen s.old told)) }
+    ensures did { (told : Told) → Did value_seen result (state_seen s.new told)
+        (set_changed slot (with_member (number_of (value_seen member.now)))
+        (state_seen s.old told)) }
     ensures memory { IfErr result (λ stop. stop ≡ NoMemory) }
     ensures fuel { s.new.fuel ≡ s.old.fuel }
 {
@@ -157,7 +168,9 @@ fn insert_at(s: &mut State, slot: Slot, member: &Value) -> Result<Value, Stop>
 
 /// Makes the number no member of the set in this cell.
 fn delete_at(s: &mut State, slot: Slot, member: &Value) -> Result<Value, Stop>
-    ensures did { (told : Told) → Did value_seen result (state_seen s.new told) (set_changed slot (without_member (number_of (value_seen member.now))) (state_seen s.old told)) }
+    ensures did { (told : Told) → Did value_seen result (state_seen s.new told)
+        (set_changed slot (without_member (number_of (value_seen member.now)))
+        (state_seen s.old told)) }
     ensures memory { IfErr result (λ stop. stop ≡ NoMemory) }
     ensures fuel { s.new.fuel ≡ s.old.fuel }
 {

@@ -17,7 +17,9 @@ use std::alloc::Global;
 
 /// A new solver, which is open and has no variables. `NoMemory` where there is none for it.
 pub fn make_solver<O: Outside>(out: &mut O, alloc: Global) -> Result<Value, Stop>
-    ensures did { (s : states.State) → Did value_seen result (beside (O.told out.new) s) (models.make_solver (beside (O.told out.old) s)) }
+    ensures did { (s : states.State) →
+        Did value_seen result (beside (O.told out.new) s)
+        (models.make_solver (beside (O.told out.old) s)) }
     ensures printed { (O.told out.new).printed ≡ (O.told out.old).printed }
     ensures memory { IfErr result (λ stop. stop ≡ NoMemory) }
 {
@@ -29,7 +31,9 @@ pub fn make_solver<O: Outside>(out: &mut O, alloc: Global) -> Result<Value, Stop
 
 /// A new constraint system of a solver. `AlreadyClosed` at this place exactly where the solver is closed.
 pub fn make_system<O: Outside>(out: &mut O, at: Place, solver: &Value) -> Result<Value, Stop>
-    ensures did { (s : states.State) → Did value_seen result (beside (O.told out.new) s) (systems.make_system at (solver_of (value_seen solver.now)) (beside (O.told out.old) s)) }
+    ensures did { (s : states.State) →
+        Did value_seen result (beside (O.told out.new) s)
+        (systems.make_system at (solver_of (value_seen solver.now)) (beside (O.told out.old) s)) }
     ensures printed { (O.told out.new).printed ≡ (O.told out.old).printed }
     ensures stop { IfErr result IsFaultOrMemory }
 {
@@ -38,7 +42,9 @@ pub fn make_system<O: Outside>(out: &mut O, at: Place, solver: &Value) -> Result
 
 /// A new sum of terms in a solver. `AlreadyClosed` at this place exactly where the solver is closed.
 pub fn make_sum<O: Outside>(out: &mut O, at: Place, solver: &Value) -> Result<Value, Stop>
-    ensures did { (s : states.State) → Did value_seen result (beside (O.told out.new) s) (systems.make_sum at (solver_of (value_seen solver.now)) (beside (O.told out.old) s)) }
+    ensures did { (s : states.State) →
+        Did value_seen result (beside (O.told out.new) s)
+        (systems.make_sum at (solver_of (value_seen solver.now)) (beside (O.told out.old) s)) }
     ensures printed { (O.told out.new).printed ≡ (O.told out.old).printed }
     ensures stop { IfErr result IsFaultOrMemory }
 {
@@ -48,7 +54,9 @@ pub fn make_sum<O: Outside>(out: &mut O, at: Place, solver: &Value) -> Result<Va
 /// A new objective of one term, in the solver of the first variable in it. At this place `WrongSolver` where it has none,
 /// then `AlreadyClosed` where that solver is closed, and then the stops of `post`.
 pub fn make_objective<O: Outside>(out: &mut O, at: Place, term: Built) -> Result<Value, Stop>
-    ensures did { (s : states.State) → Did value_seen result (beside (O.told out.new) s) (systems.make_objective at term (beside (O.told out.old) s)) }
+    ensures did { (s : states.State) →
+        Did value_seen result (beside (O.told out.new) s)
+        (systems.make_objective at term (beside (O.told out.old) s)) }
     ensures printed { (O.told out.new).printed ≡ (O.told out.old).printed }
     ensures stop { IfErr result IsFaultOrMemory }
 {

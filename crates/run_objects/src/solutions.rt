@@ -18,7 +18,9 @@ pub fn make_solution<O: Outside>(
     at: Place,
     solver: &Value,
 ) -> Result<Value, Stop>
-    ensures did { Did value_seen result (state_seen s.new (O.told out.new)) (solutions.make_solution at (solver_of (value_seen solver.now)) (state_seen s.old (O.told out.old))) }
+    ensures did { Did value_seen result (state_seen s.new (O.told out.new))
+        (solutions.make_solution at (solver_of (value_seen solver.now))
+        (state_seen s.old (O.told out.old))) }
     ensures printed { (O.told out.new).printed ≡ (O.told out.old).printed }
     ensures stop { IfErr result IsFaultOrMemory }
     ensures fuel { s.new.fuel ≡ s.old.fuel }
@@ -38,7 +40,8 @@ pub fn restore<O: Outside>(
     at: Place,
     solution: &Value,
 ) -> Result<Value, Stop>
-    ensures did { Did value_seen result (state_seen s.new (O.told out.new)) (solutions.restore at (value_seen solution.now) (state_seen s.old (O.told out.old))) }
+    ensures did { Did value_seen result (state_seen s.new (O.told out.new))
+        (solutions.restore at (value_seen solution.now) (state_seen s.old (O.told out.old))) }
     ensures printed { (O.told out.new).printed ≡ (O.told out.old).printed }
     ensures stop { IfErr result IsFaultOrMemory }
     ensures fuel { s.new.fuel ≡ s.old.fuel }

@@ -24,7 +24,9 @@ pub fn post<O: Outside>(
     term: Built,
     weight: i64,
 ) -> Result<Value, Stop>
-    ensures did { (s : states.State) → Did value_seen result (beside (O.told out.new) s) (systems.post at term weight (value_seen whole.now) (beside (O.told out.old) s)) }
+    ensures did { (s : states.State) →
+        Did value_seen result (beside (O.told out.new) s)
+        (systems.post at term weight (value_seen whole.now) (beside (O.told out.old) s)) }
     ensures printed { (O.told out.new).printed ≡ (O.told out.old).printed }
     ensures stop { IfErr result IsFaultOrMemory }
 {
@@ -37,7 +39,9 @@ pub fn post<O: Outside>(
 /// The violations of a system, or the value of an objective. At this place `NotClosed` where the solver is open, and then
 /// `WrongSolver` where it has no such system or objective.
 pub fn whole_value<O: Outside>(out: &O, at: Place, whole: &Value) -> Result<Value, Stop>
-    ensures did { (s : states.State) → Did value_seen result (beside (O.told out.now) s) (of_whole (systems.whole_value at) (value_seen whole.now) (beside (O.told out.now) s)) }
+    ensures did { (s : states.State) →
+        Did value_seen result (beside (O.told out.now) s)
+        (of_whole (systems.whole_value at) (value_seen whole.now) (beside (O.told out.now) s)) }
     ensures stop { IfErr result IsFaultOrMemory }
 {
     out.whole_value(at, whole)

@@ -26,7 +26,9 @@ use term_model::VarDecl;
 /// closed, else the named cycle of its definitions at this place, and else the first fault of its variables, where it was
 /// met.
 pub fn close<O: Outside>(out: &mut O, at: Place, solver: &Value) -> Result<Value, Stop>
-    ensures did { (s : states.State) → Did value_seen result (beside (O.told out.new) s) (models.close at (solver_of (value_seen solver.now)) (beside (O.told out.old) s)) }
+    ensures did { (s : states.State) →
+        Did value_seen result (beside (O.told out.new) s)
+        (models.close at (solver_of (value_seen solver.now)) (beside (O.told out.old) s)) }
     ensures printed { (O.told out.new).printed ≡ (O.told out.old).printed }
     ensures stop { IfErr result IsEndOrMemory }
 {
@@ -47,7 +49,9 @@ pub fn assign<O: Outside>(
     variable: VarId,
     number: i64,
 ) -> Result<(), Stop>
-    ensures did { Did (λ _. tt) result (state_seen s.new (O.told out.new)) (noticed variable.solver (models.assign at variable number) (state_seen s.old (O.told out.old))) }
+    ensures did { Did (λ _. tt) result (state_seen s.new (O.told out.new))
+        (noticed variable.solver (models.assign at variable number)
+        (state_seen s.old (O.told out.old))) }
     ensures printed { (O.told out.new).printed ≡ (O.told out.old).printed }
     ensures stop { IfErr result IsFaultOrMemory }
     ensures fuel { s.new.fuel ≡ s.old.fuel }
@@ -68,7 +72,8 @@ pub fn swap<O: Outside>(
     x: VarId,
     y: VarId,
 ) -> Result<(), Stop>
-    ensures did { Did (λ _. tt) result (state_seen s.new (O.told out.new)) (noticed x.solver (models.swap at x y) (state_seen s.old (O.told out.old))) }
+    ensures did { Did (λ _. tt) result (state_seen s.new (O.told out.new))
+        (noticed x.solver (models.swap at x y) (state_seen s.old (O.told out.old))) }
     ensures printed { (O.told out.new).printed ≡ (O.told out.old).printed }
     ensures stop { IfErr result IsFaultOrMemory }
     ensures fuel { s.new.fuel ≡ s.old.fuel }
@@ -83,7 +88,9 @@ pub fn swap<O: Outside>(
 /// variable, or one in the term, isn't the solver's; then `DefinedVariable` where it has a definition; and then `TooMany`
 /// term nodes where all terms have more distinct subterms than they may.
 pub fn define<O: Outside>(out: &mut O, at: Place, variable: VarId, term: Built) -> Result<(), Stop>
-    ensures did { (s : states.State) → Did (λ _. tt) result (beside (O.told out.new) s) (models.define at variable term (beside (O.told out.old) s)) }
+    ensures did { (s : states.State) →
+        Did (λ _. tt) result (beside (O.told out.new) s)
+        (models.define at variable term (beside (O.told out.old) s)) }
     ensures printed { (O.told out.new).printed ≡ (O.told out.old).printed }
     ensures stop { IfErr result IsFaultOrMemory }
 {
@@ -120,7 +127,9 @@ pub fn variable_in<O: Outside>(
     name: Text,
     beginning: Beginning,
 ) -> Result<VarId, Stop>
-    ensures did { Did (λ x. x) result (state_seen s.new (O.told out.new)) (variables.variable_in at slot decl name (beginning_seen beginning) (state_seen s.old (O.told out.old))) }
+    ensures did { Did (λ x. x) result (state_seen s.new (O.told out.new))
+        (variables.variable_in at slot decl name (beginning_seen beginning)
+        (state_seen s.old (O.told out.old))) }
     ensures printed { (O.told out.new).printed ≡ (O.told out.old).printed }
     ensures stop { IfErr result IsFaultOrMemory }
     ensures fuel { s.new.fuel ≡ s.old.fuel }
@@ -135,7 +144,9 @@ pub fn variable_in<O: Outside>(
 /// variable.
 #[tactic(auto, unfolding(comet_meaning::specs::Models::domain_of))]
 pub fn domain_of<O: Outside>(out: &O, at: Place, value: &Value) -> Result<Value, Stop>
-    ensures did { (s : states.State) → Did value_seen result (beside (O.told out.now) s) (models.domain_of at (value_seen value.now) (beside (O.told out.now) s)) }
+    ensures did { (s : states.State) →
+        Did value_seen result (beside (O.told out.now) s)
+        (models.domain_of at (value_seen value.now) (beside (O.told out.now) s)) }
     ensures stop { IfErr result IsFaultOrMemory }
 {
     match value {
@@ -147,7 +158,9 @@ pub fn domain_of<O: Outside>(out: &O, at: Place, value: &Value) -> Result<Value,
 /// The domain of a variable.
 #[tactic(auto, unfolding(comet_meaning::specs::Models::domain_of))]
 fn variable_domain<O: Outside>(out: &O, at: Place, variable: VarId) -> Result<Value, Stop>
-    ensures did { (s : states.State) → Did value_seen result (beside (O.told out.now) s) (models.domain_of at (values.Variable variable) (beside (O.told out.now) s)) }
+    ensures did { (s : states.State) →
+        Did value_seen result (beside (O.told out.now) s)
+        (models.domain_of at (values.Variable variable) (beside (O.told out.now) s)) }
     ensures stop { IfErr result IsFaultOrMemory }
 {
     match out.domain(at, variable) {
@@ -159,7 +172,9 @@ fn variable_domain<O: Outside>(out: &O, at: Place, variable: VarId) -> Result<Va
 /// Opens a `with` on a solver, and tells whether it is the outermost. `NotClosed` at this place exactly where the solver
 /// is open.
 pub fn open_with<O: Outside>(out: &mut O, at: Place, solver: &Value) -> Result<bool, Stop>
-    ensures did { (s : states.State) → Did (λ b. b) result (beside (O.told out.new) s) (opened at (solver_of (value_seen solver.now)) (beside (O.told out.old) s)) }
+    ensures did { (s : states.State) →
+        Did (λ b. b) result (beside (O.told out.new) s)
+        (opened at (solver_of (value_seen solver.now)) (beside (O.told out.old) s)) }
     ensures printed { (O.told out.new).printed ≡ (O.told out.old).printed }
     ensures stop { IfErr result IsFaultOrMemory }
 {

@@ -23,7 +23,9 @@ pub fn write<O: Outside>(
     target: &Target,
     value: Value,
 ) -> Result<(), Stop>
-    ensures did { Did (λ _. tt) result (state_seen s.new (O.told out.new)) (meaning.write at (target_seen target.now) (value_seen value) (state_seen s.old (O.told out.old))) }
+    ensures did { Did (λ _. tt) result (state_seen s.new (O.told out.new))
+        (meaning.write at (target_seen target.now) (value_seen value)
+        (state_seen s.old (O.told out.old))) }
     ensures printed { (O.told out.new).printed ≡ (O.told out.old).printed }
     ensures stop { IfErr result IsFaultOrMemory }
     ensures fuel { s.new.fuel ≡ s.old.fuel }
@@ -49,7 +51,8 @@ pub fn added<O: Outside>(
     old: i64,
     by: i64,
 ) -> Result<(), Stop>
-    ensures did { Did (λ _. tt) result (state_seen s.new (O.told out.new)) (changed at (target_seen target.now) (old +ℤ by) (state_seen s.old (O.told out.old))) }
+    ensures did { Did (λ _. tt) result (state_seen s.new (O.told out.new))
+        (changed at (target_seen target.now) (old +ℤ by) (state_seen s.old (O.told out.old))) }
     ensures printed { (O.told out.new).printed ≡ (O.told out.old).printed }
     ensures stop { IfErr result IsFaultOrMemory }
     ensures fuel { s.new.fuel ≡ s.old.fuel }
@@ -70,7 +73,8 @@ pub fn subtracted<O: Outside>(
     old: i64,
     by: i64,
 ) -> Result<(), Stop>
-    ensures did { Did (λ _. tt) result (state_seen s.new (O.told out.new)) (changed at (target_seen target.now) (old -ℤ by) (state_seen s.old (O.told out.old))) }
+    ensures did { Did (λ _. tt) result (state_seen s.new (O.told out.new))
+        (changed at (target_seen target.now) (old -ℤ by) (state_seen s.old (O.told out.old))) }
     ensures printed { (O.told out.new).printed ≡ (O.told out.old).printed }
     ensures stop { IfErr result IsFaultOrMemory }
     ensures fuel { s.new.fuel ≡ s.old.fuel }
@@ -91,7 +95,9 @@ pub fn stepped<O: Outside>(
     step: Step,
     old: i64,
 ) -> Result<(), Stop>
-    ensures did { Did (λ _. tt) result (state_seen s.new (O.told out.new)) (changed at (target_seen target.now) (meaning.stepped step old) (state_seen s.old (O.told out.old))) }
+    ensures did { Did (λ _. tt) result (state_seen s.new (O.told out.new))
+        (changed at (target_seen target.now) (meaning.stepped step old)
+        (state_seen s.old (O.told out.old))) }
     ensures printed { (O.told out.new).printed ≡ (O.told out.old).printed }
     ensures stop { IfErr result IsFaultOrMemory }
     ensures fuel { s.new.fuel ≡ s.old.fuel }

@@ -49,7 +49,9 @@ pub(crate) fn open_beside<U: LocalConstraint>(
     at: Place,
     number: usize,
 ) -> Result<bool, Stop>
-    ensures did { (printed : List ℕ) (users : List User) (s : State) → Did (λ b. b) result (beside (told_of printed solvers.new users) s) (opened at number (beside (told_of printed solvers.old users) s)) }
+    ensures did { (printed : List ℕ) (users : List User) (s : State) →
+        Did (λ b. b) result (beside (told_of printed solvers.new users) s)
+        (opened at number (beside (told_of printed solvers.old users) s)) }
     ensures stop { IfErr result IsFaultOrMemory }
 {
     solvers.open_block(at, number)

@@ -28,13 +28,19 @@ impl<U: LocalConstraint> Model for HandedIn<U> {
 
     ghost coded = { user_code };
 
-    ghost view = { λ a. record { name = a.name.items; rule = rule_left (option_map (λ user. kept (U.user_rule user)) a.user); free = a.free } };
+    ghost view = { λ a. record {
+      name = a.name.items;
+      rule = rule_left
+          (option_map (λ user. kept (U.user_rule user)) a.user);
+      free = a.free;
+    } };
 }
 
 impl<U: LocalConstraint> HandedIn<U> {
     /// One that is free.
     pub fn new(alloc: Global, user: U) -> Result<HandedIn<U>, NoMemory>
-        ensures { IfOk result (λ one. one ≡ record { name = U.user_name user; rule = kept (U.user_rule user); free = true }) }
+        ensures { IfOk result (λ one. one ≡
+            record { name = U.user_name user; rule = kept (U.user_rule user); free = true }) }
     {
         let name = user.name().as_bytes().to_vec(alloc)?;
         Ok(HandedIn {
@@ -136,7 +142,8 @@ pub(crate) fn take<U: LocalConstraint>(users: &mut Vec<HandedIn<U>>, number: usi
 /// The constraint with a number, which is given to a system, if it wasn't before.
 #[tactic(auto, using(crate::proofs::HandedLaws::given_set, crate::proofs::HandedLaws::given_past, crate::proofs::HandedLaws::rule_at))]
 pub(crate) fn give<U: LocalConstraint>(users: &mut Vec<HandedIn<U>>, number: usize) -> Option<U>
-    ensures rule { IfSome result (λ user. kept (U.user_rule user) ≡ rule_in users.old.items number) }
+    ensures rule { IfSome result (λ user.
+        kept (U.user_rule user) ≡ rule_in users.old.items number) }
     ensures given { users.new.items ≡ with_given users.old.items number }
 {
     if number >= users.len() {

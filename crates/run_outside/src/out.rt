@@ -23,9 +23,11 @@ pub trait Out {
     #[inline]
     fn put(&mut self, bytes: &[u8]) -> Result<(), OutStop>
         ensures ok { OnOk result (taken self.new ≡ taken self.old ++ bytes.now) }
-        ensures lowered { OnOk result (share self.new ≡ share_behind (share self.old) (length bytes.now)) }
+        ensures lowered { OnOk result (share self.new ≡
+            share_behind (share self.old) (length bytes.now)) }
         ensures full { (result ≡ Err Full) ↔ (is_short (share self.old) (length bytes.now) ≡ true) }
-        ensures kept { result ≡ Err Full → (taken self.new ≡ taken self.old) × (share self.new ≡ share self.old) }
+        ensures kept { result ≡ Err Full →
+            (taken self.new ≡ taken self.old) × (share self.new ≡ share self.old) }
         ensures begun { IsFront (taken self.old) (taken self.new) }
         ensures front { IsFront (taken self.new) (taken self.old ++ bytes.now) }
         ensures untold { share self.old ≡ None → share self.new ≡ None }

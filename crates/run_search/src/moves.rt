@@ -12,7 +12,8 @@ pub fn copied_moves(
     alloc: Global,
     moves: &[Option<KeptMove>],
 ) -> Result<Vec<Option<KeptMove>>, Stop>
-    ensures same { IfOk result (λ copies. map (option_map move_seen) copies.items ≡ map (option_map move_seen) moves.now) }
+    ensures same { IfOk result (λ copies. map (option_map move_seen) copies.items ≡
+        map (option_map move_seen) moves.now) }
     ensures memory { IfErr result (λ stop. stop ≡ NoMemory) }
 {
     let mut copies = Vec::new(alloc);

@@ -127,7 +127,11 @@ impl Search {
     /// of them, by the next word.
     pub fn pick(&mut self, ties: &Ties) -> Option<u64>
         ensures chosen { result ≡ (picked ties.now (search_seen self.old).words).0 }
-        ensures words { search_seen self.new ≡ record (search_seen self.old) { words = (picked ties.now (search_seen self.old).words).1 } }
+        ensures words { search_seen self.new ≡
+            record (search_seen self.old) {
+              words =
+                  (picked ties.now (search_seen self.old).words).1;
+            } }
     {
         pick(ties, &mut self.draws)
     }
@@ -136,7 +140,8 @@ impl Search {
     /// stop.
     pub fn keep(&mut self, solution: Solution) -> Result<usize, Stop>
         ensures number { IfOk result (λ number. number ≡ length (search_seen self.old).solutions) }
-        ensures kept { OnOk result (search_seen self.new ≡ with_solution (solution_seen solution) (search_seen self.old)) }
+        ensures kept { OnOk result (search_seen self.new ≡
+            with_solution (solution_seen solution) (search_seen self.old)) }
         ensures memory { IfErr result (λ stop. stop ≡ NoMemory) }
     {
         let number = self.solutions.len();
@@ -146,7 +151,8 @@ impl Search {
 
     /// The solution with a number.
     pub fn solution(&self, number: usize) -> Option<&Solution>
-        ensures { option_map (λ x. solution_seen x.now) result ≡ slice_get (search_seen self.now).solutions number }
+        ensures { option_map (λ x. solution_seen x.now) result ≡
+            slice_get (search_seen self.now).solutions number }
     {
         self.solutions.get(number)
     }
@@ -154,7 +160,8 @@ impl Search {
     /// Attaches a reaction to a variable, behind the others. `NoMemory` where there is none for it, and where its number
     /// doesn't fit 32 bits, which no machine has memory for; there is no other stop.
     pub fn attach(&mut self, variable: VarId, reaction: Reaction) -> Result<(), Stop>
-        ensures attached { OnOk result (search_seen self.new ≡ with_reaction variable (reaction_seen reaction) (search_seen self.old)) }
+        ensures attached { OnOk result (search_seen self.new ≡
+            with_reaction variable (reaction_seen reaction) (search_seen self.old)) }
         ensures memory { IfErr result (λ stop. stop ≡ NoMemory) }
     {
         let Ok(number) = u32::try_from(self.reactions.len()) else {
@@ -177,7 +184,8 @@ impl Search {
     /// The first event, which is taken off the queue; `None` exactly where there is none.
     pub fn next_event(&mut self) -> Option<Event>
         ensures first { option_map event_seen result ≡ slice_get (search_seen self.old).queue 0 }
-        ensures left { search_seen self.new ≡ with_queue (drop 1 (search_seen self.old).queue) (search_seen self.old) }
+        ensures left { search_seen self.new ≡
+            with_queue (drop 1 (search_seen self.old).queue) (search_seen self.old) }
     {
         self.queue.next()
     }
@@ -185,7 +193,8 @@ impl Search {
     /// A copy of the reaction with a number. `NoMemory` where there is none for it, and where there is no such reaction, which
     /// no event names; there is no other stop.
     pub fn reaction(&self, alloc: Global, number: u32) -> Result<Reaction, Stop>
-        ensures same { IfOk result (λ r. reaction_seen r ≡ slice_index_or (search_seen self.now).reactions number no_reaction) }
+        ensures same { IfOk result (λ r. reaction_seen r ≡
+            slice_index_or (search_seen self.now).reactions number no_reaction) }
         ensures memory { IfErr result (λ stop. stop ≡ NoMemory) }
     {
         match self.reactions.get(number as usize) {

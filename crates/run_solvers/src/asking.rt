@@ -43,7 +43,8 @@ pub(crate) fn total_of(value: &Value) -> Option<TotalId>
 
 /// What a solver answers, as a run has it.
 fn answer_of(at: Place, answer: Result<i64, SolverFault>) -> Result<Value, Stop>
-    ensures did { (reply : Result ℤ AskStop) → IsReply reply answer → (s : State) → Did value_seen result s (give_asked at reply s) }
+    ensures did { (reply : Result ℤ AskStop) → IsReply reply answer → (s : State) →
+        Did value_seen result s (give_asked at reply s) }
     ensures stop { IfErr result IsFaultOrMemory }
 {
     match answer {
@@ -62,7 +63,8 @@ impl<U: LocalConstraint> Held<U> {
     pub(crate) fn total_value(&self, at: Place, total: TotalId) -> Result<Value, Stop>
         requires kept { IsKept self.now }
         requires own { total.solver ≡ self.now.number }
-        ensures did { (s : State) → Did value_seen result s (valuing at (whole_of total) (held_seen self.now) s) }
+        ensures did { (s : State) → Did value_seen result s
+            (valuing at (whole_of total) (held_seen self.now) s) }
         ensures stop { IfErr result IsFaultOrMemory }
     {
         match self.solver.total(total) {
@@ -111,7 +113,9 @@ impl<U: LocalConstraint> Held<U> {
     pub(crate) fn violations_of(&self, at: Place, total: TotalId, x: VarId) -> Result<Value, Stop>
         requires kept { IsKept self.now }
         requires own { total.solver ≡ self.now.number }
-        ensures did { (s : State) → Did value_seen result s (asking at total.solver (whole_of total) (x ∷ []) (violations_answer (held_seen self.now) (whole_of total) x) (held_seen self.now) s) }
+        ensures did { (s : State) → Did value_seen result s
+            (asking at total.solver (whole_of total) (x ∷ [])
+            (violations_answer (held_seen self.now) (whole_of total) x) (held_seen self.now) s) }
         ensures stop { IfErr result IsFaultOrMemory }
     {
         match total.side {
@@ -125,7 +129,9 @@ impl<U: LocalConstraint> Held<U> {
         requires kept { IsKept self.now }
         requires own { total.solver ≡ self.now.number }
         requires side { total.side ≡ Systems }
-        ensures did { (s : State) → Did value_seen result s (asking at total.solver (whole_of total) (x ∷ []) (violations_answer (held_seen self.now) (whole_of total) x) (held_seen self.now) s) }
+        ensures did { (s : State) → Did value_seen result s
+            (asking at total.solver (whole_of total) (x ∷ [])
+            (violations_answer (held_seen self.now) (whole_of total) x) (held_seen self.now) s) }
         ensures stop { IfErr result IsFaultOrMemory }
     {
         let system = SystemId {
@@ -140,7 +146,9 @@ impl<U: LocalConstraint> Held<U> {
         requires kept { IsKept self.now }
         requires own { total.solver ≡ self.now.number }
         requires side { total.side ≡ Objectives }
-        ensures did { (s : State) → Did value_seen result s (asking at total.solver (whole_of total) (x ∷ []) (violations_answer (held_seen self.now) (whole_of total) x) (held_seen self.now) s) }
+        ensures did { (s : State) → Did value_seen result s
+            (asking at total.solver (whole_of total) (x ∷ [])
+            (violations_answer (held_seen self.now) (whole_of total) x) (held_seen self.now) s) }
         ensures stop { IfErr result IsFaultOrMemory }
     {
         if !self.solver.is_closed() {

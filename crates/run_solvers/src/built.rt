@@ -129,7 +129,9 @@ fn deepest_of(terms: &[Built]) -> u32
 /// is; there is no other stop.
 #[tactic(auto, unfolding(comet_meaning::specs::TermForms::node_form))]
 pub fn user_fits(at: Place, places: &[Built]) -> Result<(), Stop>
-    ensures did { (number : ℕ) (s : State) → Did (λ _. building.node (User number) places.now at) result s (node_form at (User number) places.now s) }
+    ensures did { (number : ℕ) (s : State) →
+        Did (λ _. building.node (User number) places.now at) result s
+        (node_form at (User number) places.now s) }
     ensures stop { IfErr result IsFaultOrMemory }
 {
     if deepest_of(places) >= MAX_TERM_DEPTH {
@@ -179,7 +181,9 @@ fn deeper(depth: u32, other: u32) -> u32
 
 /// One more term, behind those in a row.
 fn push_built(row: &mut Row, built: Built) -> Result<(), NoMemory>
-    ensures { OnOk result ((before : List Tree) → AreBuilt row.old.terms.items row.old.deepest before → AreBuilt row.new.terms.items row.new.deepest (before ++ built ∷ [])) }
+    ensures { OnOk result ((before : List Tree) →
+        AreBuilt row.old.terms.items row.old.deepest before →
+        AreBuilt row.new.terms.items row.new.deepest (before ++ built ∷ [])) }
 {
     let depth = built.depth;
     row.terms.push(built.term)?;
@@ -192,7 +196,8 @@ fn push_built(row: &mut Row, built: Built) -> Result<(), NoMemory>
 fn node_over(at: Place, op: Op, row: Row) -> Result<Built, Stop>
     requires built { (plain : List Tree) × AreBuilt row.terms.items row.deepest plain }
     requires users { user_number op ≡ [] }
-    ensures did { (plain : List Tree) → AreBuilt row.terms.items row.deepest plain → (s : State) → Did (λ t. t) result s (node_form at op plain s) }
+    ensures did { (plain : List Tree) → AreBuilt row.terms.items row.deepest plain → (s : State) →
+        Did (λ t. t) result s (node_form at op plain s) }
     ensures stop { IfErr result IsFaultOrMemory }
 {
     if row.deepest >= MAX_TERM_DEPTH {

@@ -32,7 +32,8 @@ impl<U: LocalConstraint> Held<U> {
     ) -> Result<Vec<VarChange>, Stop>
         requires kept { IsKept self.old }
         requires own { variable.solver ≡ self.old.number }
-        ensures { Moves self.old self.new result (assigned_one at variable number (held_seen self.old)) }
+        ensures { Moves self.old self.new result
+            (assigned_one at variable number (held_seen self.old)) }
     {
         let made = self.try_assign(at, variable, number);
         self.finish(made)
@@ -47,7 +48,8 @@ impl<U: LocalConstraint> Held<U> {
     ) -> Result<Vec<VarChange>, Stop>
         requires kept { IsKept self.old }
         requires own { variable.solver ≡ self.old.number }
-        ensures { TriesToMove self.old self.new result (assigned_one at variable number (held_seen self.old)) }
+        ensures { TriesToMove self.old self.new result
+            (assigned_one at variable number (held_seen self.old)) }
     {
         if !self.solver.owns(variable) {
             return Err(Stop::Fault(at, RunFault::WrongSolver));
@@ -103,7 +105,8 @@ impl<U: LocalConstraint> Held<U> {
     fn exchange(&mut self, x: VarId, y: VarId) -> Result<Vec<VarChange>, Stop>
         requires kept { IsKept self.old }
         requires own { (is_own self.old.solver x ≡ true) × (is_own self.old.solver y ≡ true) }
-        requires free { (has_definition self.old.solver.model x.index ≡ false) × (has_definition self.old.solver.model y.index ≡ false) }
+        requires free { (has_definition self.old.solver.model x.index ≡ false) ×
+            (has_definition self.old.solver.model y.index ≡ false) }
         ensures { TriesToMove self.old self.new result (moved_one ((x.index, number_now (held_seen self.old) y.index) ∷ (y.index, number_now (held_seen self.old) x.index) ∷ []) (held_seen self.old) (held_seen self.old).waiting) }
     {
         match self.number_of(x) {
@@ -120,7 +123,8 @@ impl<U: LocalConstraint> Held<U> {
         requires kept { IsKept self.now }
         requires own { is_own self.now.solver variable ≡ true }
         requires free { has_definition self.now.solver.model variable.index ≡ false }
-        ensures value { IfOk result (λ number. number ≡ number_now (held_seen self.now) variable.index) }
+        ensures value { IfOk result (λ number.
+            number ≡ number_now (held_seen self.now) variable.index) }
         ensures stop { IfErr result (λ stop. stop ≡ WithoutMemory) }
     {
         match self.solver.value(variable) {
@@ -135,7 +139,9 @@ impl<U: LocalConstraint> Held<U> {
         requires kept { IsKept self.old }
         requires own { is_own self.old.solver variable ≡ true }
         requires free { has_definition self.old.solver.model variable.index ≡ false }
-        ensures { TriesToMove self.old self.new result (moved_one ((variable.index, number) ∷ []) (held_seen self.old) (held_seen self.old).waiting) }
+        ensures { TriesToMove self.old self.new result
+            (moved_one ((variable.index, number) ∷ []) (held_seen self.old)
+            (held_seen self.old).waiting) }
     {
         self.solver.keeps_form();
         if wait_in(&mut self.waiting, variable.index, number) {
@@ -151,9 +157,13 @@ impl<U: LocalConstraint> Held<U> {
         second: (VarId, i64),
     ) -> Result<Vec<VarChange>, Stop>
         requires kept { IsKept self.old }
-        requires own { (is_own self.old.solver first.0 ≡ true) × (is_own self.old.solver second.0 ≡ true) }
-        requires free { (has_definition self.old.solver.model first.0.index ≡ false) × (has_definition self.old.solver.model second.0.index ≡ false) }
-        ensures { TriesToMove self.old self.new result (moved_one ((first.0.index, first.1) ∷ (second.0.index, second.1) ∷ []) (held_seen self.old) (held_seen self.old).waiting) }
+        requires own { (is_own self.old.solver first.0 ≡ true) ×
+            (is_own self.old.solver second.0 ≡ true) }
+        requires free { (has_definition self.old.solver.model first.0.index ≡ false) ×
+            (has_definition self.old.solver.model second.0.index ≡ false) }
+        ensures { TriesToMove self.old self.new result
+            (moved_one ((first.0.index, first.1) ∷ (second.0.index, second.1) ∷ [])
+            (held_seen self.old) (held_seen self.old).waiting) }
     {
         self.solver.keeps_form();
         if wait_in(&mut self.waiting, first.0.index, first.1) {
@@ -170,8 +180,14 @@ impl<U: LocalConstraint> Held<U> {
         requires kept { IsKept self.old }
         requires nothing { waits self.old ≡ None }
         requires distinct { AreDistinct moves.now }
-        requires free { (k : ℕ) (m : VarId × ℤ) → slice_get moves.now k ≡ Some m → (is_own self.old.solver m.0 ≡ true) × (has_definition self.old.solver.model m.0.index ≡ false) }
-        ensures { TriesToMove self.old self.new result (evaluated (record (held_seen self.old) { assignment = after_moves (indexed moves.now) self.old.solver.assignment })) }
+        requires free { (k : ℕ) (m : VarId × ℤ) → slice_get moves.now k ≡ Some m →
+            (is_own self.old.solver m.0 ≡ true) ×
+            (has_definition self.old.solver.model m.0.index ≡ false) }
+        ensures { TriesToMove self.old self.new result
+            (evaluated (record (held_seen self.old) {
+              assignment = after_moves
+                  (indexed moves.now) self.old.solver.assignment;
+            })) }
     {
         self.solver.keeps_form();
         match self.solver.commit_uncounted(moves) {
@@ -219,7 +235,9 @@ impl<U: LocalConstraint> Held<U> {
     /// was met.
     pub(crate) fn commit_waiting(&mut self) -> Result<Vec<VarChange>, Stop>
         requires { IsKept self.old }
-        ensures { Moves self.old self.new result (made_or (held_seen self.old) (committed_one (held_seen self.old) (held_seen self.old).waiting)) }
+        ensures { Moves self.old self.new result
+            (made_or (held_seen self.old) (committed_one (held_seen self.old)
+            (held_seen self.old).waiting)) }
     {
         let made = self.try_commit_waiting();
         self.finish(made)
@@ -228,7 +246,9 @@ impl<U: LocalConstraint> Held<U> {
     /// The same, where a solver that stops is left as it may be.
     fn try_commit_waiting(&mut self) -> Result<Vec<VarChange>, Stop>
         requires { IsKept self.old }
-        ensures { TriesToMove self.old self.new result (made_or (held_seen self.old) (committed_one (held_seen self.old) (held_seen self.old).waiting)) }
+        ensures { TriesToMove self.old self.new result
+            (made_or (held_seen self.old) (committed_one (held_seen self.old)
+            (held_seen self.old).waiting)) }
     {
         match mem::replace(&mut self.waiting, None) {
             None => Ok(Vec::new(self.alloc)),

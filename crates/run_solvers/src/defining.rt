@@ -35,7 +35,8 @@ impl<U: LocalConstraint> Held<U> {
     pub(crate) fn define(&mut self, at: Place, variable: VarId, built: Built) -> Result<(), Stop>
         requires kept { IsKept self.old }
         requires own { variable.solver ≡ self.old.number }
-        ensures { Changes self.old self.new result (defined_one at variable built (held_seen self.old)) }
+        ensures { Changes self.old self.new result
+            (defined_one at variable built (held_seen self.old)) }
     {
         let made = self.try_define(at, variable, built);
         self.finish(made)
@@ -46,9 +47,11 @@ impl<U: LocalConstraint> Held<U> {
     fn try_define(&mut self, at: Place, variable: VarId, built: Built) -> Result<(), Stop>
         requires whole { IsWholeHeld self.old }
         requires own { variable.solver ≡ self.old.number }
-        ensures meant { Makes (held_seen self.new) result (defined_one at variable built (held_seen self.old)) }
+        ensures meant { Makes (held_seen self.new) result
+            (defined_one at variable built (held_seen self.old)) }
         ensures whole { OnOk result (IsWholeHeld self.new) }
-        ensures sets { OnOk result (HasDefinedOthers self.old.solver.model variable.index → HasDefinedSets self.new.solver.model) }
+        ensures sets { OnOk result (HasDefinedOthers self.old.solver.model variable.index →
+            HasDefinedSets self.new.solver.model) }
         ensures number { self.new.number ≡ self.old.number }
     {
         let term = built.term();
@@ -67,7 +70,9 @@ impl<U: LocalConstraint> Held<U> {
         requires whole { IsWholeHeld self.now }
         requires early { early_refusal self.now.solver variable term.now ≡ None }
         requires depth { depth_of term.now ≤ MAX_TERM_DEPTH }
-        ensures { IfOk result (λ is. is ≡ same_kind (kind_in (held_seen self.now) variable.index) (kind_of_term (kinds_in (held_seen self.now).model.vars.items) term.now)) }
+        ensures { IfOk result (λ is. is ≡
+            same_kind (kind_in (held_seen self.now) variable.index)
+            (kind_of_term (kinds_in (held_seen self.now).model.vars.items) term.now)) }
     {
         let wanted = self.solver.kind(variable);
         let kind = self.solver.kind_of(term)?;
@@ -80,10 +85,13 @@ impl<U: LocalConstraint> Held<U> {
         requires own { variable.solver ≡ self.old.number }
         requires early { early_refusal self.old.solver variable term ≡ None }
         requires shallow { IsShallow term }
-        requires kind { kind_of_term (kinds_in self.old.solver.model.vars.items) term ≡ kinds_in self.old.solver.model.vars.items variable.index }
-        ensures meant { Makes (held_seen self.new) result (sized_one at variable (plain_term term) (held_seen self.old)) }
+        requires kind { kind_of_term (kinds_in self.old.solver.model.vars.items) term ≡
+            kinds_in self.old.solver.model.vars.items variable.index }
+        ensures meant { Makes (held_seen self.new) result
+            (sized_one at variable (plain_term term) (held_seen self.old)) }
         ensures whole { OnOk result (IsWholeHeld self.new) }
-        ensures sets { OnOk result (HasDefinedOthers self.old.solver.model variable.index → HasDefinedSets self.new.solver.model) }
+        ensures sets { OnOk result (HasDefinedOthers self.old.solver.model variable.index →
+            HasDefinedSets self.new.solver.model) }
         ensures number { self.new.number ≡ self.old.number }
     {
         self.solver.keeps_form();
@@ -98,9 +106,12 @@ impl<U: LocalConstraint> Held<U> {
         requires whole { IsWholeHeld self.old }
         requires own { variable.solver ≡ self.old.number }
         requires early { early_refusal self.old.solver variable (constant (pos 0)) ≡ None }
-        ensures meant { Makes (held_seen self.new) result (sized_one at variable (nothing_of (kind_in (held_seen self.old) variable.index)) (held_seen self.old)) }
+        ensures meant { Makes (held_seen self.new) result
+            (sized_one at variable (nothing_of (kind_in (held_seen self.old) variable.index))
+            (held_seen self.old)) }
         ensures whole { OnOk result (IsWholeHeld self.new) }
-        ensures sets { OnOk result (HasDefinedOthers self.old.solver.model variable.index → HasDefinedSets self.new.solver.model) }
+        ensures sets { OnOk result (HasDefinedOthers self.old.solver.model variable.index →
+            HasDefinedSets self.new.solver.model) }
         ensures number { self.new.number ≡ self.old.number }
     {
         let term = nothing_of(self.alloc, self.solver.kind(variable));
@@ -118,7 +129,9 @@ impl<U: LocalConstraint> Held<U> {
         beginning: Beginning,
     ) -> Result<VarId, Stop>
         requires { IsKept self.old }
-        ensures changes { Changes self.old self.new result (added_one at self.old.number decl name (beginning_seen beginning) (held_seen self.old)) }
+        ensures changes { Changes self.old self.new result
+            (added_one at self.old.number decl name (beginning_seen beginning)
+            (held_seen self.old)) }
         ensures id { IfOk result (λ x. x ≡ next_variable self.old.number (held_seen self.old)) }
     {
         let made = self.try_add(at, decl, name, beginning);
@@ -134,7 +147,9 @@ impl<U: LocalConstraint> Held<U> {
         beginning: Beginning,
     ) -> Result<VarId, Stop>
         requires { IsKept self.old }
-        ensures tries { Tries self.old self.new result (added_one at self.old.number decl name (beginning_seen beginning) (held_seen self.old)) }
+        ensures tries { Tries self.old self.new result
+            (added_one at self.old.number decl name (beginning_seen beginning)
+            (held_seen self.old)) }
         ensures id { IfOk result (λ x. x ≡ next_variable self.old.number (held_seen self.old)) }
     {
         match beginning {
@@ -146,7 +161,8 @@ impl<U: LocalConstraint> Held<U> {
     /// The same of a variable that begins with a number.
     fn add_free(&mut self, at: Place, decl: VarDecl, name: Text, number: i64) -> Result<VarId, Stop>
         requires { IsKept self.old }
-        ensures tries { Tries self.old self.new result (added_one at self.old.number decl name (free number) (held_seen self.old)) }
+        ensures tries { Tries self.old self.new result
+            (added_one at self.old.number decl name (free number) (held_seen self.old)) }
         ensures id { IfOk result (λ x. x ≡ next_variable self.old.number (held_seen self.old)) }
     {
         match decl.kind {
@@ -164,7 +180,8 @@ impl<U: LocalConstraint> Held<U> {
         built: Built,
     ) -> Result<VarId, Stop>
         requires { IsKept self.old }
-        ensures tries { Tries self.old self.new result (added_one at self.old.number decl name (defined built) (held_seen self.old)) }
+        ensures tries { Tries self.old self.new result
+            (added_one at self.old.number decl name (defined built) (held_seen self.old)) }
         ensures id { IfOk result (λ x. x ≡ next_variable self.old.number (held_seen self.old)) }
     {
         match self.declare(at, decl, name, 0) {
@@ -179,9 +196,11 @@ impl<U: LocalConstraint> Held<U> {
     /// A new variable with a name and a number.
     fn declare(&mut self, at: Place, decl: VarDecl, name: Text, start: i64) -> Result<VarId, Stop>
         requires { IsKept self.old }
-        ensures meant { Makes (held_seen self.new) result (declared_one at decl name start (held_seen self.old)) }
+        ensures meant { Makes (held_seen self.new) result
+            (declared_one at decl name start (held_seen self.old)) }
         ensures whole { OnOk result (IsWholeHeld self.new) }
-        ensures sets { OnOk result (HasDefinedOthers self.new.solver.model (length self.old.solver.model.vars.items)) }
+        ensures sets { OnOk result (HasDefinedOthers self.new.solver.model
+            (length self.old.solver.model.vars.items)) }
         ensures numbers { OnOk result (decl.kind ≡ Number → HasDefinedSets self.new.solver.model) }
         ensures id { IfOk result (λ x. x ≡ next_variable self.old.number (held_seen self.old)) }
         ensures number { self.new.number ≡ self.old.number }
@@ -198,7 +217,8 @@ impl<U: LocalConstraint> Held<U> {
 
 /// Whether a kind is the wanted one; where none is wanted, a number is.
 pub(crate) fn are_same(wanted: Option<VarKind>, kind: Option<VarKind>) -> bool
-    ensures { result ≡ same_kind (kind_or_number (option_map kind_of_var wanted)) (option_map kind_of_var kind) }
+    ensures { result ≡ same_kind (kind_or_number (option_map kind_of_var wanted))
+        (option_map kind_of_var kind) }
 {
     match (wanted, kind) {
         (Some(VarKind::Set), Some(VarKind::Set)) => true,

@@ -21,7 +21,8 @@ impl<U: LocalConstraint> Solvers<U> {
     /// A new system of the solver with a number, which is declared at a place. `AlreadyClosed` there exactly where the
     /// solver is closed. `NoMemory` also where there is no such solver, which no run asks.
     pub fn new_system(&mut self, at: Place, number: usize) -> Result<Value, Stop>
-        ensures did { (s : State) → s.solvers ≡ self.old → Did value_seen result (record s { solvers = self.new }) (make_system at number s) }
+        ensures did { (s : State) → s.solvers ≡ self.old →
+            Did value_seen result (record s { solvers = self.new }) (make_system at number s) }
         ensures stop { IfErr result IsFaultOrMemory }
     {
         if number >= self.held.len() {
@@ -32,7 +33,8 @@ impl<U: LocalConstraint> Solvers<U> {
 
     /// A new sum of the solver with a number, likewise.
     pub fn new_sum(&mut self, at: Place, number: usize) -> Result<Value, Stop>
-        ensures did { (s : State) → s.solvers ≡ self.old → Did value_seen result (record s { solvers = self.new }) (make_sum at number s) }
+        ensures did { (s : State) → s.solvers ≡ self.old →
+            Did value_seen result (record s { solvers = self.new }) (make_sum at number s) }
         ensures stop { IfErr result IsFaultOrMemory }
     {
         if number >= self.held.len() {
@@ -45,7 +47,8 @@ impl<U: LocalConstraint> Solvers<U> {
     /// none; then `AlreadyClosed` where the solver is closed; and then the stops of `post`. `NoMemory` also where there is
     /// no such solver, which no run asks.
     pub fn new_objective(&mut self, at: Place, built: Built) -> Result<Value, Stop>
-        ensures did { (s : State) → s.solvers ≡ self.old → Did value_seen result (record s { solvers = self.new }) (make_objective at built s) }
+        ensures did { (s : State) → s.solvers ≡ self.old →
+            Did value_seen result (record s { solvers = self.new }) (make_objective at built s) }
         ensures stop { IfErr result IsFaultOrMemory }
     {
         match built.first_variable() {
@@ -56,7 +59,9 @@ impl<U: LocalConstraint> Solvers<U> {
 
     /// A new objective of one term, of the solver with a number.
     fn objective_in(&mut self, at: Place, solver: u32, built: Built) -> Result<Value, Stop>
-        ensures did { (s : State) → s.solvers ≡ self.old → Did value_seen result (record s { solvers = self.new }) (adding_objective at solver built (solver_at s solver) s) }
+        ensures did { (s : State) → s.solvers ≡ self.old →
+            Did value_seen result (record s { solvers = self.new })
+            (adding_objective at solver built (solver_at s solver) s) }
         ensures stop { IfErr result IsFaultOrMemory }
     {
         let number = solver as usize;
@@ -71,7 +76,9 @@ impl<U: LocalConstraint> Solvers<U> {
     /// then `OutOfRange` where the weight is below 0; and then `TooMany` term nodes where all terms have more distinct
     /// subterms than they may.
     pub fn post(&mut self, at: Place, whole: &Value, built: Built, weight: i64) -> Result<(), Stop>
-        ensures did { (s : State) → s.solvers ≡ self.old → Did (λ _. values.Nothing) result (record s { solvers = self.new }) (post at built weight (value_seen whole.now) s) }
+        ensures did { (s : State) → s.solvers ≡ self.old →
+            Did (λ _. values.Nothing) result (record s { solvers = self.new })
+            (post at built weight (value_seen whole.now) s) }
         ensures stop { IfErr result IsFaultOrMemory }
     {
         match total_of(whole) {
@@ -82,7 +89,9 @@ impl<U: LocalConstraint> Solvers<U> {
 
     /// Posts a term with a weight to a system or an objective.
     fn post_to(&mut self, at: Place, total: TotalId, built: Built, weight: i64) -> Result<(), Stop>
-        ensures did { (s : State) → s.solvers ≡ self.old → Did (λ _. values.Nothing) result (record s { solvers = self.new }) (post_to at built weight total.solver (whole_of total) s) }
+        ensures did { (s : State) → s.solvers ≡ self.old →
+            Did (λ _. values.Nothing) result (record s { solvers = self.new })
+            (post_to at built weight total.solver (whole_of total) s) }
         ensures stop { IfErr result IsFaultOrMemory }
     {
         let number = total.solver as usize;
@@ -95,7 +104,8 @@ impl<U: LocalConstraint> Solvers<U> {
     /// The violations of a system, or the value of an objective, asked at a place; of any other value nothing. There
     /// `NotClosed` exactly where its solver is open.
     pub fn whole_value(&self, at: Place, whole: &Value) -> Result<Value, Stop>
-        ensures did { (s : State) → s.solvers ≡ self.now → Did value_seen result s (of_whole (whole_value at) (value_seen whole.now) s) }
+        ensures did { (s : State) → s.solvers ≡ self.now →
+            Did value_seen result s (of_whole (whole_value at) (value_seen whole.now) s) }
         ensures stop { IfErr result IsFaultOrMemory }
     {
         match total_of(whole) {
@@ -106,7 +116,8 @@ impl<U: LocalConstraint> Solvers<U> {
 
     /// The same of a system or an objective.
     fn total_value(&self, at: Place, total: TotalId) -> Result<Value, Stop>
-        ensures did { (s : State) → s.solvers ≡ self.now → Did value_seen result s (whole_value at total.solver (whole_of total) s) }
+        ensures did { (s : State) → s.solvers ≡ self.now →
+            Did value_seen result s (whole_value at total.solver (whole_of total) s) }
         ensures stop { IfErr result IsFaultOrMemory }
     {
         let number = total.solver as usize;
@@ -120,7 +131,8 @@ impl<U: LocalConstraint> Solvers<U> {
     /// `NotClosed` where its solver is open; then `WrongSolver` where the variable isn't of its solver; and then
     /// `Overflow`.
     pub fn violations_of(&self, at: Place, whole: &Value, x: VarId) -> Result<Value, Stop>
-        ensures did { (s : State) → s.solvers ≡ self.now → Did value_seen result s (of_whole (variable_violations at x) (value_seen whole.now) s) }
+        ensures did { (s : State) → s.solvers ≡ self.now →
+            Did value_seen result s (of_whole (variable_violations at x) (value_seen whole.now) s) }
         ensures stop { IfErr result IsFaultOrMemory }
     {
         match total_of(whole) {
@@ -131,7 +143,8 @@ impl<U: LocalConstraint> Solvers<U> {
 
     /// The same of a system or an objective.
     fn total_violations(&self, at: Place, total: TotalId, x: VarId) -> Result<Value, Stop>
-        ensures did { (s : State) → s.solvers ≡ self.now → Did value_seen result s (variable_violations at x total.solver (whole_of total) s) }
+        ensures did { (s : State) → s.solvers ≡ self.now →
+            Did value_seen result s (variable_violations at x total.solver (whole_of total) s) }
         ensures stop { IfErr result IsFaultOrMemory }
     {
         let number = total.solver as usize;
@@ -151,7 +164,9 @@ impl<U: LocalConstraint> Solvers<U> {
         x: VarId,
         number: i64,
     ) -> Result<Value, Stop>
-        ensures did { (s : State) → s.solvers ≡ self.now → Did value_seen result s (of_whole (delta at (x ∷ []) (Assign x.index number)) (value_seen whole.now) s) }
+        ensures did { (s : State) → s.solvers ≡ self.now →
+            Did value_seen result s (of_whole (delta at (x ∷ []) (Assign x.index number))
+            (value_seen whole.now) s) }
         ensures stop { IfErr result IsFaultOrMemory }
     {
         match total_of(whole) {
@@ -162,7 +177,9 @@ impl<U: LocalConstraint> Solvers<U> {
 
     /// The same of a system or an objective.
     fn total_assigned(&self, at: Place, total: TotalId, x: VarId, v: i64) -> Result<Value, Stop>
-        ensures did { (s : State) → s.solvers ≡ self.now → Did value_seen result s (delta at (x ∷ []) (Assign x.index v) total.solver (whole_of total) s) }
+        ensures did { (s : State) → s.solvers ≡ self.now →
+            Did value_seen result s (delta at (x ∷ []) (Assign x.index v) total.solver
+            (whole_of total) s) }
         ensures stop { IfErr result IsFaultOrMemory }
     {
         let number = total.solver as usize;
@@ -175,7 +192,9 @@ impl<U: LocalConstraint> Solvers<U> {
     /// How it would change if two variables exchanged their numbers, by 0 where they are one. The stops are those of
     /// `assign_delta`, of both variables.
     pub fn swap_delta(&self, at: Place, whole: &Value, x: VarId, y: VarId) -> Result<Value, Stop>
-        ensures did { (s : State) → s.solvers ≡ self.now → Did value_seen result s (of_whole (delta at (x ∷ y ∷ []) (Swap x.index y.index)) (value_seen whole.now) s) }
+        ensures did { (s : State) → s.solvers ≡ self.now →
+            Did value_seen result s (of_whole (delta at (x ∷ y ∷ []) (Swap x.index y.index))
+            (value_seen whole.now) s) }
         ensures stop { IfErr result IsFaultOrMemory }
     {
         match total_of(whole) {
@@ -186,7 +205,9 @@ impl<U: LocalConstraint> Solvers<U> {
 
     /// The same of a system or an objective.
     fn total_swapped(&self, at: Place, total: TotalId, x: VarId, y: VarId) -> Result<Value, Stop>
-        ensures did { (s : State) → s.solvers ≡ self.now → Did value_seen result s (delta at (x ∷ y ∷ []) (Swap x.index y.index) total.solver (whole_of total) s) }
+        ensures did { (s : State) → s.solvers ≡ self.now →
+            Did value_seen result s (delta at (x ∷ y ∷ []) (Swap x.index y.index) total.solver
+            (whole_of total) s) }
         ensures stop { IfErr result IsFaultOrMemory }
     {
         let number = total.solver as usize;

@@ -23,7 +23,8 @@ impl<U: LocalConstraint> Held<U> {
     /// variable, and `NotClosed` exactly where only a closed solver has its value.
     pub(crate) fn read(&self, at: Place, index: u32) -> Result<Value, Stop>
         requires { IsKept self.now }
-        ensures did { (s : State) → Did value_seen result s (variable_value at index (held_seen self.now) s) }
+        ensures did { (s : State) → Did value_seen result s
+            (variable_value at index (held_seen self.now) s) }
         ensures stop { IfErr result IsFaultOrMemory }
     {
         let variable = self.own(index);
@@ -38,7 +39,8 @@ impl<U: LocalConstraint> Held<U> {
     fn read_number(&self, at: Place, variable: VarId) -> Result<Value, Stop>
         requires kept { IsKept self.now }
         requires kind { own_kind self.now.solver variable ≡ Some number_kind }
-        ensures did { (s : State) → Did value_seen result s (variable_value at variable.index (held_seen self.now) s) }
+        ensures did { (s : State) → Did value_seen result s
+            (variable_value at variable.index (held_seen self.now) s) }
         ensures stop { IfErr result IsFaultOrMemory }
     {
         match self.solver.value(variable) {
@@ -51,7 +53,8 @@ impl<U: LocalConstraint> Held<U> {
     fn read_set(&self, at: Place, variable: VarId) -> Result<Value, Stop>
         requires kept { IsKept self.now }
         requires kind { own_kind self.now.solver variable ≡ Some set_kind }
-        ensures did { (s : State) → Did value_seen result s (variable_value at variable.index (held_seen self.now) s) }
+        ensures did { (s : State) → Did value_seen result s
+            (variable_value at variable.index (held_seen self.now) s) }
         ensures stop { IfErr result IsFaultOrMemory }
     {
         match self.solver.set_value(variable) {
@@ -67,7 +70,9 @@ impl<U: LocalConstraint> Held<U> {
     /// such variable.
     pub(crate) fn domain(&self, at: Place, index: u32) -> Result<Bounds, Stop>
         requires { IsKept self.now }
-        ensures did { (s : State) → Did (λ d. values.Range (bounds_seen d)) result s (domain_at at (record { solver = self.now.number; index = index }) (held_seen self.now) s) }
+        ensures did { (s : State) → Did (λ d. values.Range (bounds_seen d)) result s
+            (domain_at at (record { solver = self.now.number; index = index })
+            (held_seen self.now) s) }
         ensures stop { IfErr result IsFaultOrMemory }
     {
         match self.solver.domain(self.own(index)) {

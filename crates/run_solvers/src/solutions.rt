@@ -25,7 +25,8 @@ impl<U: LocalConstraint> Held<U> {
     /// The numbers of the free variables. `NotClosed` at this place exactly where the solver is open.
     fn snapshot(&self, at: Place) -> Result<Solution, Stop>
         requires { IsKept self.now }
-        ensures did { (s : State) → Did (λ x. x.values) result s (kept_numbers at (held_seen self.now) s) }
+        ensures did { (s : State) → Did (λ x.
+            x.values) result s (kept_numbers at (held_seen self.now) s) }
         ensures number { IfOk result (λ x. x.solver ≡ self.now.number) }
         ensures stop { IfErr result IsFaultOrMemory }
     {
@@ -42,7 +43,8 @@ impl<U: LocalConstraint> Held<U> {
     fn restore(&mut self, at: Place, solution: &Solution) -> Result<Vec<VarChange>, Stop>
         requires kept { IsKept self.old }
         requires own { solution.now.solver ≡ self.old.number }
-        ensures { Moves self.old self.new result (restored_one at solution.now.values (held_seen self.old)) }
+        ensures { Moves self.old self.new result
+            (restored_one at solution.now.values (held_seen self.old)) }
     {
         let made = self.try_restore(at, solution);
         self.finish(made)
@@ -52,7 +54,8 @@ impl<U: LocalConstraint> Held<U> {
     fn try_restore(&mut self, at: Place, solution: &Solution) -> Result<Vec<VarChange>, Stop>
         requires kept { IsKept self.old }
         requires own { solution.now.solver ≡ self.old.number }
-        ensures { TriesToMove self.old self.new result (restored_one at solution.now.values (held_seen self.old)) }
+        ensures { TriesToMove self.old self.new result
+            (restored_one at solution.now.values (held_seen self.old)) }
     {
         if self.waiting.is_some() {
             return self.restore_later(at, solution.values.as_slice());
@@ -65,7 +68,8 @@ impl<U: LocalConstraint> Held<U> {
         requires kept { IsKept self.old }
         requires own { solution.now.solver ≡ self.old.number }
         requires nothing { waits self.old ≡ None }
-        ensures { TriesToMove self.old self.new result (restored_one at solution.now.values (held_seen self.old)) }
+        ensures { TriesToMove self.old self.new result
+            (restored_one at solution.now.values (held_seen self.old)) }
     {
         self.solver.keeps_form();
         match self.solver.restore_uncounted(solution) {
@@ -81,7 +85,8 @@ impl<U: LocalConstraint> Held<U> {
     fn restore_later(&mut self, at: Place, values: &[i64]) -> Result<Vec<VarChange>, Stop>
         requires kept { IsKept self.old }
         requires waits { is_some (waits self.old) ≡ true }
-        ensures { TriesToMove self.old self.new result (restored_one at values.now (held_seen self.old)) }
+        ensures { TriesToMove self.old self.new result
+            (restored_one at values.now (held_seen self.old)) }
     {
         let Ok(free) = self.free_indices() else {
             return Err(Stop::NoMemory);
@@ -113,7 +118,8 @@ impl<U: LocalConstraint> Held<U> {
 impl<U: LocalConstraint> Solvers<U> {
     /// The numbers of the free variables of the solver with a number. `NotClosed` at this place exactly where it is open.
     pub fn snapshot(&self, at: Place, number: usize) -> Result<Solution, Stop>
-        ensures did { (s : State) → s.solvers ≡ self.now → Did (λ x. x.values) result s (kept_numbers at (solver_at s number) s) }
+        ensures did { (s : State) → s.solvers ≡ self.now →
+            Did (λ x. x.values) result s (kept_numbers at (solver_at s number) s) }
         ensures number { IfOk result (λ x. x.solver ≡ number) }
         ensures stop { IfErr result IsFaultOrMemory }
     {

@@ -78,7 +78,8 @@ impl<U: LocalConstraint> Solvers<U> {
     /// where its number doesn't fit 32 bits, which no machine has memory for; there is no other stop.
     #[tactic(auto, unfolding(comet_meaning::specs::Models::make_solver))]
     pub fn make(&mut self, alloc: Global) -> Result<usize, Stop>
-        ensures did { (s : State) → s.solvers ≡ self.old → Did (λ k. values.Solver k) result (record s { solvers = self.new }) (make_solver s) }
+        ensures did { (s : State) → s.solvers ≡ self.old →
+            Did (λ k. values.Solver k) result (record s { solvers = self.new }) (make_solver s) }
         ensures memory { IfErr result (λ stop. stop ≡ NoMemory) }
     {
         let number = self.held.len();
@@ -92,7 +93,9 @@ impl<U: LocalConstraint> Solvers<U> {
     /// The value of a variable that is read at a place. `WrongSolver` there exactly where its solver has no such variable,
     /// and `NotClosed` exactly where only a closed solver has its value.
     pub fn read(&self, at: Place, variable: VarId) -> Result<Value, Stop>
-        ensures did { (s : State) → s.solvers ≡ self.now → Did value_seen result s (variable_value at variable.index (solver_at s variable.solver) s) }
+        ensures did { (s : State) → s.solvers ≡ self.now →
+            Did value_seen result s (variable_value at variable.index
+            (solver_at s variable.solver) s) }
         ensures stop { IfErr result IsFaultOrMemory }
     {
         let number = variable.solver as usize;
@@ -105,7 +108,9 @@ impl<U: LocalConstraint> Solvers<U> {
     /// The domain of a variable that is asked at a place. `WrongSolver` there exactly where its solver has no such
     /// variable.
     pub fn domain(&self, at: Place, variable: VarId) -> Result<Bounds, Stop>
-        ensures did { (s : State) → s.solvers ≡ self.now → Did (λ d. values.Range (bounds_seen d)) result s (domain_at at variable (solver_at s variable.solver) s) }
+        ensures did { (s : State) → s.solvers ≡ self.now →
+            Did (λ d. values.Range (bounds_seen d)) result s
+            (domain_at at variable (solver_at s variable.solver) s) }
         ensures stop { IfErr result IsFaultOrMemory }
     {
         let number = variable.solver as usize;
@@ -119,7 +124,8 @@ impl<U: LocalConstraint> Solvers<U> {
     /// closed, else the named cycle of its definitions at this place, and else the fault of its variables where it was
     /// met. `NoMemory` also where there is no such solver, which no run closes.
     pub fn close(&mut self, at: Place, number: usize) -> Result<(), Stop>
-        ensures did { (s : State) → s.solvers ≡ self.old → Did (λ _. values.Nothing) result (record s { solvers = self.new }) (close at number s) }
+        ensures did { (s : State) → s.solvers ≡ self.old →
+            Did (λ _. values.Nothing) result (record s { solvers = self.new }) (close at number s) }
         ensures stop { IfErr result IsEndOrMemory }
     {
         if number >= self.held.len() {
@@ -137,7 +143,8 @@ impl<U: LocalConstraint> Solvers<U> {
         variable: VarId,
         number: i64,
     ) -> Result<Vec<VarChange>, Stop>
-        ensures did { (s : State) → s.solvers ≡ self.old → Did (λ _. tt) result (record s { solvers = self.new }) (assign at variable number s) }
+        ensures did { (s : State) → s.solvers ≡ self.old →
+            Did (λ _. tt) result (record s { solvers = self.new }) (assign at variable number s) }
         ensures told { TellsIn variable.solver self.old self.new result }
         ensures stop { IfErr result IsFaultOrMemory }
     {
@@ -151,7 +158,8 @@ impl<U: LocalConstraint> Solvers<U> {
     /// Gives each of two variables the number that the other has, which wait while a `with` is open. The stops are those
     /// of `assign`, of both variables; `WrongSolver` also where they aren't of one solver. Tells what changed.
     pub fn swap(&mut self, at: Place, x: VarId, y: VarId) -> Result<Vec<VarChange>, Stop>
-        ensures did { (s : State) → s.solvers ≡ self.old → Did (λ _. tt) result (record s { solvers = self.new }) (swap at x y s) }
+        ensures did { (s : State) → s.solvers ≡ self.old →
+            Did (λ _. tt) result (record s { solvers = self.new }) (swap at x y s) }
         ensures told { TellsIn x.solver self.old self.new result }
         ensures stop { IfErr result IsFaultOrMemory }
     {
@@ -166,7 +174,8 @@ impl<U: LocalConstraint> Solvers<U> {
     /// variable, or one in the term, isn't the solver's; then `DefinedVariable` where it has a definition; and then
     /// `TooMany` term nodes where all terms have more distinct subterms than they may.
     pub fn define(&mut self, at: Place, variable: VarId, built: Built) -> Result<(), Stop>
-        ensures did { (s : State) → s.solvers ≡ self.old → Did (λ _. tt) result (record s { solvers = self.new }) (define at variable built s) }
+        ensures did { (s : State) → s.solvers ≡ self.old →
+            Did (λ _. tt) result (record s { solvers = self.new }) (define at variable built s) }
         ensures stop { IfErr result IsFaultOrMemory }
     {
         let own = variable.solver as usize;
@@ -188,7 +197,9 @@ impl<U: LocalConstraint> Solvers<U> {
         name: Text,
         beginning: Beginning,
     ) -> Result<VarId, Stop>
-        ensures did { (s : State) → s.solvers ≡ self.old → Did (λ x. x) result (record s { solvers = self.new }) (new_variable at number decl name (beginning_seen beginning) s) }
+        ensures did { (s : State) → s.solvers ≡ self.old →
+            Did (λ x. x) result (record s { solvers = self.new })
+            (new_variable at number decl name (beginning_seen beginning) s) }
         ensures stop { IfErr result IsFaultOrMemory }
     {
         if number >= self.held.len() {
@@ -200,7 +211,8 @@ impl<U: LocalConstraint> Solvers<U> {
     /// Opens a `with` on the solver with a number, and tells whether it is the outermost. `NotClosed` at this place exactly
     /// where the solver is open.
     pub fn open_block(&mut self, at: Place, number: usize) -> Result<bool, Stop>
-        ensures did { (s : State) → s.solvers ≡ self.old → Did (λ b. b) result (record s { solvers = self.new }) (opened at number s) }
+        ensures did { (s : State) → s.solvers ≡ self.old →
+            Did (λ b. b) result (record s { solvers = self.new }) (opened at number s) }
         ensures stop { IfErr result IsFaultOrMemory }
     {
         if number >= self.held.len() {
@@ -212,7 +224,8 @@ impl<U: LocalConstraint> Solvers<U> {
     /// Commits what waits in the solver with a number, at the end of the outermost `with`, and tells what changed. The stop
     /// is the fault of the solver's variables where it was met.
     pub fn commit_waiting(&mut self, alloc: Global, number: usize) -> Result<Vec<VarChange>, Stop>
-        ensures did { (s : State) → s.solvers ≡ self.old → Did (λ _. tt) result (record s { solvers = self.new }) (commit_waiting number s) }
+        ensures did { (s : State) → s.solvers ≡ self.old →
+            Did (λ _. tt) result (record s { solvers = self.new }) (commit_waiting number s) }
         ensures told { TellsIn number self.old self.new result }
         ensures stop { IfErr result IsFaultOrMemory }
     {

@@ -35,8 +35,11 @@ impl<U: LocalConstraint> Held<U> {
     /// A new system. `AlreadyClosed` at this place exactly where the solver is closed.
     pub(crate) fn new_system(&mut self, at: Place) -> Result<Value, Stop>
         requires { IsKept self.old }
-        ensures changes { Changes self.old self.new result (total_one at Systems (held_seen self.old)) }
-        ensures value { IfOk result (λ v. value_seen v ≡ values.System self.old.number (length (held_seen self.old).model.systems.items)) }
+        ensures changes { Changes self.old self.new result
+            (total_one at Systems (held_seen self.old)) }
+        ensures value { IfOk result (λ v.
+            value_seen v ≡ values.System self.old.number
+            (length (held_seen self.old).model.systems.items)) }
     {
         let solver = self.number;
         match self.new_total(at, Side::Systems) {
@@ -48,8 +51,11 @@ impl<U: LocalConstraint> Held<U> {
     /// A new objective without terms, likewise.
     pub(crate) fn new_sum(&mut self, at: Place) -> Result<Value, Stop>
         requires { IsKept self.old }
-        ensures changes { Changes self.old self.new result (total_one at Objectives (held_seen self.old)) }
-        ensures value { IfOk result (λ v. value_seen v ≡ values.Objective self.old.number (length (held_seen self.old).model.objectives.items)) }
+        ensures changes { Changes self.old self.new result
+            (total_one at Objectives (held_seen self.old)) }
+        ensures value { IfOk result (λ v.
+            value_seen v ≡ values.Objective self.old.number
+            (length (held_seen self.old).model.objectives.items)) }
     {
         let solver = self.number;
         match self.new_total(at, Side::Objectives) {
@@ -61,8 +67,10 @@ impl<U: LocalConstraint> Held<U> {
     /// A new one of either side; tells its number.
     fn new_total(&mut self, at: Place, side: Side) -> Result<u32, Stop>
         requires { IsKept self.old }
-        ensures changes { Changes self.old self.new result (total_one at side (held_seen self.old)) }
-        ensures index { IfOk result (λ index. index ≡ length (totals_by (held_seen self.old).model side)) }
+        ensures changes { Changes self.old self.new result
+            (total_one at side (held_seen self.old)) }
+        ensures index { IfOk result (λ index.
+            index ≡ length (totals_by (held_seen self.old).model side)) }
     {
         let made = self.try_total(at, side);
         self.finish(made)
@@ -72,7 +80,8 @@ impl<U: LocalConstraint> Held<U> {
     fn try_total(&mut self, at: Place, side: Side) -> Result<u32, Stop>
         requires { IsKept self.old }
         ensures tries { Tries self.old self.new result (total_one at side (held_seen self.old)) }
-        ensures index { IfOk result (λ index. index ≡ length (totals_by (held_seen self.old).model side)) }
+        ensures index { IfOk result (λ index.
+            index ≡ length (totals_by (held_seen self.old).model side)) }
     {
         match self.solver.new_total(side, at) {
             Ok(index) => Ok(index),
@@ -93,7 +102,8 @@ impl<U: LocalConstraint> Held<U> {
     ) -> Result<(), Stop>
         requires kept { IsKept self.old }
         requires own { total.solver ≡ self.old.number }
-        ensures { Changes self.old self.new result (posted_one at total.solver (whole_of total) built weight (held_seen self.old)) }
+        ensures { Changes self.old self.new result
+            (posted_one at total.solver (whole_of total) built weight (held_seen self.old)) }
     {
         let made = self.try_post(at, total, built, weight);
         self.finish(made)
@@ -103,7 +113,8 @@ impl<U: LocalConstraint> Held<U> {
     fn try_post(&mut self, at: Place, total: TotalId, built: Built, weight: i64) -> Result<(), Stop>
         requires kept { IsKept self.old }
         requires own { total.solver ≡ self.old.number }
-        ensures { Tries self.old self.new result (posted_one at total.solver (whole_of total) built weight (held_seen self.old)) }
+        ensures { Tries self.old self.new result
+            (posted_one at total.solver (whole_of total) built weight (held_seen self.old)) }
     {
         let term = built.term();
         if let Some(fault) = self.solver.early_member_refusal(total, &term, weight) {
@@ -119,8 +130,11 @@ impl<U: LocalConstraint> Held<U> {
     /// Posts the number 0.
     fn post_nothing(&mut self, at: Place, total: TotalId, weight: i64) -> Result<(), Stop>
         requires kept { IsKept self.old }
-        requires early { early_member_refusal self.old.solver total (constant (pos 0)) weight ≡ None }
-        ensures { Tries self.old self.new result (sized_member at (whole_of total) (record { term = constant (pos 0); weight = weight }) (held_seen self.old)) }
+        requires early { early_member_refusal self.old.solver total (constant (pos 0)) weight ≡
+            None }
+        ensures { Tries self.old self.new result
+            (sized_member at (whole_of total) (record { term = constant (pos 0); weight = weight })
+            (held_seen self.old)) }
     {
         let term = nothing_of(self.alloc, None);
         self.post_number(at, total, term, weight)
@@ -129,7 +143,9 @@ impl<U: LocalConstraint> Held<U> {
     /// Whether a term is a number.
     pub(crate) fn is_number(&self, term: &Term) -> Result<bool, NoMemory>
         requires { depth_of term.now ≤ MAX_TERM_DEPTH }
-        ensures { IfOk result (λ is. is ≡ same_kind number_kind (kind_of_term (kinds_in (held_seen self.now).model.vars.items) term.now)) }
+        ensures { IfOk result (λ is. is ≡
+            same_kind number_kind (kind_of_term
+            (kinds_in (held_seen self.now).model.vars.items) term.now)) }
     {
         let kind = self.solver.kind_of(term)?;
         Ok(are_same(Some(VarKind::Number), kind))
@@ -146,8 +162,11 @@ impl<U: LocalConstraint> Held<U> {
         requires kept { IsKept self.old }
         requires early { early_member_refusal self.old.solver total term weight ≡ None }
         requires shallow { IsShallow term }
-        requires kind { kind_of_term (kinds_in self.old.solver.model.vars.items) term ≡ Some number_kind }
-        ensures { Tries self.old self.new result (sized_member at (whole_of total) (plain_member (record { term = term; weight = weight })) (held_seen self.old)) }
+        requires kind { kind_of_term (kinds_in self.old.solver.model.vars.items) term ≡
+            Some number_kind }
+        ensures { Tries self.old self.new result
+            (sized_member at (whole_of total)
+            (plain_member (record { term = term; weight = weight })) (held_seen self.old)) }
     {
         self.solver.keeps_form();
         match self.solver.add_member(total, Member { term, weight }) {
@@ -159,8 +178,11 @@ impl<U: LocalConstraint> Held<U> {
     /// A new objective of one term. The stops are those of `post`.
     pub(crate) fn new_objective(&mut self, at: Place, built: Built) -> Result<Value, Stop>
         requires { IsKept self.old }
-        ensures changes { Changes self.old self.new result (objective_one at self.old.number built (held_seen self.old)) }
-        ensures value { IfOk result (λ v. value_seen v ≡ values.Objective self.old.number (length (held_seen self.old).model.objectives.items)) }
+        ensures changes { Changes self.old self.new result
+            (objective_one at self.old.number built (held_seen self.old)) }
+        ensures value { IfOk result (λ v.
+            value_seen v ≡ values.Objective self.old.number
+            (length (held_seen self.old).model.objectives.items)) }
     {
         let made = self.try_objective(at, built);
         self.finish(made)
@@ -169,8 +191,11 @@ impl<U: LocalConstraint> Held<U> {
     /// The same, where a solver that stops is left as it may be.
     fn try_objective(&mut self, at: Place, built: Built) -> Result<Value, Stop>
         requires { IsKept self.old }
-        ensures tries { Tries self.old self.new result (objective_one at self.old.number built (held_seen self.old)) }
-        ensures value { IfOk result (λ v. value_seen v ≡ values.Objective self.old.number (length (held_seen self.old).model.objectives.items)) }
+        ensures tries { Tries self.old self.new result
+            (objective_one at self.old.number built (held_seen self.old)) }
+        ensures value { IfOk result (λ v.
+            value_seen v ≡ values.Objective self.old.number
+            (length (held_seen self.old).model.objectives.items)) }
     {
         let solver = self.number;
         match self.try_total(at, Side::Objectives) {
@@ -185,7 +210,9 @@ impl<U: LocalConstraint> Held<U> {
     /// Posts a term of weight 1 to the objective with a number.
     fn post_first(&mut self, at: Place, index: u32, built: Built) -> Result<(), Stop>
         requires { IsKept self.old }
-        ensures { Tries self.old self.new result (posted_one at self.old.number (wholes.Objective index) built (pos 1) (held_seen self.old)) }
+        ensures { Tries self.old self.new result
+            (posted_one at self.old.number (wholes.Objective index) built (pos 1)
+            (held_seen self.old)) }
     {
         let total = TotalId {
             side: Side::Objectives,

@@ -46,7 +46,9 @@ impl<U: LocalConstraint> Held<U> {
     ) -> Result<(), Stop>
         requires kept { IsKept self.old }
         requires own { total.solver ≡ self.old.number }
-        ensures { Changes self.old self.new result (posted_user_one at total.solver (whole_of total) (kept (U.user_rule user)) places.items weight (held_seen self.old)) }
+        ensures { Changes self.old self.new result
+            (posted_user_one at total.solver (whole_of total)
+            (kept (U.user_rule user)) places.items weight (held_seen self.old)) }
     {
         let made = self.try_post_user(at, total, user, places, weight);
         self.finish(made)
@@ -63,7 +65,9 @@ impl<U: LocalConstraint> Held<U> {
     ) -> Result<(), Stop>
         requires kept { IsKept self.old }
         requires own { total.solver ≡ self.old.number }
-        ensures { Tries self.old self.new result (posted_user_one at total.solver (whole_of total) (kept (U.user_rule user)) places.items weight (held_seen self.old)) }
+        ensures { Tries self.old self.new result
+            (posted_user_one at total.solver (whole_of total)
+            (kept (U.user_rule user)) places.items weight (held_seen self.old)) }
     {
         match total.side {
             Side::Systems => self.post_places(at, total, user, places, weight),
@@ -83,7 +87,9 @@ impl<U: LocalConstraint> Held<U> {
         requires kept { IsKept self.old }
         requires own { total.solver ≡ self.old.number }
         requires side { total.side ≡ Systems }
-        ensures { Tries self.old self.new result (posted_user_one at total.solver (whole_of total) (kept (U.user_rule user)) places.items weight (held_seen self.old)) }
+        ensures { Tries self.old self.new result
+            (posted_user_one at total.solver (whole_of total)
+            (kept (U.user_rule user)) places.items weight (held_seen self.old)) }
     {
         match row_of(places) {
             Ok(row) => self.post_row(at, total, user, row, weight),
@@ -104,7 +110,9 @@ impl<U: LocalConstraint> Held<U> {
         requires own { total.solver ≡ self.old.number }
         requires side { total.side ≡ Systems }
         requires built { (plain : List Tree) × AreBuilt row.terms.items row.deepest plain }
-        ensures { (plain : List Tree) → AreBuilt row.terms.items row.deepest plain → Tries self.old self.new result (posted_user_one at total.solver (whole_of total) (kept (U.user_rule user)) plain weight (held_seen self.old)) }
+        ensures { (plain : List Tree) → AreBuilt row.terms.items row.deepest plain →
+            Tries self.old self.new result (posted_user_one at total.solver (whole_of total)
+            (kept (U.user_rule user)) plain weight (held_seen self.old)) }
     {
         if row.deepest >= MAX_TERM_DEPTH {
             return Err(Stop::NoMemory);
@@ -119,7 +127,9 @@ impl<U: LocalConstraint> Held<U> {
     /// Whether terms are numbers.
     fn are_numbers(&self, terms: &[Term]) -> Result<bool, NoMemory>
         requires { All (λ t. depth_of t ≤ MAX_TERM_DEPTH) terms.now }
-        ensures { IfOk result (λ are. are ≡ true → All (λ t. kind_of_term (kinds_in self.now.solver.model.vars.items) t ≡ Some number_kind) terms.now) }
+        ensures { IfOk result (λ are. are ≡ true →
+            All (λ t. kind_of_term (kinds_in self.now.solver.model.vars.items) t ≡
+            Some number_kind) terms.now) }
     {
         for term in terms {
             if !self.is_number(term)? {
@@ -143,8 +153,11 @@ impl<U: LocalConstraint> Held<U> {
         requires side { total.side ≡ Systems }
         requires deep { row.deepest < MAX_TERM_DEPTH }
         requires users { All (λ t. users_of t ≡ []) row.terms.items }
-        requires kinds { All (λ t. kind_of_term (kinds_in self.old.solver.model.vars.items) t ≡ Some number_kind) row.terms.items }
-        ensures { (plain : List Tree) → AreBuilt row.terms.items row.deepest plain → Tries self.old self.new result (posted_user_one at total.solver (whole_of total) (kept (U.user_rule user)) plain weight (held_seen self.old)) }
+        requires kinds { All (λ t. kind_of_term (kinds_in self.old.solver.model.vars.items) t ≡
+            Some number_kind) row.terms.items }
+        ensures { (plain : List Tree) → AreBuilt row.terms.items row.deepest plain →
+            Tries self.old self.new result (posted_user_one at total.solver (whole_of total)
+            (kept (U.user_rule user)) plain weight (held_seen self.old)) }
     {
         self.solver.keeps_form();
         let system = SystemId {
@@ -170,7 +183,9 @@ impl<U: LocalConstraint> Solvers<U> {
         places: Vec<Built>,
         weight: i64,
     ) -> Result<(), Stop>
-        ensures did { (s : State) → s.solvers ≡ self.old → Did (λ _. values.Nothing) result (record s { solvers = self.new }) (post_user at (kept (U.user_rule user)) places.items weight (value_seen whole.now) s) }
+        ensures did { (s : State) → s.solvers ≡ self.old →
+            Did (λ _. values.Nothing) result (record s { solvers = self.new })
+            (post_user at (kept (U.user_rule user)) places.items weight (value_seen whole.now) s) }
         ensures stop { IfErr result IsFaultOrMemory }
     {
         match total_of(whole) {

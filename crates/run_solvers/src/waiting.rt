@@ -25,7 +25,8 @@ fn wait(waiting: &mut Vec<Option<i64>>, index: u32, number: i64)
 /// The number of the variable at an index waits, where numbers wait; tells whether they do.
 pub(crate) fn wait_in(waiting: &mut Option<Vec<Option<i64>>>, index: u32, number: i64) -> bool
     ensures waits { result ≡ is_some waiting.old }
-    ensures written { option_map (λ w. w.items) waiting.new ≡ option_map (λ w. slice_set w.items index (Some number)) waiting.old }
+    ensures written { option_map (λ w. w.items) waiting.new ≡
+        option_map (λ w. slice_set w.items index (Some number)) waiting.old }
 {
     match waiting {
         Some(waiting) => {
@@ -39,7 +40,8 @@ pub(crate) fn wait_in(waiting: &mut Option<Vec<Option<i64>>>, index: u32, number
 /// The numbers of the variables at as many indices wait, where numbers wait; the last one of a variable counts.
 pub(crate) fn wait_for_all(waiting: &mut Option<Vec<Option<i64>>>, indices: &[u32], numbers: &[i64])
     requires { length indices.now ≡ length numbers.now }
-    ensures { option_map (λ w. w.items) waiting.new ≡ option_map (λ w. waiting_behind (zip indices.now numbers.now) w.items) waiting.old }
+    ensures { option_map (λ w. w.items) waiting.new ≡
+        option_map (λ w. waiting_behind (zip indices.now numbers.now) w.items) waiting.old }
 {
     match waiting {
         Some(waiting) => wait_each(waiting, indices, numbers),

@@ -41,7 +41,9 @@ impl<U: LocalConstraint> Standing<U> {
     /// A copy with this fuel, and without the data, its inputs, the users' constraints, and what no pure expression sees of a
     /// search. `NoMemory` where there is none for it, and so far where a solver stands; there is no other stop.
     pub fn without_data(&self, fuel: u64) -> Result<Standing<U>, Stop>
-        ensures same { (printed : List ℕ) → IfOk result (λ copy. standing_seen copy printed ≡ plain_with fuel (standing_seen self.now printed)) }
+        ensures same { (printed : List ℕ) →
+            IfOk result (λ copy. standing_seen copy printed ≡
+            plain_with fuel (standing_seen self.now printed)) }
         ensures memory { IfErr result (λ stop. stop ≡ NoMemory) }
     {
         let state = self.state.without_data(fuel)?;

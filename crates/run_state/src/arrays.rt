@@ -29,7 +29,9 @@ impl State {
         array: &Value,
         number: i64,
     ) -> Result<Value, Stop>
-        ensures did { Did value_seen result (state_seen self.new (O.told out.now)) (counted call place (value_seen array.now) number (state_seen self.old (O.told out.now))) }
+        ensures did { Did value_seen result (state_seen self.new (O.told out.now))
+            (counted call place (value_seen array.now) number
+            (state_seen self.old (O.told out.now))) }
         ensures stop { IfErr result IsQuiet }
         ensures never_rises { self.new.fuel ≤ self.old.fuel }
     {
@@ -51,7 +53,9 @@ impl State {
         slot: Slot,
         array: &Value,
     ) -> Result<(), Stop>
-        ensures did { Did (λ _. tt) result (state_seen self.new (O.told out.now)) (copied_into at place slot (value_seen array.now) (state_seen self.old (O.told out.now))) }
+        ensures did { Did (λ _. tt) result (state_seen self.new (O.told out.now))
+            (copied_into at place slot (value_seen array.now)
+            (state_seen self.old (O.told out.now))) }
         ensures stop { IfErr result IsQuiet }
         ensures never_rises { self.new.fuel ≤ self.old.fuel }
     {
@@ -73,7 +77,8 @@ impl State {
         count: u128,
         list: &Value,
     ) -> Result<Vec<i64>, Stop>
-        ensures did { Did (λ numbers. numbers.items) result (state_seen self.new (O.told out.now)) (listed at place count (value_seen list.now) (state_seen self.old (O.told out.now))) }
+        ensures did { Did (λ numbers. numbers.items) result (state_seen self.new (O.told out.now))
+            (listed at place count (value_seen list.now) (state_seen self.old (O.told out.now))) }
         ensures stop { IfErr result IsQuiet }
         ensures never_rises { self.new.fuel ≤ self.old.fuel }
     {
@@ -89,7 +94,9 @@ impl State {
     /// The arguments as a function has them: numbers in a row become an array that it may write, unless it is pure.
     /// `NoMemory` where there is none for the arrays; there is no other stop.
     pub fn handed(&mut self, pure: bool, values: Vec<Value>) -> Result<Vec<Value>, Stop>
-        ensures did { (told : Told) → Did (λ handed. map value_seen handed.items) result (state_seen self.new told) (meaning.handed pure (map value_seen values.items) (state_seen self.old told)) }
+        ensures did { (told : Told) → Did (λ handed.
+            map value_seen handed.items) result (state_seen self.new told)
+            (meaning.handed pure (map value_seen values.items) (state_seen self.old told)) }
         ensures memory { IfErr result (λ stop. stop ≡ NoMemory) }
         ensures fuel { self.new.fuel ≡ self.old.fuel }
     {
@@ -101,7 +108,9 @@ impl State {
 
     /// The values, with each row of numbers as an array of its own.
     fn own_arrays(&mut self, values: Vec<Value>) -> Result<Vec<Value>, Stop>
-        ensures did { (told : Told) → Did (λ owned. map value_seen owned.items) result (state_seen self.new told) (meaning.own_arrays (map value_seen values.items) [] (state_seen self.old told)) }
+        ensures did { (told : Told) → Did (λ owned.
+            map value_seen owned.items) result (state_seen self.new told)
+            (meaning.own_arrays (map value_seen values.items) [] (state_seen self.old told)) }
         ensures memory { IfErr result (λ stop. stop ≡ NoMemory) }
         ensures fuel { self.new.fuel ≡ self.old.fuel }
     {
@@ -115,7 +124,8 @@ impl State {
 
     /// A row of numbers as an array of its own, and any other value as it is.
     fn own_array(&mut self, value: Value) -> Result<Value, Stop>
-        ensures did { (told : Told) → Did value_seen result (state_seen self.new told) (meaning.own_array (value_seen value) (state_seen self.old told)) }
+        ensures did { (told : Told) → Did value_seen result (state_seen self.new told)
+            (meaning.own_array (value_seen value) (state_seen self.old told)) }
         ensures memory { IfErr result (λ stop. stop ≡ NoMemory) }
         ensures fuel { self.new.fuel ≡ self.old.fuel }
     {

@@ -21,7 +21,8 @@ impl State {
     /// there is no other stop.
     #[tactic(auto, unfolding(comet_meaning::specs::Cells::extent, comet_meaning::specs::Cells::cell))]
     pub fn index(&self, at: Place, array: &Value, index: i64) -> Result<Value, Stop>
-        ensures did { (told : Told) → Did value_seen result (state_seen self.now told) (indexed at (value_seen array.now) index (state_seen self.now told)) }
+        ensures did { (told : Told) → Did value_seen result (state_seen self.now told)
+            (indexed at (value_seen array.now) index (state_seen self.now told)) }
         ensures stop { IfErr result IsFault }
     {
         match self.extent(array).at_index(index) {
@@ -34,7 +35,8 @@ impl State {
     /// there is no such cell; there is no other stop.
     #[tactic(auto, unfolding(comet_meaning::specs::Cells::extent, comet_meaning::specs::Cells::cell))]
     pub fn cell(&self, at: Place, array: &Value, row: i64, column: i64) -> Result<Value, Stop>
-        ensures did { (told : Told) → Did value_seen result (state_seen self.now told) (indexed_twice at (value_seen array.now) row column (state_seen self.now told)) }
+        ensures did { (told : Told) → Did value_seen result (state_seen self.now told)
+            (indexed_twice at (value_seen array.now) row column (state_seen self.now told)) }
         ensures stop { IfErr result IsFault }
     {
         match self.extent(array).at_indices(row, column) {
@@ -46,7 +48,8 @@ impl State {
     /// How many cells an array has.
     #[tactic(auto, unfolding(comet_meaning::specs::Cells::count_cells))]
     pub fn array_size(&self, array: &Value) -> Value
-        ensures { (told : Told) → array_size (value_seen array.now) (state_seen self.now told) ≡ Went (value_seen result) (state_seen self.now told) }
+        ensures { (told : Told) → array_size (value_seen array.now) (state_seen self.now told) ≡
+            Went (value_seen result) (state_seen self.now told) }
     {
         Value::Number(self.size(array) as i64)
     }
@@ -54,7 +57,8 @@ impl State {
     /// Writes a number into a cell. Where there is none, nothing is written.
     #[tactic(auto, using(crate::proofs::ArrayLaws::written_there), unfolding(comet_meaning::specs::Cells::put_number))]
     pub fn put_number(&mut self, array: usize, cell: u128, number: i64)
-        ensures did { (told : Told) → put_number array cell number (state_seen self.old told) ≡ Went tt (state_seen self.new told) }
+        ensures did { (told : Told) → put_number array cell number (state_seen self.old told) ≡
+            Went tt (state_seen self.new told) }
         ensures fuel { self.new.fuel ≡ self.old.fuel }
     {
         if array < self.arrays.len() {
@@ -65,7 +69,8 @@ impl State {
     /// A new array with these cells. `NoMemory` where there is none for it; there is no other stop.
     #[tactic(auto, unfolding(comet_meaning::specs::Cells::new_array))]
     pub fn new_array(&mut self, cells: Cells) -> Result<Value, Stop>
-        ensures did { (told : Told) → Did value_seen result (state_seen self.new told) (meaning.new_array (cells_seen cells) (state_seen self.old told)) }
+        ensures did { (told : Told) → Did value_seen result (state_seen self.new told)
+            (meaning.new_array (cells_seen cells) (state_seen self.old told)) }
         ensures memory { IfErr result (λ stop. stop ≡ NoMemory) }
         ensures fuel { self.new.fuel ≡ self.old.fuel }
     {
@@ -77,7 +82,8 @@ impl State {
     /// A new array with these variables. `NoMemory` where there is none for it; there is no other stop.
     #[tactic(auto, unfolding(comet_meaning::specs::Cells::new_variables))]
     pub fn new_variables(&mut self, cells: VariableCells) -> Result<Value, Stop>
-        ensures did { (told : Told) → Did value_seen result (state_seen self.new told) (meaning.new_variables (variable_cells_seen cells) (state_seen self.old told)) }
+        ensures did { (told : Told) → Did value_seen result (state_seen self.new told)
+            (meaning.new_variables (variable_cells_seen cells) (state_seen self.old told)) }
         ensures memory { IfErr result (λ stop. stop ≡ NoMemory) }
         ensures fuel { self.new.fuel ≡ self.old.fuel }
     {
@@ -90,7 +96,8 @@ impl State {
     /// it; there is no other stop.
     #[tactic(auto, unfolding(comet_meaning::specs::Cells::cells))]
     pub fn copied_cells(&self, array: &Value) -> Result<Cells, Stop>
-        ensures did { (told : Told) → Did cells_seen result (state_seen self.now told) (meaning.cells (value_seen array.now) (state_seen self.now told)) }
+        ensures did { (told : Told) → Did cells_seen result (state_seen self.now told)
+            (meaning.cells (value_seen array.now) (state_seen self.now told)) }
         ensures memory { IfErr result (λ stop. stop ≡ NoMemory) }
     {
         let extent = self.numbers_extent(array);
@@ -104,7 +111,8 @@ impl State {
 
     /// The bounds of an array's indices; what is no array has no cell.
     pub(crate) fn extent(&self, array: &Value) -> Extent
-        ensures { (told : Told) → extent_seen result ≡ extent_of (state_seen self.now told) (value_seen array.now) }
+        ensures { (told : Told) → extent_seen result ≡
+            extent_of (state_seen self.now told) (value_seen array.now) }
     {
         match array {
             Value::Variables(number) => self.variables_extent(*number),
@@ -114,7 +122,8 @@ impl State {
 
     /// The bounds of the indices of an array of numbers; what is none has no cell.
     pub(crate) fn numbers_extent(&self, array: &Value) -> Extent
-        ensures { (told : Told) → extent_seen result ≡ cells_extent (cells_of (state_seen self.now told) (value_seen array.now)) }
+        ensures { (told : Told) → extent_seen result ≡
+            cells_extent (cells_of (state_seen self.now told) (value_seen array.now)) }
     {
         match array {
             Value::Array(number) => match self.arrays.get(*number) {
@@ -128,7 +137,8 @@ impl State {
 
     /// The bounds of the indices of the array of variables with this number; where there is none it has no cell.
     pub(crate) fn variables_extent(&self, array: usize) -> Extent
-        ensures { (told : Told) → extent_seen result ≡ variables_extent (variables_of (state_seen self.now told) (values.Variables array)) }
+        ensures { (told : Told) → extent_seen result ≡
+            variables_extent (variables_of (state_seen self.now told) (values.Variables array)) }
     {
         match self.variable_arrays.get(array) {
             Some(cells) => cells.extent(),
@@ -138,7 +148,8 @@ impl State {
 
     /// How many cells an array has.
     pub(crate) fn size(&self, array: &Value) -> usize
-        ensures size { (told : Told) → result ≡ size_in (state_seen self.now told) (value_seen array.now) }
+        ensures size { (told : Told) → result ≡
+            size_in (state_seen self.now told) (value_seen array.now) }
         ensures small { result < 2 ^ 63 }
     {
         match array {
@@ -149,7 +160,8 @@ impl State {
 
     /// What a cell holds, a variable unread.
     fn held_in(&self, array: &Value, cell: u128) -> Value
-        ensures { (told : Told) → value_seen result ≡ cell_in (state_seen self.now told) (value_seen array.now) cell }
+        ensures { (told : Told) → value_seen result ≡
+            cell_in (state_seen self.now told) (value_seen array.now) cell }
     {
         match array {
             Value::Variables(number) => self.variable_in(*number, cell),
@@ -159,7 +171,8 @@ impl State {
 
     /// The variable in a cell of the array of variables with this number, and nothing where there is none.
     pub(crate) fn variable_in(&self, array: usize, cell: u128) -> Value
-        ensures { (told : Told) → value_seen result ≡ cell_in (state_seen self.now told) (values.Variables array) cell }
+        ensures { (told : Told) → value_seen result ≡
+            cell_in (state_seen self.now told) (values.Variables array) cell }
     {
         match variable_at(self.variables(array), cell) {
             Some(variable) => Value::Variable(variable),
@@ -169,7 +182,8 @@ impl State {
 
     /// The variables of the array of variables with this number, row by row, and none where there is no such array.
     pub(crate) fn variables(&self, array: usize) -> &[VarId]
-        ensures { (told : Told) → result.now ≡ (variables_of (state_seen self.now told) (values.Variables array)).variables }
+        ensures { (told : Told) → result.now ≡
+            (variables_of (state_seen self.now told) (values.Variables array)).variables }
     {
         match self.variable_arrays.get(array) {
             Some(cells) => &cells.variables,
@@ -179,14 +193,16 @@ impl State {
 
     /// The number in a cell, and 0 where there is none.
     pub(crate) fn number_at(&self, array: &Value, cell: u128) -> i64
-        ensures { (told : Told) → Number result ≡ number_at (cells_of (state_seen self.now told) (value_seen array.now)) cell }
+        ensures { (told : Told) → Number result ≡
+            number_at (cells_of (state_seen self.now told) (value_seen array.now)) cell }
     {
         number_in(self.numbers(array), cell)
     }
 
     /// The number in a cell of the array with this number, and 0 where there is none.
     pub(crate) fn element(&self, array: usize, cell: u128) -> Value
-        ensures { (told : Told) → value_seen result ≡ number_at (cells_of (state_seen self.now told) (values.Array array)) cell }
+        ensures { (told : Told) → value_seen result ≡
+            number_at (cells_of (state_seen self.now told) (values.Array array)) cell }
     {
         match self.arrays.get(array) {
             Some(cells) => Value::Number(cells.number_at(cell)),
@@ -196,7 +212,8 @@ impl State {
 
     /// The numbers of an array, row by row, and none of what is no array.
     pub(crate) fn numbers<'a>(&'a self, array: &'a Value) -> &'a [i64]
-        ensures { (told : Told) → result.now ≡ (cells_of (state_seen self.now told) (value_seen array.now)).numbers }
+        ensures { (told : Told) → result.now ≡
+            (cells_of (state_seen self.now told) (value_seen array.now)).numbers }
     {
         match array {
             Value::Array(number) => match self.arrays.get(*number) {

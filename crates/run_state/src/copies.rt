@@ -17,7 +17,8 @@ impl State {
     /// there is none for it; there is no other stop.
     #[tactic(auto, unfolding(run_search::specs::Searches::moves_seen))]
     pub fn without_data(&self, fuel: u64) -> Result<State, Stop>
-        ensures same { (told : Told) → IfOk result (λ copy. state_seen copy told ≡ without_data fuel (state_seen self.now told)) }
+        ensures same { (told : Told) → IfOk result (λ copy.
+            state_seen copy told ≡ without_data fuel (state_seen self.now told)) }
         ensures memory { IfErr result (λ stop. stop ≡ NoMemory) }
     {
         let alloc = self.alloc;

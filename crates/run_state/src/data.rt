@@ -11,17 +11,19 @@ ghost use Rattle.run_state.specs.Views.{state_seen};
 
 use crate::state::State;
 use crate::words::{behind_blanks, spelled, word_end};
+use cbl_base::limits::MAX_DATA_BYTES;
 use cbl_base::{Place, RunFault};
 use run_values::{Stop, Value};
 
 /// How many bytes of data are read.
-const MOST_DATA: usize = 16_777_216;
+const MOST_DATA: usize = MAX_DATA_BYTES;
 
 impl State {
     /// A new input, which begins with all data. `NoMemory` where there is none for it; there is no other stop.
     #[tactic(auto, unfolding(comet_meaning::specs::Declarations::make_input))]
     pub fn make_input(&mut self) -> Result<Value, Stop>
-        ensures did { (told : Told) → Did value_seen result (state_seen self.new told) (declarations.make_input (state_seen self.old told)) }
+        ensures did { (told : Told) → Did value_seen result (state_seen self.new told)
+            (declarations.make_input (state_seen self.old told)) }
         ensures memory { IfErr result (λ stop. stop ≡ NoMemory) }
         ensures fuel { self.new.fuel ≡ self.old.fuel }
     {
@@ -35,7 +37,8 @@ impl State {
     /// is no other stop.
     #[tactic(auto, unfolding(comet_meaning::specs::Data::next_number))]
     pub fn next_number(&mut self, at: Place, input: &Value) -> Result<Value, Stop>
-        ensures did { (told : Told) → Did value_seen result (state_seen self.new told) (meaning.next_number at (value_seen input.now) (state_seen self.old told)) }
+        ensures did { (told : Told) → Did value_seen result (state_seen self.new told)
+            (meaning.next_number at (value_seen input.now) (state_seen self.old told)) }
         ensures stop { IfErr result IsFault }
         ensures fuel { self.new.fuel ≡ self.old.fuel }
     {

@@ -16,7 +16,8 @@ impl State {
     /// other stop.
     #[inline]
     pub fn charge(&mut self, units: u64, at: Place) -> Result<(), Stop>
-        ensures did { (told : Told) → Did (λ _. tt) result (state_seen self.new told) (charge units at (state_seen self.old told)) }
+        ensures did { (told : Told) → Did (λ _.
+            tt) result (state_seen self.new told) (charge units at (state_seen self.old told)) }
         ensures stop { IfErr result (λ stop. stop ≡ Spent at) }
         ensures spent { OnOk result (self.new.fuel + units ≡ self.old.fuel) }
         ensures never_rises { self.new.fuel ≤ self.old.fuel }
@@ -28,7 +29,8 @@ impl State {
 /// Spends units of the fuel of a state, which is left as it is for the rest.
 #[tactic(auto, unfolding(comet_meaning::specs::Outcome::charge))]
 pub(crate) fn spend(fuel: &mut u64, units: u64, at: Place) -> Result<(), Stop>
-    ensures did { (s : states.State) → s.fuel ≡ fuel.old → Did (λ _. tt) result (record s { fuel = fuel.new }) (charge units at s) }
+    ensures did { (s : states.State) → s.fuel ≡ fuel.old →
+        Did (λ _. tt) result (record s { fuel = fuel.new }) (charge units at s) }
     ensures stop { IfErr result (λ stop. stop ≡ Spent at) }
     ensures spent { OnOk result (fuel.new + units ≡ fuel.old) }
     ensures never_rises { fuel.new ≤ fuel.old }

@@ -20,7 +20,8 @@ impl State {
     /// it; there is no other stop.
     #[tactic(auto, unfolding(comet_meaning::specs::Cells::look))]
     pub fn look(&self, slot: Slot) -> Result<Value, Stop>
-        ensures did { (told : Told) → Did value_seen result (state_seen self.now told) (look slot (state_seen self.now told)) }
+        ensures did { (told : Told) → Did value_seen result (state_seen self.now told)
+            (look slot (state_seen self.now told)) }
         ensures memory { IfErr result (λ stop. stop ≡ NoMemory) }
     {
         match slot {
@@ -55,7 +56,9 @@ impl State {
     #[tactic(auto, unfolding(comet_meaning::specs::Cells::put))]
     #[inline]
     pub fn put(&mut self, slot: Slot, value: Value) -> Result<(), Stop>
-        ensures did { (told : Told) → Did (λ _. tt) result (state_seen self.new told) (put slot (value_seen value) (state_seen self.old told)) }
+        ensures did { (told : Told) → Did (λ _.
+            tt) result (state_seen self.new told)
+            (put slot (value_seen value) (state_seen self.old told)) }
         ensures memory { IfErr result (λ stop. stop ≡ NoMemory) }
         ensures fuel { self.new.fuel ≡ self.old.fuel }
     {
@@ -67,7 +70,8 @@ impl State {
 
     /// A copy of what the names of the running call hold. `NoMemory` where there is none for it; there is no other stop.
     pub fn copied_frame(&self) -> Result<Vec<Value>, Stop>
-        ensures same { IfOk result (λ copies. map value_seen copies.items ≡ map value_seen self.now.frame.items) }
+        ensures same { IfOk result (λ copies.
+            map value_seen copies.items ≡ map value_seen self.now.frame.items) }
         ensures memory { IfErr result (λ stop. stop ≡ NoMemory) }
     {
         copied_values(self.alloc, &self.frame)
@@ -76,7 +80,8 @@ impl State {
 
 /// A copy of what a cell holds, and nothing where there is no such cell.
 fn copied_cell(alloc: Global, cells: &[Value], index: usize) -> Result<Value, Stop>
-    ensures same { IfOk result (λ value. value_seen value ≡ slice_index_or (map value_seen cells.now) index Nothing) }
+    ensures same { IfOk result (λ value.
+        value_seen value ≡ slice_index_or (map value_seen cells.now) index Nothing) }
     ensures memory { IfErr result (λ stop. stop ≡ NoMemory) }
 {
     match cells.get(index) {
@@ -113,7 +118,8 @@ fn number_in_cell(cells: &[Value], index: usize) -> Option<i64>
 #[tactic(auto, using(crate::proofs::WrittenCells::seen_there))]
 #[inline]
 fn put_cell(cells: &mut Vec<Value>, index: usize, value: Value) -> Result<(), Stop>
-    ensures written { OnOk result (map value_seen cells.new.items ≡ with_cell index (value_seen value) (map value_seen cells.old.items)) }
+    ensures written { OnOk result (map value_seen cells.new.items ≡
+        with_cell index (value_seen value) (map value_seen cells.old.items)) }
     ensures memory { IfErr result (λ stop. stop ≡ NoMemory) }
 {
     if index < cells.len() {
@@ -128,7 +134,8 @@ fn put_cell(cells: &mut Vec<Value>, index: usize, value: Value) -> Result<(), St
 #[tactic(auto, using(crate::proofs::WrittenCells::seen_further, crate::proofs::WrittenCells::seen_next))]
 fn add_cell(cells: &mut Vec<Value>, index: usize, value: Value) -> Result<(), Stop>
     requires { length (cells.old.items) ≤ index }
-    ensures written { OnOk result (map value_seen cells.new.items ≡ with_cell index (value_seen value) (map value_seen cells.old.items)) }
+    ensures written { OnOk result (map value_seen cells.new.items ≡
+        with_cell index (value_seen value) (map value_seen cells.old.items)) }
     ensures memory { IfErr result (λ stop. stop ≡ NoMemory) }
 {
     while cells.len() < index {

@@ -19,12 +19,16 @@ use run_values::Stop;
 /// Prints a text. It stops as the output does, and has then printed a front of the text.
 #[tactic(auto, unfolding(comet_meaning::specs::Printing::print))]
 pub fn print<O: Outside>(out: &mut O, text: &[u8]) -> Result<(), Stop>
-    ensures did { (s : states.State) → Did (λ _. tt) result (beside (O.told out.new) s) (meaning.print text.now (beside (O.told out.old) s)) }
+    ensures did { (s : states.State) →
+        Did (λ _. tt) result (beside (O.told out.new) s)
+        (meaning.print text.now (beside (O.told out.old) s)) }
     ensures stop { IfErr result IsOutput }
     ensures begun { IsFront (O.told out.old).printed (O.told out.new).printed }
     ensures front { IsFront (O.told out.new).printed ((O.told out.old).printed ++ text.now) }
-    ensures lowered { OnOk result (O.share out.new ≡ share_behind (O.share out.old) (length text.now)) }
-    ensures full { (result ≡ Err (Output Full)) ↔ (is_short (O.share out.old) (length text.now) ≡ true) }
+    ensures lowered { OnOk result (O.share out.new ≡
+        share_behind (O.share out.old) (length text.now)) }
+    ensures full { (result ≡ Err (Output Full)) ↔
+        (is_short (O.share out.old) (length text.now) ≡ true) }
     ensures untold { O.share out.old ≡ None → O.share out.new ≡ None }
     ensures failed { result ≡ Err (Output Failed) → HasRisen (O.faults out.old) (O.faults out.new) }
     ensures never_falls { O.faults out.old ≤ O.faults out.new }
@@ -35,12 +39,17 @@ pub fn print<O: Outside>(out: &mut O, text: &[u8]) -> Result<(), Stop>
 
 /// Prints a number. It stops as the output does, and has then printed a front of its text.
 pub(crate) fn print_number<O: Outside>(out: &mut O, number: &i64) -> Result<(), Stop>
-    ensures did { (s : states.State) → Did (λ _. tt) result (beside (O.told out.new) s) (meaning.print (signed_decimal number.now) (beside (O.told out.old) s)) }
+    ensures did { (s : states.State) →
+        Did (λ _. tt) result (beside (O.told out.new) s)
+        (meaning.print (signed_decimal number.now) (beside (O.told out.old) s)) }
     ensures stop { IfErr result IsOutput }
     ensures begun { IsFront (O.told out.old).printed (O.told out.new).printed }
-    ensures front { IsFront (O.told out.new).printed ((O.told out.old).printed ++ signed_decimal number.now) }
-    ensures lowered { OnOk result (O.share out.new ≡ share_behind (O.share out.old) (length (signed_decimal number.now))) }
-    ensures full { (result ≡ Err (Output Full)) ↔ (is_short (O.share out.old) (length (signed_decimal number.now)) ≡ true) }
+    ensures front { IsFront (O.told out.new).printed
+        ((O.told out.old).printed ++ signed_decimal number.now) }
+    ensures lowered { OnOk result (O.share out.new ≡
+        share_behind (O.share out.old) (length (signed_decimal number.now))) }
+    ensures full { (result ≡ Err (Output Full)) ↔
+        (is_short (O.share out.old) (length (signed_decimal number.now)) ≡ true) }
     ensures untold { O.share out.old ≡ None → O.share out.new ≡ None }
     ensures failed { result ≡ Err (Output Failed) → HasRisen (O.faults out.old) (O.faults out.new) }
     ensures never_falls { O.faults out.old ≤ O.faults out.new }

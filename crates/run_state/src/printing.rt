@@ -38,13 +38,21 @@ impl State {
         at: Place,
         value: &Value,
     ) -> Result<(), Stop>
-        ensures did { Did (λ _. tt) result (state_seen self.new (O.told out.new)) (shown at (value_seen value.now) (state_seen self.old (O.told out.old))) }
+        ensures did { Did (λ _. tt) result (state_seen self.new (O.told out.new))
+            (shown at (value_seen value.now) (state_seen self.old (O.told out.old))) }
         ensures begun { IsFront (O.told out.old).printed (O.told out.new).printed }
-        ensures front { IsFront (O.told out.new).printed (left_by (shown at (value_seen value.now) (state_seen self.old (O.told out.old)))).printed }
-        ensures lowered { OnOk result (O.share out.new ≡ share_behind (O.share out.old) (length (shown_text (state_seen self.old (O.told out.old)) (value_seen value.now)))) }
-        ensures full { result ≡ Err (Output Full) → is_short (O.share out.old) (length (shown_text (state_seen self.old (O.told out.old)) (value_seen value.now))) ≡ true }
+        ensures front { IsFront (O.told out.new).printed
+            (left_by (shown at (value_seen value.now)
+            (state_seen self.old (O.told out.old)))).printed }
+        ensures lowered { OnOk result (O.share out.new ≡
+            share_behind (O.share out.old) (length
+            (shown_text (state_seen self.old (O.told out.old)) (value_seen value.now)))) }
+        ensures full { result ≡ Err (Output Full) →
+            is_short (O.share out.old) (length
+            (shown_text (state_seen self.old (O.told out.old)) (value_seen value.now))) ≡ true }
         ensures untold { O.share out.old ≡ None → O.share out.new ≡ None }
-        ensures failed { result ≡ Err (Output Failed) → HasRisen (O.faults out.old) (O.faults out.new) }
+        ensures failed { result ≡ Err (Output Failed) →
+            HasRisen (O.faults out.old) (O.faults out.new) }
         ensures never_falls { O.faults out.old ≤ O.faults out.new }
         ensures never_rises { self.new.fuel ≤ self.old.fuel }
     {
@@ -72,13 +80,21 @@ impl State {
     /// Prints an array, whose cells are charged before, at this place, where each variable is read.
     #[tactic(auto, unfolding(comet_meaning::specs::Printing::print))]
     fn print_array<O: Outside>(&mut self, out: &mut O, at: Place, array: &Value) -> Result<(), Stop>
-        ensures did { Did (λ _. tt) result (state_seen self.new (O.told out.new)) (array_shown at (value_seen array.now) (state_seen self.old (O.told out.old))) }
+        ensures did { Did (λ _. tt) result (state_seen self.new (O.told out.new))
+            (array_shown at (value_seen array.now) (state_seen self.old (O.told out.old))) }
         ensures begun { IsFront (O.told out.old).printed (O.told out.new).printed }
-        ensures front { IsFront (O.told out.new).printed (left_by (array_shown at (value_seen array.now) (state_seen self.old (O.told out.old)))).printed }
-        ensures lowered { OnOk result (O.share out.new ≡ share_behind (O.share out.old) (length (array_chars (state_seen self.old (O.told out.old)) (value_seen array.now)))) }
-        ensures full { result ≡ Err (Output Full) → is_short (O.share out.old) (length (array_chars (state_seen self.old (O.told out.old)) (value_seen array.now))) ≡ true }
+        ensures front { IsFront (O.told out.new).printed
+            (left_by (array_shown at (value_seen array.now)
+            (state_seen self.old (O.told out.old)))).printed }
+        ensures lowered { OnOk result (O.share out.new ≡
+            share_behind (O.share out.old) (length
+            (array_chars (state_seen self.old (O.told out.old)) (value_seen array.now)))) }
+        ensures full { result ≡ Err (Output Full) →
+            is_short (O.share out.old) (length
+            (array_chars (state_seen self.old (O.told out.old)) (value_seen array.now))) ≡ true }
         ensures untold { O.share out.old ≡ None → O.share out.new ≡ None }
-        ensures failed { result ≡ Err (Output Failed) → HasRisen (O.faults out.old) (O.faults out.new) }
+        ensures failed { result ≡ Err (Output Failed) →
+            HasRisen (O.faults out.old) (O.faults out.new) }
         ensures never_falls { O.faults out.old ≤ O.faults out.new }
         ensures never_rises { self.new.fuel ≤ self.old.fuel }
     {
@@ -88,8 +104,11 @@ impl State {
 
     /// The text of an array, whose cells are charged before, at this place, where each variable is read.
     fn array_text<O: Outside>(&mut self, out: &O, at: Place, array: &Value) -> Result<Vec<u8>, Stop>
-        ensures did { Did (λ text. text.items) result (state_seen self.new (O.told out.now)) (array_text_of at (value_seen array.now) (state_seen self.old (O.told out.now))) }
-        ensures text { IfOk result (λ text. text.items ≡ array_chars (state_seen self.old (O.told out.now)) (value_seen array.now)) }
+        ensures did { Did (λ text. text.items) result (state_seen self.new (O.told out.now))
+            (array_text_of at (value_seen array.now) (state_seen self.old (O.told out.now))) }
+        ensures text { IfOk result (λ text.
+            text.items ≡ array_chars (state_seen self.old (O.told out.now))
+            (value_seen array.now)) }
         ensures stop { IfErr result IsQuiet }
         ensures never_rises { self.new.fuel ≤ self.old.fuel }
     {
@@ -100,7 +119,8 @@ impl State {
 
     /// The text of an array, of which each variable is read at this place.
     fn read_text<O: Outside>(&self, out: &O, at: Place, array: &Value) -> Result<Vec<u8>, Stop>
-        ensures did { Did (λ text. text.items) result (state_seen self.now (O.told out.now)) (text_read at (value_seen array.now) (state_seen self.now (O.told out.now))) }
+        ensures did { Did (λ text. text.items) result (state_seen self.now (O.told out.now))
+            (text_read at (value_seen array.now) (state_seen self.now (O.told out.now))) }
         ensures stop { IfErr result IsFaultOrMemory }
     {
         match array {
@@ -111,7 +131,8 @@ impl State {
 
     /// The text of an array of variables, which are read at this place.
     fn variables_text<O: Outside>(&self, out: &O, at: Place, array: usize) -> Result<Vec<u8>, Stop>
-        ensures did { Did (λ text. text.items) result (state_seen self.now (O.told out.now)) (text_read at (values.Variables array) (state_seen self.now (O.told out.now))) }
+        ensures did { Did (λ text. text.items) result (state_seen self.now (O.told out.now))
+            (text_read at (values.Variables array) (state_seen self.now (O.told out.now))) }
         ensures stop { IfErr result IsFaultOrMemory }
     {
         let values = self.read_each(out, at, self.variables(array))?;
@@ -122,7 +143,8 @@ impl State {
 
     /// The text of an array of numbers. `NoMemory` where there is none for it; there is no other stop.
     fn numbers_text(&self, array: &Value) -> Result<Vec<u8>, Stop>
-        ensures text { (told : Told) → IfOk result (λ text. text.items ≡ cells_text (cells_of (state_seen self.now told) (value_seen array.now))) }
+        ensures text { (told : Told) → IfOk result (λ text.
+            text.items ≡ cells_text (cells_of (state_seen self.now told) (value_seen array.now))) }
         ensures memory { IfErr result (λ stop. stop ≡ NoMemory) }
     {
         let mut text = Vec::new(self.alloc);
@@ -134,11 +156,16 @@ impl State {
 /// Prints a value that is no array. `NoMemory` where there is none for its text; else it stops as the output does.
 #[tactic(auto, unfolding(comet_meaning::specs::Printing::print))]
 fn print_plain<O: Outside>(out: &mut O, alloc: Global, value: &Value) -> Result<(), Stop>
-    ensures did { (s : states.State) → Did (λ _. tt) result (beside (O.told out.new) s) (meaning.print (plain_text (value_seen value.now)) (beside (O.told out.old) s)) }
+    ensures did { (s : states.State) →
+        Did (λ _. tt) result (beside (O.told out.new) s)
+        (meaning.print (plain_text (value_seen value.now)) (beside (O.told out.old) s)) }
     ensures begun { IsFront (O.told out.old).printed (O.told out.new).printed }
-    ensures front { IsFront (O.told out.new).printed ((O.told out.old).printed ++ plain_text (value_seen value.now)) }
-    ensures lowered { OnOk result (O.share out.new ≡ share_behind (O.share out.old) (length (plain_text (value_seen value.now)))) }
-    ensures full { result ≡ Err (Output Full) → is_short (O.share out.old) (length (plain_text (value_seen value.now))) ≡ true }
+    ensures front { IsFront (O.told out.new).printed
+        ((O.told out.old).printed ++ plain_text (value_seen value.now)) }
+    ensures lowered { OnOk result (O.share out.new ≡
+        share_behind (O.share out.old) (length (plain_text (value_seen value.now)))) }
+    ensures full { result ≡ Err (Output Full) →
+        is_short (O.share out.old) (length (plain_text (value_seen value.now))) ≡ true }
     ensures untold { O.share out.old ≡ None → O.share out.new ≡ None }
     ensures failed { result ≡ Err (Output Failed) → HasRisen (O.faults out.old) (O.faults out.new) }
     ensures never_falls { O.faults out.old ≤ O.faults out.new }

@@ -20,7 +20,8 @@ impl State {
     /// where its solver has no such variable, and `NotClosed` exactly where only a closed solver has its value.
     #[tactic(auto, unfolding(comet_meaning::specs::Parts::read))]
     pub fn read<O: Outside>(&self, out: &O, at: Place, value: Value) -> Result<Value, Stop>
-        ensures did { Did value_seen result (state_seen self.now (O.told out.now)) (parts.read at (value_seen value) (state_seen self.now (O.told out.now))) }
+        ensures did { Did value_seen result (state_seen self.now (O.told out.now))
+            (parts.read at (value_seen value) (state_seen self.now (O.told out.now))) }
         ensures stop { IfErr result IsFaultOrMemory }
     {
         match value {
@@ -36,7 +37,9 @@ impl State {
         at: Place,
         variables: &[VarId],
     ) -> Result<Vec<Value>, Stop>
-        ensures did { Did (λ values. map value_seen values.items) result (state_seen self.now (O.told out.now)) (meaning.read_each at variables.now [] (state_seen self.now (O.told out.now))) }
+        ensures did { Did (λ values. map value_seen values.items) result
+            (state_seen self.now (O.told out.now))
+            (meaning.read_each at variables.now [] (state_seen self.now (O.told out.now))) }
         ensures stop { IfErr result IsFaultOrMemory }
     {
         let mut values = Vec::new(self.alloc);
@@ -53,7 +56,8 @@ impl State {
         at: Place,
         array: &Value,
     ) -> Result<Vec<i64>, Stop>
-        ensures did { Did (λ numbers. numbers.items) result (state_seen self.now (O.told out.now)) (numbers_read at (value_seen array.now) (state_seen self.now (O.told out.now))) }
+        ensures did { Did (λ numbers. numbers.items) result (state_seen self.now (O.told out.now))
+            (numbers_read at (value_seen array.now) (state_seen self.now (O.told out.now))) }
         ensures stop { IfErr result IsFaultOrMemory }
     {
         match array {
@@ -67,7 +71,8 @@ impl State {
 
     /// The numbers of an array of variables, which are read at this place.
     fn variables_read<O: Outside>(&self, out: &O, at: Place, array: usize) -> Result<Vec<i64>, Stop>
-        ensures did { Did (λ numbers. numbers.items) result (state_seen self.now (O.told out.now)) (numbers_read at (values.Variables array) (state_seen self.now (O.told out.now))) }
+        ensures did { Did (λ numbers. numbers.items) result (state_seen self.now (O.told out.now))
+            (numbers_read at (values.Variables array) (state_seen self.now (O.told out.now))) }
         ensures stop { IfErr result IsFaultOrMemory }
     {
         let values = self.read_each(out, at, self.variables(array))?;
@@ -82,7 +87,8 @@ impl State {
         array: &Value,
         number: i64,
     ) -> Result<i64, Stop>
-        ensures did { Did (λ count. count) result (state_seen self.now (O.told out.now)) (count_read at (value_seen array.now) number (state_seen self.now (O.told out.now))) }
+        ensures did { Did (λ count. count) result (state_seen self.now (O.told out.now))
+            (count_read at (value_seen array.now) number (state_seen self.now (O.told out.now))) }
         ensures stop { IfErr result IsFaultOrMemory }
     {
         match array {

@@ -31,7 +31,8 @@ impl State {
     /// exactly where its range is empty, and then no word is taken.
     #[tactic(auto, unfolding(comet_meaning::specs::Draws::draw))]
     pub fn draw(&mut self, at: Place, distribution: &Value) -> Result<Value, Stop>
-        ensures did { (told : Told) → Did value_seen result (state_seen self.new told) (draw at (value_seen distribution.now) (state_seen self.old told)) }
+        ensures did { (told : Told) → Did value_seen result (state_seen self.new told)
+            (draw at (value_seen distribution.now) (state_seen self.old told)) }
         ensures stop { IfErr result IsFault }
         ensures fuel { self.new.fuel ≡ self.old.fuel }
     {
@@ -44,7 +45,8 @@ impl State {
     /// A number of a range.
     #[tactic(auto, unfolding(comet_meaning::specs::Draws::below, comet_meaning::specs::Draws::next_word))]
     fn drawn_of(&mut self, at: Place, bounds: Bounds) -> Result<Value, Stop>
-        ensures did { (told : Told) → Did value_seen result (state_seen self.new told) (drawn_of at (bounds_seen bounds) (state_seen self.old told)) }
+        ensures did { (told : Told) → Did value_seen result (state_seen self.new told)
+            (drawn_of at (bounds_seen bounds) (state_seen self.old told)) }
         ensures stop { IfErr result IsFault }
         ensures fuel { self.new.fuel ≡ self.old.fuel }
     {
@@ -60,7 +62,8 @@ impl State {
     /// of them, by the next word.
     #[tactic(auto, unfolding(comet_meaning::specs::Selection::chosen_of))]
     pub fn pick(&mut self, ties: &Ties) -> Option<u64>
-        ensures did { (told : Told) → chosen_of ties.now (state_seen self.old told) ≡ Went result (state_seen self.new told) }
+        ensures did { (told : Told) → chosen_of ties.now (state_seen self.old told) ≡
+            Went result (state_seen self.new told) }
         ensures fuel { self.new.fuel ≡ self.old.fuel }
     {
         self.search.pick(ties)
@@ -69,7 +72,9 @@ impl State {
     /// A statement that runs later, with the names that it sees now. `NoMemory` where there is none for it.
     #[tactic(auto, unfolding(comet_meaning::specs::Events::closed_over))]
     pub fn closed_over(&self, body: &Later) -> Result<Closure, Stop>
-        ensures did { (told : Told) → Did (λ c. Some (closure_seen c)) result (state_seen self.now told) (closed_over (work_of body.now.value.value) (state_seen self.now told)) }
+        ensures did { (told : Told) → Did (λ c.
+            Some (closure_seen c)) result (state_seen self.now told)
+            (closed_over (work_of body.now.value.value) (state_seen self.now told)) }
         ensures memory { IfErr result (λ stop. stop ≡ NoMemory) }
     {
         let frame = self.copied_frame()?;
@@ -80,7 +85,8 @@ impl State {
     /// A new selector, which keeps nothing.
     #[tactic(auto, unfolding(comet_meaning::specs::Moves::make_selector, run_search::specs::Searches::moves_seen))]
     pub fn make_selector(&mut self) -> Result<Value, Stop>
-        ensures did { (told : Told) → Did value_seen result (state_seen self.new told) (moves.make_selector (state_seen self.old told)) }
+        ensures did { (told : Told) → Did value_seen result (state_seen self.new told)
+            (moves.make_selector (state_seen self.old told)) }
         ensures memory { IfErr result (λ stop. stop ≡ NoMemory) }
         ensures fuel { self.new.fuel ≡ self.old.fuel }
     {
@@ -121,7 +127,8 @@ impl State {
     /// Whether a delta is less than that of the move that a selector keeps, or it keeps none.
     #[tactic(auto, unfolding(run_search::specs::Searches::moves_seen))]
     fn is_better(&self, delta: i64, number: usize) -> bool
-        ensures { (told : Told) → result ≡ moves.is_better delta (moves.kept_in (state_seen self.now told) number) }
+        ensures { (told : Told) → result ≡
+            moves.is_better delta (moves.kept_in (state_seen self.now told) number) }
     {
         match self.kept(number) {
             Some(kept) => delta < kept.delta,
@@ -132,7 +139,8 @@ impl State {
     /// The move that the selector with a number keeps.
     #[tactic(auto, unfolding(run_search::specs::Searches::moves_seen))]
     fn kept(&self, number: usize) -> Option<&KeptMove>
-        ensures { (told : Told) → option_map (λ m. move_seen m.now) result ≡ moves.kept_in (state_seen self.now told) number }
+        ensures { (told : Told) → option_map (λ m. move_seen m.now) result ≡
+            moves.kept_in (state_seen self.now told) number }
     {
         match self.moves.get(number) {
             Some(kept) => kept.as_ref(),
@@ -143,7 +151,8 @@ impl State {
     /// The selector with a number keeps this move.
     #[tactic(auto, unfolding(run_search::specs::Searches::moves_seen))]
     fn put_move(&mut self, number: usize, kept: KeptMove)
-        ensures did { (told : Told) → moves.put_move number (move_seen kept) (state_seen self.old told) ≡ Went tt (state_seen self.new told) }
+        ensures did { (told : Told) → moves.put_move number (move_seen kept)
+            (state_seen self.old told) ≡ Went tt (state_seen self.new told) }
         ensures fuel { self.new.fuel ≡ self.old.fuel }
     {
         if number < self.moves.len() {
@@ -154,7 +163,8 @@ impl State {
     /// Whether the selector with a number keeps a move.
     #[tactic(auto, unfolding(run_search::specs::Searches::moves_seen))]
     fn keeps(&self, number: usize) -> bool
-        ensures { (told : Told) → result ≡ is_some (moves.kept_in (state_seen self.now told) number) }
+        ensures { (told : Told) → result ≡
+            is_some (moves.kept_in (state_seen self.now told) number) }
     {
         self.kept(number).is_some()
     }
@@ -162,7 +172,8 @@ impl State {
     /// Whether a selector keeps a move, and nothing of what is no selector.
     #[tactic(auto, unfolding(comet_meaning::specs::Moves::has_move, run_search::specs::Searches::moves_seen))]
     pub fn has_move(&self, selector: &Value) -> Value
-        ensures { (told : Told) → moves.has_move (value_seen selector.now) (state_seen self.now told) ≡ Went (value_seen result) (state_seen self.now told) }
+        ensures { (told : Told) → moves.has_move (value_seen selector.now)
+            (state_seen self.now told) ≡ Went (value_seen result) (state_seen self.now told) }
     {
         match selector {
             Value::Selector(number) => Value::Truth(self.keeps(*number)),
@@ -173,7 +184,8 @@ impl State {
     /// The move of a selector, and nothing of what is no selector. `NoMove` at this place exactly where it keeps none.
     #[tactic(auto, unfolding(comet_meaning::specs::Moves::get_move, run_search::specs::Searches::moves_seen))]
     pub fn get_move(&self, at: Place, selector: &Value) -> Result<Value, Stop>
-        ensures did { (told : Told) → Did value_seen result (state_seen self.now told) (moves.get_move at (value_seen selector.now) (state_seen self.now told)) }
+        ensures did { (told : Told) → Did value_seen result (state_seen self.now told)
+            (moves.get_move at (value_seen selector.now) (state_seen self.now told)) }
         ensures stop { IfErr result IsFault }
     {
         match selector {
@@ -191,7 +203,9 @@ impl State {
     /// A copy of what the move is that a selector keeps; `None` where it keeps none.
     #[tactic(auto, unfolding(run_search::specs::Searches::moves_seen))]
     pub fn kept_closure(&self, number: usize) -> Result<Option<Closure>, Stop>
-        ensures kept { (told : Told) → IfOk result (λ c. option_map closure_seen c ≡ option_map (λ m. m.closure) (moves.kept_in (state_seen self.now told) number)) }
+        ensures kept { (told : Told) → IfOk result (λ c.
+            option_map closure_seen c ≡ option_map (λ m.
+            m.closure) (moves.kept_in (state_seen self.now told) number)) }
         ensures memory { IfErr result (λ stop. stop ≡ NoMemory) }
     {
         match self.kept(number) {
@@ -227,7 +241,8 @@ impl State {
 
     /// Keeps a solution; it gets the next number.
     pub fn keep_solution(&mut self, solution: Solution) -> Result<Value, Stop>
-        ensures did { (told : Told) → Did value_seen result (state_seen self.new told) (add_solution (solution_seen solution) (state_seen self.old told)) }
+        ensures did { (told : Told) → Did value_seen result (state_seen self.new told)
+            (add_solution (solution_seen solution) (state_seen self.old told)) }
         ensures memory { IfErr result (λ stop. stop ≡ NoMemory) }
         ensures fuel { self.new.fuel ≡ self.old.fuel }
     {
@@ -239,7 +254,9 @@ impl State {
 
     /// Queues the events of changes.
     pub fn notice(&mut self, changes: &[VarChange]) -> Result<(), Stop>
-        ensures did { (outside : Told) (k : ℕ) (cs : List Change) → changes.now ≡ map (told k) cs → Did (λ _. tt) result (state_seen self.new outside) (queued k cs (state_seen self.old outside)) }
+        ensures did { (outside : Told) (k : ℕ) (cs : List Change) → changes.now ≡ map (told k) cs →
+            Did (λ _. tt) result (state_seen self.new outside)
+            (queued k cs (state_seen self.old outside)) }
         ensures memory { IfErr result (λ stop. stop ≡ NoMemory) }
         ensures fuel { self.new.fuel ≡ self.old.fuel }
     {
@@ -256,7 +273,9 @@ impl State {
         at: Place,
         solution: &Value,
     ) -> Result<Value, Stop>
-        ensures did { Did value_seen result (state_seen self.new (O.told out.new)) (solutions.restore at (value_seen solution.now) (state_seen self.old (O.told out.old))) }
+        ensures did { Did value_seen result (state_seen self.new (O.told out.new))
+            (solutions.restore at (value_seen solution.now)
+            (state_seen self.old (O.told out.old))) }
         ensures printed { (O.told out.new).printed ≡ (O.told out.old).printed }
         ensures stop { IfErr result IsFaultOrMemory }
         ensures fuel { self.new.fuel ≡ self.old.fuel }
@@ -275,7 +294,8 @@ impl State {
         at: Place,
         number: usize,
     ) -> Result<Value, Stop>
-        ensures did { Did value_seen result (state_seen self.new (O.told out.new)) (solutions.restore at (values.Solution number) (state_seen self.old (O.told out.old))) }
+        ensures did { Did value_seen result (state_seen self.new (O.told out.new))
+            (solutions.restore at (values.Solution number) (state_seen self.old (O.told out.old))) }
         ensures printed { (O.told out.new).printed ≡ (O.told out.old).printed }
         ensures stop { IfErr result IsFaultOrMemory }
         ensures fuel { self.new.fuel ≡ self.old.fuel }

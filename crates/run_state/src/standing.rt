@@ -96,7 +96,8 @@ impl State {
     /// of its cells. `NoMemory` where there is none for an array; there is no other stop.
     #[tactic(auto, unfolding(comet_meaning::specs::Terms::standing))]
     pub fn standing(&self, value: Value) -> Result<InTerm, Stop>
-        ensures did { (told : Told) → Did in_term_seen result (state_seen self.now told) (meaning.standing (value_seen value) (state_seen self.now told)) }
+        ensures did { (told : Told) → Did in_term_seen result (state_seen self.now told)
+            (meaning.standing (value_seen value) (state_seen self.now told)) }
         ensures memory { IfErr result (λ stop. stop ≡ NoMemory) }
     {
         match value {
@@ -111,7 +112,9 @@ impl State {
 
     /// An array of numbers in a term.
     fn standing_numbers(&self, array: &Value) -> Result<InTerm, Stop>
-        ensures same { (told : Told) → IfOk result (λ t. in_term_seen t ≡ meaning.Several (constants (cells_of (state_seen self.now told) (value_seen array.now)))) }
+        ensures same { (told : Told) → IfOk result (λ t.
+            in_term_seen t ≡ meaning.Several
+            (constants (cells_of (state_seen self.now told) (value_seen array.now)))) }
         ensures memory { IfErr result (λ stop. stop ≡ NoMemory) }
     {
         let terms = constants_of(self.alloc, self.numbers(array))?;
@@ -125,7 +128,9 @@ impl State {
 
     /// An array of variables in a term.
     fn standing_variables(&self, array: usize) -> Result<InTerm, Stop>
-        ensures same { (told : Told) → IfOk result (λ t. in_term_seen t ≡ meaning.Several (variable_terms (variables_of (state_seen self.now told) (values.Variables array)))) }
+        ensures same { (told : Told) → IfOk result (λ t.
+            in_term_seen t ≡ meaning.Several
+            (variable_terms (variables_of (state_seen self.now told) (values.Variables array)))) }
         ensures memory { IfErr result (λ stop. stop ≡ NoMemory) }
     {
         let terms = variables_of(self.alloc, self.variables(array))?;

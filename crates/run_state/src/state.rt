@@ -30,7 +30,8 @@ impl State {
     /// The state at the start of a run, with this seed, this fuel and this data.
     #[tactic(auto, unfolding(run_search::specs::Searches::moves_seen))]
     pub fn new(alloc: Global, seed: u64, fuel: u64, text: Vec<u8>) -> State
-        ensures { (users : List User) → state_seen result (begun_with users) ≡ first_state seed fuel text.items users }
+        ensures { (users : List User) → state_seen result (begun_with users) ≡
+            first_state seed fuel text.items users }
     {
         State {
             globals: Vec::new(alloc),

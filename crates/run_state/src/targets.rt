@@ -32,7 +32,8 @@ impl State {
     /// own cell. `NoMemory` where there is none; there is no other stop.
     #[tactic(auto, unfolding(comet_meaning::specs::Writes::name_target))]
     pub fn name_target(&self, kind: Kind, slot: Slot) -> Result<Target, Stop>
-        ensures did { (told : Told) → Did target_seen result (state_seen self.now told) (name_target kind slot (state_seen self.now told)) }
+        ensures did { (told : Told) → Did target_seen result (state_seen self.now told)
+            (name_target kind slot (state_seen self.now told)) }
         ensures memory { IfErr result (λ stop. stop ≡ NoMemory) }
     {
         match kind {
@@ -45,7 +46,8 @@ impl State {
     /// The variable that a name's cell holds, and nothing where it holds none.
     #[tactic(auto, unfolding(comet_meaning::specs::Cells::look))]
     fn moved_name(&self, slot: Slot) -> Result<Target, Stop>
-        ensures did { (told : Told) → Did target_seen result (state_seen self.now told) (moved_in slot (state_seen self.now told)) }
+        ensures did { (told : Told) → Did target_seen result (state_seen self.now told)
+            (moved_in slot (state_seen self.now told)) }
         ensures memory { IfErr result (λ stop. stop ≡ NoMemory) }
     {
         let value = self.look(slot)?;
@@ -55,7 +57,8 @@ impl State {
     /// The cell of an index. `OutOfRange` at this place exactly where there is no such cell; there is no other stop.
     #[tactic(auto, unfolding(comet_meaning::specs::Cells::extent))]
     pub fn index_target(&self, at: Place, array: &Value, index: i64) -> Result<Target, Stop>
-        ensures did { (told : Told) → Did target_seen result (state_seen self.now told) (index_written at (value_seen array.now) index (state_seen self.now told)) }
+        ensures did { (told : Told) → Did target_seen result (state_seen self.now told)
+            (index_written at (value_seen array.now) index (state_seen self.now told)) }
         ensures stop { IfErr result IsFault }
     {
         match self.extent(array).at_index(index) {
@@ -74,7 +77,8 @@ impl State {
         row: i64,
         column: i64,
     ) -> Result<Target, Stop>
-        ensures did { (told : Told) → Did target_seen result (state_seen self.now told) (cell_written at (value_seen array.now) row column (state_seen self.now told)) }
+        ensures did { (told : Told) → Did target_seen result (state_seen self.now told)
+            (cell_written at (value_seen array.now) row column (state_seen self.now told)) }
         ensures stop { IfErr result IsFault }
     {
         match self.extent(array).at_indices(row, column) {
@@ -86,7 +90,8 @@ impl State {
     /// A cell of an array of numbers, the variable in a cell of one of variables, and nothing of what is no array.
     #[tactic(auto, unfolding(comet_meaning::specs::Writes::element_of, comet_meaning::specs::Cells::cell))]
     fn element_of(&self, array: &Value, cell: u128) -> Target
-        ensures { (told : Told) → meaning.element_of (value_seen array.now) cell (state_seen self.now told) ≡ Went (target_seen result) (state_seen self.now told) }
+        ensures { (told : Told) → meaning.element_of (value_seen array.now) cell
+            (state_seen self.now told) ≡ Went (target_seen result) (state_seen self.now told) }
     {
         match array {
             Value::Array(number) => Target::Element(*number, cell),
@@ -98,7 +103,8 @@ impl State {
     /// What stands where it is written, before it is. `NoMemory` where there is none for a copy; there is no other stop.
     #[tactic(auto, unfolding(comet_meaning::specs::Writes::old_value, comet_meaning::specs::Cells::cells))]
     pub fn old_value(&self, target: &Target) -> Result<Value, Stop>
-        ensures did { (told : Told) → Did value_seen result (state_seen self.now told) (old_value (target_seen target.now) (state_seen self.now told)) }
+        ensures did { (told : Told) → Did value_seen result (state_seen self.now told)
+            (old_value (target_seen target.now) (state_seen self.now told)) }
         ensures memory { IfErr result (λ stop. stop ≡ NoMemory) }
     {
         match target {

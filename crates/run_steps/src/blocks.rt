@@ -20,7 +20,9 @@ fn close_block<O: Outside>(
     solver: &Value,
     flow: Flow,
 ) -> Result<Flow, Stop>
-    ensures did { Does flow_seen result (state_seen s.new (O.told out.new)) (closed_block (solver_of (value_seen solver.now)) (flow_seen flow) (state_seen s.old (O.told out.old))) }
+    ensures did { Does flow_seen result (state_seen s.new (O.told out.new))
+        (closed_block (solver_of (value_seen solver.now)) (flow_seen flow)
+        (state_seen s.old (O.told out.old))) }
 {
     match commit_waiting(s, out, solver) {
         Err(stop) => Err(stop),
@@ -35,7 +37,8 @@ pub fn commit_part<O: Outside>(
     solver: &Value,
     flow: Result<Flow, Stop>,
 ) -> Result<Flow, Stop>
-    ensures did { Follows flow_seen flow_seen flow result (state_seen s.old (O.told out.old)) (state_seen s.new (O.told out.new)) (closed_block (solver_of (value_seen solver.now))) }
+    ensures did { Follows flow_seen flow_seen flow result (state_seen s.old (O.told out.old))
+        (state_seen s.new (O.told out.new)) (closed_block (solver_of (value_seen solver.now))) }
 {
     match flow {
         Err(stop) => Err(stop),

@@ -16,6 +16,7 @@ ghost use Rattle.run_values.specs.Did.{Did};
 ghost use Rattle.run_values.specs.Views.{bounds_seen, cells_seen, variable_cells_seen};
 ghost use Rattle.run_values.specs.declared.stop.Stop.TheVariants.{NoMemory};
 
+use cbl_base::limits::MAX_CELLS;
 use cbl_base::{Limit, Place, RunFault, Text, VarId};
 use checked_tree::Slot;
 use run_objects::state_of_runs::State;
@@ -24,7 +25,7 @@ use run_values::{Bounds, Cells, Stop, Value, VariableCells};
 use std::alloc::Global;
 
 /// How many cells an array may have.
-const MOST_CELLS: u128 = 16_777_216;
+const MOST_CELLS: u128 = MAX_CELLS as u128;
 
 /// A dimension: its bounds, and the cell of its name where it has one.
 #[derive(Clone, Copy)]
@@ -37,7 +38,8 @@ pub struct Extent {
 /// other stop.
 pub fn cell_count(at: Place, extents: &[Extent]) -> Result<u128, Stop>
     ensures did { (s : states.State) → Did (λ _. tt) result s (unless (nat_le (meaning.cell_count (map extent_seen extents.now)) most_cells) at (TooMany limits.Cells) s) }
-    ensures count { IfOk result (λ count. count ≡ meaning.cell_count (map extent_seen extents.now)) }
+    ensures count { IfOk result (λ count.
+        count ≡ meaning.cell_count (map extent_seen extents.now)) }
 {
     let mut count: u128 = 1;
     for extent in extents {
@@ -72,7 +74,8 @@ fn capped(count: u128) -> u128
 
 /// The name of a dimension, where it has one, gets the index.
 pub fn put_named(s: &mut State, slot: Option<Slot>, index: i64) -> Result<(), Stop>
-    ensures { (told : Told) → Did (λ _. tt) result (state_seen s.new told) (put_named slot index (state_seen s.old told)) }
+    ensures { (told : Told) → Did (λ _.
+        tt) result (state_seen s.new told) (put_named slot index (state_seen s.old told)) }
 {
     match slot {
         None => Ok(()),
@@ -96,7 +99,8 @@ pub fn array_of(extents: &[Extent], numbers: Vec<i64>) -> Cells
 
 /// An array of one dimension or two of these variables.
 pub fn variables_of(extents: &[Extent], variables: Vec<VarId>) -> VariableCells
-    ensures { variable_cells_seen result ≡ variables_with (map extent_seen extents.now) variables.items }
+    ensures { variable_cells_seen result ≡
+        variables_with (map extent_seen extents.now) variables.items }
 {
     match extents.first() {
         None => VariableCells {
@@ -148,7 +152,8 @@ pub fn copied_name(alloc: Global, name: &Text) -> Result<Text, Stop>
 
 /// The bounds of the second dimension, where there is one.
 fn columns_of(extents: &[Extent]) -> Option<Bounds>
-    ensures { option_map bounds_seen result ≡ option_map (λ e. bounds_seen e.bounds) (slice_get extents.now 1) }
+    ensures { option_map bounds_seen result ≡
+        option_map (λ e. bounds_seen e.bounds) (slice_get extents.now 1) }
 {
     match extents.get(1) {
         Some(extent) => Some(extent.bounds),

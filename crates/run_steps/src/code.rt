@@ -34,7 +34,8 @@ impl<'a> Code<'a> {
         functions: &'a [Function],
         pure: &'a [bool],
     ) -> Result<Code<'a>, NoMemory>
-        ensures { IfOk result (λ c. code_seen c ≡ record { functions = map function_of functions.now; pure = pure.now }) }
+        ensures { IfOk result (λ c. code_seen c ≡
+            record { functions = map function_of functions.now; pure = pure.now }) }
     {
         let lists = Box::new(alloc, Lists { functions, pure })?;
         Ok(Code { lists })
@@ -50,7 +51,8 @@ pub enum Flow {
 
 /// The function with this number.
 pub fn function_at<'a>(code: &Code<'a>, function: usize) -> Option<&'a Function>
-    ensures { option_map function_of (option_copied result) ≡ slice_get (code_seen code.now).functions function }
+    ensures { option_map function_of (option_copied result) ≡
+        slice_get (code_seen code.now).functions function }
 {
     code.lists.functions.get(function)
 }

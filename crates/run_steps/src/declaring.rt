@@ -38,7 +38,8 @@ pub fn begins_with(alloc: Global, kind: VarKind, number: i64) -> Beginning
 
 /// The same with the number's answer.
 pub fn as_free(alloc: Global, kind: VarKind, number: Result<i64, Stop>) -> Result<Beginning, Stop>
-    ensures did { (s : states.State) → Follows (λ z. z) beginning_seen number result s s (λ z. give (beginning_with kind z)) }
+    ensures did { (s : states.State) →
+        Follows (λ z. z) beginning_seen number result s s (λ z. give (beginning_with kind z)) }
 {
     match number {
         Err(stop) => Err(stop),
@@ -48,7 +49,8 @@ pub fn as_free(alloc: Global, kind: VarKind, number: Result<i64, Stop>) -> Resul
 
 /// A variable begins with a definition.
 pub fn as_defined(term: Result<Built, Stop>) -> Result<Beginning, Stop>
-    ensures did { (s : states.State) → Follows (λ t. t) beginning_seen term result s s (λ t. give (meaning.defined t)) }
+    ensures did { (s : states.State) →
+        Follows (λ t. t) beginning_seen term result s s (λ t. give (meaning.defined t)) }
 {
     match term {
         Err(stop) => Err(stop),
@@ -86,7 +88,9 @@ fn add_variable<O: Outside>(
     domain: Bounds,
     beginning: Beginning,
 ) -> Result<(), Stop>
-    ensures did { Does (λ _. tt) result (state_seen s.new (O.told out.new)) (added_variable at (variable_of variable.now) (bounds_seen domain) (beginning_seen beginning) (state_seen s.old (O.told out.old))) }
+    ensures did { Does (λ _. tt) result (state_seen s.new (O.told out.new))
+        (added_variable at (variable_of variable.now) (bounds_seen domain)
+        (beginning_seen beginning) (state_seen s.old (O.told out.old))) }
 {
     let name = copied_name(s.alloc, &variable.name)?;
     let decl = declared(variable.kind, domain);
@@ -103,7 +107,9 @@ pub fn begin_variable<O: Outside>(
     domain: Bounds,
     beginning: Result<Beginning, Stop>,
 ) -> Result<(), Stop>
-    ensures did { Follows beginning_seen (λ _. tt) beginning result (state_seen s.old (O.told out.old)) (state_seen s.new (O.told out.new)) (added_variable at (variable_of variable.now) (bounds_seen domain)) }
+    ensures did { Follows beginning_seen (λ _.
+        tt) beginning result (state_seen s.old (O.told out.old)) (state_seen s.new (O.told out.new))
+        (added_variable at (variable_of variable.now) (bounds_seen domain)) }
 {
     match beginning {
         Err(stop) => Err(stop),
@@ -132,7 +138,9 @@ fn add_cell<O: Outside>(
     cells: Vec<VarId>,
     beginning: Beginning,
 ) -> Result<Vec<VarId>, Stop>
-    ensures did { Does (λ cells. cells.items) result (state_seen s.new (O.told out.new)) (added_cell at (variable_of variable.now) decl indices.now cells.items (beginning_seen beginning) (state_seen s.old (O.told out.old))) }
+    ensures did { Does (λ cells. cells.items) result (state_seen s.new (O.told out.new))
+        (added_cell at (variable_of variable.now) decl indices.now cells.items
+        (beginning_seen beginning) (state_seen s.old (O.told out.old))) }
 {
     let name = cell_name(s.alloc, &variable.name, indices)?;
     let made = variable_in(s, out, at, variable.solver, decl, name, beginning)?;
@@ -167,7 +175,8 @@ fn numbers_of_list<O: Outside>(
     count: u128,
     list: &Value,
 ) -> Result<Vec<i64>, Stop>
-    ensures did { Does (λ numbers. numbers.items) result (state_seen s.now (O.told out.now)) (exactly at place count (value_seen list.now) (state_seen s.now (O.told out.now))) }
+    ensures did { Does (λ numbers. numbers.items) result (state_seen s.now (O.told out.now))
+        (exactly at place count (value_seen list.now) (state_seen s.now (O.told out.now))) }
 {
     let numbers = s.read_numbers(out, place, list)?;
     let cells = numbers.len();
@@ -186,7 +195,9 @@ pub fn take_numbers<O: Outside>(
     count: u128,
     list: Result<Value, Stop>,
 ) -> Result<Vec<i64>, Stop>
-    ensures did { Follows value_seen (λ numbers. numbers.items) list result (state_seen s.now (O.told out.now)) (state_seen s.now (O.told out.now)) (exactly at place count) }
+    ensures did { Follows value_seen (λ numbers.
+        numbers.items) list result (state_seen s.now (O.told out.now))
+        (state_seen s.now (O.told out.now)) (exactly at place count) }
 {
     match list {
         Err(stop) => Err(stop),
@@ -214,7 +225,9 @@ pub fn make_variables(
     extents: &[Extent],
     variables: Result<Vec<VarId>, Stop>,
 ) -> Result<(), Stop>
-    ensures did { (told : Told) → Follows (λ variables. variables.items) (λ _. tt) variables result (state_seen s.old told) (state_seen s.new told) (made_variables slot (map extent_seen extents.now)) }
+    ensures did { (told : Told) → Follows (λ variables. variables.items) (λ _.
+        tt) variables result (state_seen s.old told) (state_seen s.new told)
+        (made_variables slot (map extent_seen extents.now)) }
 {
     match variables {
         Err(stop) => Err(stop),

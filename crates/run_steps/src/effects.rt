@@ -53,7 +53,8 @@ pub fn as_next(done: Result<(), Stop>) -> Result<Flow, Stop>
 
 /// A call returns with this value.
 pub fn as_returned(value: Result<Value, Stop>) -> Result<Flow, Stop>
-    ensures did { (s : states.State) → Follows value_seen flow_seen value result s s (λ v. give (levels.Returned (Some v))) }
+    ensures did { (s : states.State) →
+        Follows value_seen flow_seen value result s s (λ v. give (levels.Returned (Some v))) }
 {
     match value {
         Err(stop) => Err(stop),
@@ -63,7 +64,8 @@ pub fn as_returned(value: Result<Value, Stop>) -> Result<Flow, Stop>
 
 /// A value is dropped.
 pub fn as_done(value: Result<Value, Stop>) -> Result<(), Stop>
-    ensures did { (s : states.State) → Follows value_seen (λ _. tt) value result s s nothing_behind }
+    ensures did { (s : states.State) →
+        Follows value_seen (λ _. tt) value result s s nothing_behind }
 {
     match value {
         Err(stop) => Err(stop),
@@ -73,7 +75,8 @@ pub fn as_done(value: Result<Value, Stop>) -> Result<(), Stop>
 
 /// A name gets a number.
 pub fn put_number(s: &mut State, slot: Slot, number: Result<i64, Stop>) -> Result<(), Stop>
-    ensures did { (told : Told) → Follows (λ z. z) (λ _. tt) number result (state_seen s.old told) (state_seen s.new told) (λ z. put slot (values.Number z)) }
+    ensures did { (told : Told) → Follows (λ z. z) (λ _. tt) number result (state_seen s.old told)
+        (state_seen s.new told) (λ z. put slot (values.Number z)) }
 {
     match number {
         Err(stop) => Err(stop),
@@ -91,7 +94,8 @@ fn start_value<O: Outside>(
     kind: Kind,
     value: Value,
 ) -> Result<(), Stop>
-    ensures did { Did (λ _. tt) result (state_seen s.new (O.told out.now)) (started_value at place slot kind (value_seen value) (state_seen s.old (O.told out.now))) }
+    ensures did { Did (λ _. tt) result (state_seen s.new (O.told out.now))
+        (started_value at place slot kind (value_seen value) (state_seen s.old (O.told out.now))) }
 {
     if is_array(kind) {
         s.copy_array(out, at, place, slot, &value)
@@ -110,7 +114,8 @@ pub fn declare_value<O: Outside>(
     kind: Kind,
     value: Result<Value, Stop>,
 ) -> Result<(), Stop>
-    ensures did { Follows value_seen (λ _. tt) value result (state_seen s.old (O.told out.now)) (state_seen s.new (O.told out.now)) (started_value at place slot kind) }
+    ensures did { Follows value_seen (λ _. tt) value result (state_seen s.old (O.told out.now))
+        (state_seen s.new (O.told out.now)) (started_value at place slot kind) }
 {
     match value {
         Err(stop) => Err(stop),
@@ -127,7 +132,9 @@ pub fn take_list<O: Outside>(
     count: u128,
     list: Result<Value, Stop>,
 ) -> Result<Vec<i64>, Stop>
-    ensures did { Follows value_seen (λ numbers. numbers.items) list result (state_seen s.old (O.told out.now)) (state_seen s.new (O.told out.now)) (listed at place count) }
+    ensures did { Follows value_seen (λ numbers.
+        numbers.items) list result (state_seen s.old (O.told out.now))
+        (state_seen s.new (O.told out.now)) (listed at place count) }
 {
     match list {
         Err(stop) => Err(stop),
@@ -137,7 +144,9 @@ pub fn take_list<O: Outside>(
 
 /// The numbers with one more.
 pub fn push_number(numbers: Vec<i64>, number: Result<i64, Stop>) -> Result<Vec<i64>, Stop>
-    ensures did { (s : states.State) → Follows (λ z. z) (λ numbers. numbers.items) number result s s (λ z. give (numbers.items ++ z ∷ [])) }
+    ensures did { (s : states.State) →
+        Follows (λ z. z) (λ numbers. numbers.items) number result s s (λ z.
+        give (numbers.items ++ z ∷ [])) }
 {
     let number = number?;
     let mut numbers = numbers;
@@ -147,7 +156,9 @@ pub fn push_number(numbers: Vec<i64>, number: Result<i64, Stop>) -> Result<Vec<i
 
 /// A new array with these dimensions, which a name gets.
 fn put_array(s: &mut State, slot: Slot, extents: &[Extent], numbers: Vec<i64>) -> Result<(), Stop>
-    ensures did { (told : Told) → Does (λ _. tt) result (state_seen s.new told) (made_array slot (map extent_seen extents.now) numbers.items (state_seen s.old told)) }
+    ensures did { (told : Told) → Does (λ _.
+        tt) result (state_seen s.new told)
+        (made_array slot (map extent_seen extents.now) numbers.items (state_seen s.old told)) }
 {
     let array = s.new_array(array_of(extents, numbers))?;
     s.put(slot, array)
@@ -160,7 +171,9 @@ pub fn make_array(
     extents: &[Extent],
     numbers: Result<Vec<i64>, Stop>,
 ) -> Result<(), Stop>
-    ensures did { (told : Told) → Follows (λ numbers. numbers.items) (λ _. tt) numbers result (state_seen s.old told) (state_seen s.new told) (made_array slot (map extent_seen extents.now)) }
+    ensures did { (told : Told) → Follows (λ numbers. numbers.items) (λ _.
+        tt) numbers result (state_seen s.old told) (state_seen s.new told)
+        (made_array slot (map extent_seen extents.now)) }
 {
     match numbers {
         Err(stop) => Err(stop),
@@ -175,7 +188,8 @@ pub fn show_part<O: Outside>(
     at: Place,
     value: Result<Value, Stop>,
 ) -> Result<(), Stop>
-    ensures did { Follows value_seen (λ _. tt) value result (state_seen s.old (O.told out.old)) (state_seen s.new (O.told out.new)) (shown at) }
+    ensures did { Follows value_seen (λ _. tt) value result (state_seen s.old (O.told out.old))
+        (state_seen s.new (O.told out.new)) (shown at) }
 {
     match value {
         Err(stop) => Err(stop),
@@ -192,7 +206,9 @@ pub fn assign_part<O: Outside>(
     target: &Target,
     value: Result<Value, Stop>,
 ) -> Result<(), Stop>
-    ensures did { Follows value_seen (λ _. tt) value result (state_seen s.old (O.told out.old)) (state_seen s.new (O.told out.new)) (λ v. writes.write at (target_seen target.now) (as_kind kind v)) }
+    ensures did { Follows value_seen (λ _. tt) value result (state_seen s.old (O.told out.old))
+        (state_seen s.new (O.told out.new)) (λ v.
+        writes.write at (target_seen target.now) (as_kind kind v)) }
 {
     match value {
         Err(stop) => Err(stop),
@@ -209,7 +225,9 @@ pub fn add_part<O: Outside>(
     old: &Value,
     number: Result<i64, Stop>,
 ) -> Result<(), Stop>
-    ensures did { Follows (λ z. z) (λ _. tt) number result (state_seen s.old (O.told out.old)) (state_seen s.new (O.told out.new)) (λ z. writes.changed at (target_seen target.now) (number_of (value_seen old.now) +ℤ z)) }
+    ensures did { Follows (λ z. z) (λ _. tt) number result (state_seen s.old (O.told out.old))
+        (state_seen s.new (O.told out.new)) (λ z.
+        writes.changed at (target_seen target.now) (number_of (value_seen old.now) +ℤ z)) }
 {
     match number {
         Err(stop) => Err(stop),
@@ -226,7 +244,9 @@ pub fn subtract_part<O: Outside>(
     old: &Value,
     number: Result<i64, Stop>,
 ) -> Result<(), Stop>
-    ensures did { Follows (λ z. z) (λ _. tt) number result (state_seen s.old (O.told out.old)) (state_seen s.new (O.told out.new)) (λ z. writes.changed at (target_seen target.now) (number_of (value_seen old.now) -ℤ z)) }
+    ensures did { Follows (λ z. z) (λ _. tt) number result (state_seen s.old (O.told out.old))
+        (state_seen s.new (O.told out.new)) (λ z.
+        writes.changed at (target_seen target.now) (number_of (value_seen old.now) -ℤ z)) }
 {
     match number {
         Err(stop) => Err(stop),
@@ -242,7 +262,8 @@ fn step_at<O: Outside>(
     step: Step,
     target: &Target,
 ) -> Result<(), Stop>
-    ensures did { Does (λ _. tt) result (state_seen s.new (O.told out.new)) (stepped_target at step (target_seen target.now) (state_seen s.old (O.told out.old))) }
+    ensures did { Does (λ _. tt) result (state_seen s.new (O.told out.new))
+        (stepped_target at step (target_seen target.now) (state_seen s.old (O.told out.old))) }
 {
     let old = s.old_value(target)?;
     stepped(s, out, at, target, step, old.number())
@@ -256,7 +277,8 @@ pub fn step_part<O: Outside>(
     step: Step,
     target: Result<Target, Stop>,
 ) -> Result<(), Stop>
-    ensures did { Follows target_seen (λ _. tt) target result (state_seen s.old (O.told out.old)) (state_seen s.new (O.told out.new)) (stepped_target at step) }
+    ensures did { Follows target_seen (λ _. tt) target result (state_seen s.old (O.told out.old))
+        (state_seen s.new (O.told out.new)) (stepped_target at step) }
 {
     match target {
         Err(stop) => Err(stop),
@@ -266,7 +288,9 @@ pub fn step_part<O: Outside>(
 
 /// `target <- term`, where the target is a variable.
 fn define_at<O: Outside>(out: &mut O, at: Place, target: &Target, term: Built) -> Result<(), Stop>
-    ensures did { (s : states.State) → Did (λ _. tt) result (beside (O.told out.new) s) (writes.defined_at at (target_seen target.now) term (beside (O.told out.old) s)) }
+    ensures did { (s : states.State) →
+        Did (λ _. tt) result (beside (O.told out.new) s)
+        (writes.defined_at at (target_seen target.now) term (beside (O.told out.old) s)) }
     ensures printed { (O.told out.new).printed ≡ (O.told out.old).printed }
 {
     match target {
@@ -284,7 +308,9 @@ pub fn define_part<O: Outside>(
     target: &Target,
     term: Result<Built, Stop>,
 ) -> Result<(), Stop>
-    ensures did { (s : states.State) → Follows (λ t. t) (λ _. tt) term result (beside (O.told out.old) s) (beside (O.told out.new) s) (writes.defined_at at (target_seen target.now)) }
+    ensures did { (s : states.State) →
+        Follows (λ t. t) (λ _. tt) term result (beside (O.told out.old) s)
+        (beside (O.told out.new) s) (writes.defined_at at (target_seen target.now)) }
 {
     match term {
         Err(stop) => Err(stop),
@@ -300,7 +326,9 @@ fn swap_at<O: Outside>(
     left: &Target,
     right: &Target,
 ) -> Result<(), Stop>
-    ensures did { Did (λ _. tt) result (state_seen s.new (O.told out.new)) (writes.swapped_at at (target_seen left.now) (target_seen right.now) (state_seen s.old (O.told out.old))) }
+    ensures did { Did (λ _. tt) result (state_seen s.new (O.told out.new))
+        (writes.swapped_at at (target_seen left.now) (target_seen right.now)
+        (state_seen s.old (O.told out.old))) }
     ensures printed { (O.told out.new).printed ≡ (O.told out.old).printed }
 {
     match left {
@@ -319,7 +347,9 @@ fn swap_with<O: Outside>(
     left: VarId,
     right: &Target,
 ) -> Result<(), Stop>
-    ensures did { Did (λ _. tt) result (state_seen s.new (O.told out.new)) (writes.swapped_at at (levels.Moved left) (target_seen right.now) (state_seen s.old (O.told out.old))) }
+    ensures did { Did (λ _. tt) result (state_seen s.new (O.told out.new))
+        (writes.swapped_at at (levels.Moved left) (target_seen right.now)
+        (state_seen s.old (O.told out.old))) }
     ensures printed { (O.told out.new).printed ≡ (O.told out.old).printed }
 {
     match right {
@@ -338,7 +368,8 @@ pub fn swap_part<O: Outside>(
     left: &Target,
     right: Result<Target, Stop>,
 ) -> Result<(), Stop>
-    ensures did { Follows target_seen (λ _. tt) right result (state_seen s.old (O.told out.old)) (state_seen s.new (O.told out.new)) (writes.swapped_at at (target_seen left.now)) }
+    ensures did { Follows target_seen (λ _. tt) right result (state_seen s.old (O.told out.old))
+        (state_seen s.new (O.told out.new)) (writes.swapped_at at (target_seen left.now)) }
 {
     match right {
         Err(stop) => Err(stop),
@@ -348,14 +379,17 @@ pub fn swap_part<O: Outside>(
 
 /// A new solver.
 pub fn solver_made<O: Outside>(out: &mut O, alloc: Global) -> Result<Value, Stop>
-    ensures did { (s : states.State) → Does value_seen result (beside (O.told out.new) s) (make_solver (beside (O.told out.old) s)) }
+    ensures did { (s : states.State) →
+        Does value_seen result (beside (O.told out.new) s)
+        (make_solver (beside (O.told out.old) s)) }
 {
     make_solver(out, alloc)
 }
 
 /// A new input.
 pub fn input_made(s: &mut State) -> Result<Value, Stop>
-    ensures did { (told : Told) → Does value_seen result (state_seen s.new told) (make_input (state_seen s.old told)) }
+    ensures did { (told : Told) → Does value_seen result (state_seen s.new told)
+        (make_input (state_seen s.old told)) }
 {
     s.make_input()
 }
@@ -366,7 +400,9 @@ pub fn system_made<O: Outside>(
     at: Place,
     solver: Result<Value, Stop>,
 ) -> Result<Value, Stop>
-    ensures did { (s : states.State) → Follows value_seen value_seen solver result (beside (O.told out.old) s) (beside (O.told out.new) s) (λ v. make_system at (solver_of v)) }
+    ensures did { (s : states.State) →
+        Follows value_seen value_seen solver result (beside (O.told out.old) s)
+        (beside (O.told out.new) s) (λ v. make_system at (solver_of v)) }
 {
     match solver {
         Err(stop) => Err(stop),
@@ -380,7 +416,9 @@ pub fn sum_made<O: Outside>(
     at: Place,
     solver: Result<Value, Stop>,
 ) -> Result<Value, Stop>
-    ensures did { (s : states.State) → Follows value_seen value_seen solver result (beside (O.told out.old) s) (beside (O.told out.new) s) (λ v. make_sum at (solver_of v)) }
+    ensures did { (s : states.State) →
+        Follows value_seen value_seen solver result (beside (O.told out.old) s)
+        (beside (O.told out.new) s) (λ v. make_sum at (solver_of v)) }
 {
     match solver {
         Err(stop) => Err(stop),
@@ -394,7 +432,9 @@ pub fn objective_made<O: Outside>(
     at: Place,
     term: Result<Built, Stop>,
 ) -> Result<Value, Stop>
-    ensures did { (s : states.State) → Follows (λ t. t) value_seen term result (beside (O.told out.old) s) (beside (O.told out.new) s) (make_objective at) }
+    ensures did { (s : states.State) →
+        Follows (λ t. t) value_seen term result (beside (O.told out.old) s)
+        (beside (O.told out.new) s) (make_objective at) }
 {
     match term {
         Err(stop) => Err(stop),
@@ -404,14 +444,17 @@ pub fn objective_made<O: Outside>(
 
 /// A new selector, which keeps nothing.
 pub fn selector_made(s: &mut State) -> Result<Value, Stop>
-    ensures did { (told : Told) → Does value_seen result (state_seen s.new told) (make_selector (state_seen s.old told)) }
+    ensures did { (told : Told) → Does value_seen result (state_seen s.new told)
+        (make_selector (state_seen s.old told)) }
 {
     s.make_selector()
 }
 
 /// A new distribution over a range.
 pub fn distribution_made(range: Result<Value, Stop>) -> Result<Value, Stop>
-    ensures did { (s : states.State) → Follows value_seen value_seen range result s s (λ v. give (values.Distribution (bounds_of v))) }
+    ensures did { (s : states.State) →
+        Follows value_seen value_seen range result s s (λ v.
+        give (values.Distribution (bounds_of v))) }
 {
     match range {
         Err(stop) => Err(stop),
@@ -426,7 +469,8 @@ pub fn solution_made<O: Outside>(
     at: Place,
     solver: Result<Value, Stop>,
 ) -> Result<Value, Stop>
-    ensures did { Follows value_seen value_seen solver result (state_seen s.old (O.told out.old)) (state_seen s.new (O.told out.new)) (λ v. make_solution at (solver_of v)) }
+    ensures did { Follows value_seen value_seen solver result (state_seen s.old (O.told out.old))
+        (state_seen s.new (O.told out.new)) (λ v. make_solution at (solver_of v)) }
 {
     match solver {
         Err(stop) => Err(stop),
@@ -436,7 +480,8 @@ pub fn solution_made<O: Outside>(
 
 /// A name gets what was made.
 pub fn put_made(s: &mut State, slot: Slot, made: Result<Value, Stop>) -> Result<(), Stop>
-    ensures did { (told : Told) → Follows value_seen (λ _. tt) made result (state_seen s.old told) (state_seen s.new told) (put slot) }
+    ensures did { (told : Told) → Follows value_seen (λ _.
+        tt) made result (state_seen s.old told) (state_seen s.new told) (put slot) }
 {
     match made {
         Err(stop) => Err(stop),

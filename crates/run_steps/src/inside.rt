@@ -40,17 +40,23 @@ pub trait Within<O: Outside> {
     /// The number of a part that is a short call, or a chain with short calls, where there is room and fuel for it. Where
     /// nothing is answered, the state is as it was.
     fn called_number(&self, s: &mut State, e: &Typed) -> Option<i64>
-        ensures given { (told : Told) → TakesFuel result (state_seen s.old told) (state_seen s.new told) (parts.value (level (code self.now) (depth self.now)) (part e.now) (state_seen s.old told)) };
+        ensures given { (told : Told) → TakesFuel result (state_seen s.old told)
+            (state_seen s.new told) (parts.value (level (code self.now) (depth self.now))
+            (part e.now) (state_seen s.old told)) };
 
     /// The value of an expression; of a variable the variable itself.
     fn evaluate(&self, s: &mut State, out: &mut O, e: &Typed) -> Result<Value, Stop>
         requires { is_ready self.now }
-        ensures did { Does value_seen result (state_seen s.new (O.told out.new)) ((level (code self.now) (depth self.now)).expr (part e.now) (state_seen s.old (O.told out.old))) };
+        ensures did { Does value_seen result (state_seen s.new (O.told out.new))
+            ((level (code self.now) (depth self.now)).expr (part e.now)
+            (state_seen s.old (O.told out.old))) };
 
     /// What a statement does, and how it ends.
     fn execute(&self, s: &mut State, out: &mut O, t: &Task) -> Result<Flow, Stop>
         requires { is_ready self.now }
-        ensures did { Does flow_seen result (state_seen s.new (O.told out.new)) ((level (code self.now) (depth self.now)).stmt (work_of t.now) (state_seen s.old (O.told out.old))) };
+        ensures did { Does flow_seen result (state_seen s.new (O.told out.new))
+            ((level (code self.now) (depth self.now)).stmt (work_of t.now)
+            (state_seen s.old (O.told out.old))) };
 }
 
 /// The same, where parts stand in a term, too.
@@ -61,7 +67,9 @@ pub trait Defining<O: Outside>: Within<O> {
     /// What an expression stands for in a term.
     fn define(&self, s: &mut State, out: &mut O, e: &Typed) -> Result<InTerm, Stop>
         requires { can_define self.now }
-        ensures did { Does in_term_seen result (state_seen s.new (O.told out.new)) ((level (Self.code self.now) (Self.depth self.now)).term (part e.now) (state_seen s.old (O.told out.old))) };
+        ensures did { Does in_term_seen result (state_seen s.new (O.told out.new))
+            ((level (Self.code self.now) (Self.depth self.now)).term (part e.now)
+            (state_seen s.old (O.told out.old))) };
 }
 
 /// The same, where parts are written, too.
@@ -72,7 +80,9 @@ pub trait Around<O: Outside>: Defining<O> {
     /// What an expression stands for where it is written.
     fn locate(&self, s: &mut State, out: &mut O, e: &Typed) -> Result<Target, Stop>
         requires { can_locate self.now }
-        ensures did { Does target_seen result (state_seen s.new (O.told out.new)) ((level (Self.code self.now) (Self.depth self.now)).target (part e.now) (state_seen s.old (O.told out.old))) };
+        ensures did { Does target_seen result (state_seen s.new (O.told out.new))
+            ((level (Self.code self.now) (Self.depth self.now)).target (part e.now)
+            (state_seen s.old (O.told out.old))) };
 }
 
 /// The same, by a function for each kind of part; where none is asked for, `()` stands in its place.
@@ -127,7 +137,8 @@ impl<
     T: Fn(&mut State, &mut O, &Typed) -> Result<InTerm, Stop>,
     L,
 > Defining<O> for Inside<'a, 'p, V, X, T, L> {
-    ghost can_define = { λ i. T.IsAlwaysCallable i.define × Defines O.told (T.post i.define) (code_seen i.code.now) i.room };
+    ghost can_define = { λ i. T.IsAlwaysCallable i.define ×
+        Defines O.told (T.post i.define) (code_seen i.code.now) i.room };
 
     fn define(&self, s: &mut State, out: &mut O, e: &Typed) -> Result<InTerm, Stop> {
         (self.define)(s, out, e)
@@ -143,7 +154,8 @@ impl<
     T: Fn(&mut State, &mut O, &Typed) -> Result<InTerm, Stop>,
     L: Fn(&mut State, &mut O, &Typed) -> Result<Target, Stop>,
 > Around<O> for Inside<'a, 'p, V, X, T, L> {
-    ghost can_locate = { λ i. L.IsAlwaysCallable i.locate × Locates O.told (L.post i.locate) (code_seen i.code.now) i.room };
+    ghost can_locate = { λ i. L.IsAlwaysCallable i.locate ×
+        Locates O.told (L.post i.locate) (code_seen i.code.now) i.room };
 
     fn locate(&self, s: &mut State, out: &mut O, e: &Typed) -> Result<Target, Stop> {
         (self.locate)(s, out, e)

@@ -25,7 +25,8 @@ pub fn read_place(e: &Typed) -> Place
 /// The value that an action returns, where it is a `return`.
 #[tactic(auto, unfolding(checked_tree::specs::Actions::deed_of))]
 pub fn returned(action: &Action) -> Option<&Option<Typed>>
-    ensures { option_map (option_map seen) (option_copied result) ≡ returned_by (deed_of action.now) }
+    ensures { option_map (option_map seen) (option_copied result) ≡
+        returned_by (deed_of action.now) }
 {
     match action {
         Action::Return(value) => Some(value),

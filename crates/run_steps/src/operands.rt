@@ -39,7 +39,8 @@ pub fn read_part<O: Outside>(
     e: &Typed,
     value: Result<Value, Stop>,
 ) -> Result<Value, Stop>
-    ensures did { Follows value_seen value_seen value result (state_seen s.now (O.told out.now)) (state_seen s.now (O.told out.now)) (parts.read (parts.read_place (part e.now))) }
+    ensures did { Follows value_seen value_seen value result (state_seen s.now (O.told out.now))
+        (state_seen s.now (O.told out.now)) (parts.read (parts.read_place (part e.now))) }
 {
     match value {
         Err(stop) => Err(stop),
@@ -49,7 +50,8 @@ pub fn read_part<O: Outside>(
 
 /// A value as a number.
 pub fn as_number(value: Result<Value, Stop>) -> Result<i64, Stop>
-    ensures did { (s : states.State) → Follows value_seen (λ z. z) value result s s (λ v. give (number_of v)) }
+    ensures did { (s : states.State) →
+        Follows value_seen (λ z. z) value result s s (λ v. give (number_of v)) }
 {
     match value {
         Err(stop) => Err(stop),
@@ -59,7 +61,8 @@ pub fn as_number(value: Result<Value, Stop>) -> Result<i64, Stop>
 
 /// A value as a truth value.
 pub fn as_truth(value: Result<Value, Stop>) -> Result<bool, Stop>
-    ensures did { (s : states.State) → Follows value_seen (λ b. b) value result s s (λ v. give (truth_of v)) }
+    ensures did { (s : states.State) →
+        Follows value_seen (λ b. b) value result s s (λ v. give (truth_of v)) }
 {
     match value {
         Err(stop) => Err(stop),
@@ -69,7 +72,8 @@ pub fn as_truth(value: Result<Value, Stop>) -> Result<bool, Stop>
 
 /// A value as the bounds of a range.
 pub fn as_bounds(value: Result<Value, Stop>) -> Result<Bounds, Stop>
-    ensures did { (s : states.State) → Follows value_seen bounds_seen value result s s (λ v. give (bounds_of v)) }
+    ensures did { (s : states.State) →
+        Follows value_seen bounds_seen value result s s (λ v. give (bounds_of v)) }
 {
     match value {
         Err(stop) => Err(stop),
@@ -79,7 +83,8 @@ pub fn as_bounds(value: Result<Value, Stop>) -> Result<Bounds, Stop>
 
 /// A value as a name of this kind holds it.
 pub fn as_held(kind: Kind, value: Result<Value, Stop>) -> Result<Value, Stop>
-    ensures did { (s : states.State) → Follows value_seen value_seen value result s s (λ v. give (as_kind kind v)) }
+    ensures did { (s : states.State) →
+        Follows value_seen value_seen value result s s (λ v. give (as_kind kind v)) }
 {
     match value {
         Err(stop) => Err(stop),
@@ -93,7 +98,8 @@ pub fn apply_unary(
     operator: UnaryOperator,
     operand: Result<Value, Stop>,
 ) -> Result<Value, Stop>
-    ensures did { (s : states.State) → Follows value_seen value_seen operand result s s (operators.unary_result at operator) }
+    ensures did { (s : states.State) →
+        Follows value_seen value_seen operand result s s (operators.unary_result at operator) }
 {
     match operand {
         Err(stop) => Err(stop),
@@ -107,7 +113,9 @@ pub fn join_operand(
     so_far: &Value,
     operand: Result<Value, Stop>,
 ) -> Result<Value, Stop>
-    ensures did { (s : states.State) → Follows value_seen value_seen operand result s s (operators.linked link.now.place link.now.operator (value_seen so_far.now)) }
+    ensures did { (s : states.State) →
+        Follows value_seen value_seen operand result s s
+        (operators.linked link.now.place link.now.operator (value_seen so_far.now)) }
 {
     match operand {
         Err(stop) => Err(stop),
@@ -122,7 +130,8 @@ pub fn index_array(
     array: &Value,
     index: Result<i64, Stop>,
 ) -> Result<Value, Stop>
-    ensures did { (told : Told) → Follows (λ z. z) value_seen index result (state_seen s.now told) (state_seen s.now told) (indexed at (value_seen array.now)) }
+    ensures did { (told : Told) → Follows (λ z. z) value_seen index result (state_seen s.now told)
+        (state_seen s.now told) (indexed at (value_seen array.now)) }
 {
     match index {
         Err(stop) => Err(stop),
@@ -138,7 +147,8 @@ pub fn index_grid(
     row: i64,
     column: Result<i64, Stop>,
 ) -> Result<Value, Stop>
-    ensures did { (told : Told) → Follows (λ z. z) value_seen column result (state_seen s.now told) (state_seen s.now told) (indexed_twice at (value_seen grid.now) row) }
+    ensures did { (told : Told) → Follows (λ z. z) value_seen column result (state_seen s.now told)
+        (state_seen s.now told) (indexed_twice at (value_seen grid.now) row) }
 {
     match column {
         Err(stop) => Err(stop),
@@ -153,7 +163,8 @@ pub fn target_in_array(
     array: &Value,
     index: Result<i64, Stop>,
 ) -> Result<Target, Stop>
-    ensures did { (told : Told) → Follows (λ z. z) target_seen index result (state_seen s.now told) (state_seen s.now told) (index_written at (value_seen array.now)) }
+    ensures did { (told : Told) → Follows (λ z. z) target_seen index result (state_seen s.now told)
+        (state_seen s.now told) (index_written at (value_seen array.now)) }
 {
     match index {
         Err(stop) => Err(stop),
@@ -169,7 +180,8 @@ pub fn target_in_grid(
     row: i64,
     column: Result<i64, Stop>,
 ) -> Result<Target, Stop>
-    ensures did { (told : Told) → Follows (λ z. z) target_seen column result (state_seen s.now told) (state_seen s.now told) (cell_written at (value_seen grid.now) row) }
+    ensures did { (told : Told) → Follows (λ z. z) target_seen column result (state_seen s.now told)
+        (state_seen s.now told) (cell_written at (value_seen grid.now) row) }
 {
     match column {
         Err(stop) => Err(stop),
@@ -186,7 +198,8 @@ pub fn count_in_array<O: Outside>(
     array: &Value,
     number: Result<i64, Stop>,
 ) -> Result<Value, Stop>
-    ensures did { Follows (λ z. z) value_seen number result (state_seen s.old (O.told out.now)) (state_seen s.new (O.told out.now)) (counted at place (value_seen array.now)) }
+    ensures did { Follows (λ z. z) value_seen number result (state_seen s.old (O.told out.now))
+        (state_seen s.new (O.told out.now)) (counted at place (value_seen array.now)) }
 {
     match number {
         Err(stop) => Err(stop),
@@ -201,7 +214,9 @@ pub fn call_builtin(
     function: Builtin,
     arguments: Result<Vec<Value>, Stop>,
 ) -> Result<Value, Stop>
-    ensures did { (told : Told) → Follows (λ values. map value_seen values.items) value_seen arguments result (state_seen s.old told) (state_seen s.new told) (called_builtin at function) }
+    ensures did { (told : Told) → Follows (λ values.
+        map value_seen values.items) value_seen arguments result (state_seen s.old told)
+        (state_seen s.new told) (called_builtin at function) }
 {
     match arguments {
         Err(stop) => Err(stop),
@@ -222,7 +237,9 @@ pub fn call_on<O: Outside>(
     value: &Value,
     arguments: Result<Vec<Value>, Stop>,
 ) -> Result<Value, Stop>
-    ensures did { Follows (λ values. map value_seen values.items) value_seen arguments result (state_seen s.old (O.told out.old)) (state_seen s.new (O.told out.new)) (called_method at method (whole (seen object.now)) (value_seen value.now)) }
+    ensures did { Follows (λ values. map value_seen values.items) value_seen arguments result
+        (state_seen s.old (O.told out.old)) (state_seen s.new (O.told out.new))
+        (called_method at method (whole (seen object.now)) (value_seen value.now)) }
 {
     match arguments {
         Err(stop) => Err(stop),
@@ -242,7 +259,8 @@ pub fn post_with<O: Outside>(
     term: Built,
     weight: Result<i64, Stop>,
 ) -> Result<Value, Stop>
-    ensures did { Follows (λ z. z) value_seen weight result (state_seen s.old (O.told out.old)) (state_seen s.new (O.told out.new)) (posted_with at (value_seen object.now) term) }
+    ensures did { Follows (λ z. z) value_seen weight result (state_seen s.old (O.told out.old))
+        (state_seen s.new (O.told out.new)) (posted_with at (value_seen object.now) term) }
 {
     match weight {
         Err(stop) => Err(stop),
@@ -259,7 +277,8 @@ fn post_behind<O: Outside>(
     term: Built,
     weight: i64,
 ) -> Result<Value, Stop>
-    ensures did { Does value_seen result (state_seen s.new (O.told out.new)) (posted_with at (value_seen object.now) term weight (state_seen s.old (O.told out.old))) }
+    ensures did { Does value_seen result (state_seen s.new (O.told out.new))
+        (posted_with at (value_seen object.now) term weight (state_seen s.old (O.told out.old))) }
 {
     s.charge(1, at)?;
     post(out, at, object, term, weight)
@@ -267,7 +286,8 @@ fn post_behind<O: Outside>(
 
 /// A truth value as a constraint, which is violated once where it is false.
 pub fn as_broken(truth: Result<bool, Stop>) -> Result<Built, Stop>
-    ensures did { (s : states.State) → Follows (λ b. b) (λ t. t) truth result s s (λ b. give (parts.broken b)) }
+    ensures did { (s : states.State) →
+        Follows (λ b. b) (λ t. t) truth result s s (λ b. give (parts.broken b)) }
 {
     match truth {
         Err(stop) => Err(stop),
@@ -288,14 +308,16 @@ fn broken(truth: bool) -> Built
 
 /// What a value stands for in a term: a variable for itself, and an array for its cells.
 fn standing(s: &State, value: Value) -> Result<InTerm, Stop>
-    ensures did { (told : Told) → Does in_term_seen result (state_seen s.now told) (standing (value_seen value) (state_seen s.now told)) }
+    ensures did { (told : Told) → Does in_term_seen result (state_seen s.now told)
+        (standing (value_seen value) (state_seen s.now told)) }
 {
     s.standing(value)
 }
 
 /// The same with the value's answer.
 pub fn as_standing(s: &State, value: Result<Value, Stop>) -> Result<InTerm, Stop>
-    ensures did { (told : Told) → Follows value_seen in_term_seen value result (state_seen s.now told) (state_seen s.now told) standing }
+    ensures did { (told : Told) → Follows value_seen in_term_seen value result
+        (state_seen s.now told) (state_seen s.now told) standing }
 {
     match value {
         Err(stop) => Err(stop),
@@ -305,7 +327,8 @@ pub fn as_standing(s: &State, value: Result<Value, Stop>) -> Result<InTerm, Stop
 
 /// What a name stands for in a term.
 pub fn name_term(s: &State, slot: Slot) -> Result<InTerm, Stop>
-    ensures did { (told : Told) → Does in_term_seen result (state_seen s.now told) (named_term slot (state_seen s.now told)) }
+    ensures did { (told : Told) → Does in_term_seen result (state_seen s.now told)
+        (named_term slot (state_seen s.now told)) }
 {
     match s.look(slot) {
         Err(stop) => Err(stop),
@@ -315,7 +338,8 @@ pub fn name_term(s: &State, slot: Slot) -> Result<InTerm, Stop>
 
 /// What a part stands for, as one term.
 pub fn as_single(term: Result<InTerm, Stop>) -> Result<Built, Stop>
-    ensures did { (s : states.State) → Follows in_term_seen (λ t. t) term result s s (λ t. give (single_of t)) }
+    ensures did { (s : states.State) →
+        Follows in_term_seen (λ t. t) term result s s (λ t. give (single_of t)) }
 {
     match term {
         Err(stop) => Err(stop),
@@ -325,7 +349,8 @@ pub fn as_single(term: Result<InTerm, Stop>) -> Result<Built, Stop>
 
 /// What a part stands for, as an array of terms.
 pub fn as_several(alloc: Global, term: Result<InTerm, Stop>) -> Result<TermCells, Stop>
-    ensures did { (s : states.State) → Follows in_term_seen term_cells_seen term result s s (λ t. give (several_of t)) }
+    ensures did { (s : states.State) →
+        Follows in_term_seen term_cells_seen term result s s (λ t. give (several_of t)) }
 {
     match term {
         Err(stop) => Err(stop),

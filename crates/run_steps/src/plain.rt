@@ -28,7 +28,9 @@ const MOST_CHAINS: u32 = 4;
 
 /// The value of a part, where it is plain and there is room for it.
 pub fn plain_value(s: &State, room: u32, e: &Typed) -> Option<Value>
-    ensures given { (code : levels.Code) (told : Told) → GivesValue result (state_seen s.now told) (parts.value (level code room) (part e.now) (state_seen s.now told)) }
+    ensures given { (code : levels.Code) (told : Told) →
+        GivesValue result (state_seen s.now told)
+        (parts.value (level code room) (part e.now) (state_seen s.now told)) }
 {
     match number_within(s, room, MOST_CHAINS, e) {
         Some(number) => Some(Value::Number(number)),
@@ -38,7 +40,9 @@ pub fn plain_value(s: &State, room: u32, e: &Typed) -> Option<Value>
 
 /// What a name's cell holds, where it is a value that is read as it is.
 pub fn plain_name(s: &State, room: u32, e: &Typed) -> Option<Value>
-    ensures given { (code : levels.Code) (told : Told) → GivesValue result (state_seen s.now told) (parts.value (level code room) (part e.now) (state_seen s.now told)) }
+    ensures given { (code : levels.Code) (told : Told) →
+        GivesValue result (state_seen s.now told)
+        (parts.value (level code room) (part e.now) (state_seen s.now told)) }
 {
     if room == 0 {
         return None;
@@ -51,21 +55,26 @@ pub fn plain_name(s: &State, room: u32, e: &Typed) -> Option<Value>
 
 /// The number that a part gives, where it is plain and there is room for it.
 pub fn plain_number(s: &State, room: u32, e: &Typed) -> Option<i64>
-    ensures given { (code : levels.Code) (told : Told) → GivesWhole result (state_seen s.now told) (parts.number (level code room) (part e.now) (state_seen s.now told)) }
+    ensures given { (code : levels.Code) (told : Told) →
+        GivesWhole result (state_seen s.now told)
+        (parts.number (level code room) (part e.now) (state_seen s.now told)) }
 {
     number_within(s, room, MOST_CHAINS, e)
 }
 
 /// The number that is a part's value, where it is plain and there is room for it.
 pub fn number_itself(s: &State, room: u32, e: &Typed) -> Option<i64>
-    ensures given { (code : levels.Code) (told : Told) → GivesNumber result (state_seen s.now told) (parts.value (level code room) (part e.now) (state_seen s.now told)) }
+    ensures given { (code : levels.Code) (told : Told) →
+        GivesNumber result (state_seen s.now told)
+        (parts.value (level code room) (part e.now) (state_seen s.now told)) }
 {
     number_within(s, room, MOST_CHAINS, e)
 }
 
 /// What a name of a number or a truth value stands for where it is written, where there is room for it: its own cell.
 pub fn plain_target(room: u32, e: &Typed) -> Option<Target>
-    ensures given { (code : levels.Code) (s : states.State) → GivesTarget result s ((level code room).target (part e.now) s) }
+    ensures given { (code : levels.Code) (s : states.State) →
+        GivesTarget result s ((level code room).target (part e.now) s) }
 {
     if room == 0 {
         return None;
@@ -90,7 +99,8 @@ fn cell_of(kind: Kind, slot: Slot) -> Option<Target>
 
 /// The name of a number that a part is, where there is room for it: its own cell is what is written.
 pub fn plain_slot(room: u32, e: &Typed) -> Option<Slot>
-    ensures given { (code : levels.Code) (s : states.State) → GivesName result e.now.kind s ((level code room).target (part e.now) s) }
+    ensures given { (code : levels.Code) (s : states.State) →
+        GivesName result e.now.kind s ((level code room).target (part e.now) s) }
 {
     if room == 0 {
         return None;
@@ -114,7 +124,9 @@ fn slot_of(kind: Kind, slot: Slot) -> Option<Slot>
 
 /// The truth value of a relation of plain numbers, where there is room for it.
 pub fn plain_truth(s: &State, room: u32, e: &Typed) -> Option<bool>
-    ensures given { (code : levels.Code) (told : Told) → GivesTruth result (state_seen s.now told) (parts.truth (level code room) (part e.now) (state_seen s.now told)) }
+    ensures given { (code : levels.Code) (told : Told) →
+        GivesTruth result (state_seen s.now told)
+        (parts.truth (level code room) (part e.now) (state_seen s.now told)) }
 {
     if room == 0 {
         return None;
@@ -137,7 +149,9 @@ pub fn plain_truth(s: &State, room: u32, e: &Typed) -> Option<bool>
 #[cycle(plain)]
 #[inline(always)]
 fn number_within(s: &State, room: u32, chains: u32, e: &Typed) -> Option<i64>
-    ensures given { (code : levels.Code) (told : Told) → GivesNumber result (state_seen s.now told) (parts.value (level code room) (part e.now) (state_seen s.now told)) }
+    ensures given { (code : levels.Code) (told : Told) →
+        GivesNumber result (state_seen s.now told)
+        (parts.value (level code room) (part e.now) (state_seen s.now told)) }
 {
     if room == 0 {
         return None;
@@ -152,7 +166,9 @@ fn number_within(s: &State, room: u32, chains: u32, e: &Typed) -> Option<i64>
 /// The same of a part that has parts inside it.
 #[cycle(plain)]
 fn number_inside(s: &State, room: u32, chains: u32, e: &Typed) -> Option<i64>
-    ensures given { (code : levels.Code) (told : Told) → GivesNumber result (state_seen s.now told) (parts.value (level code room) (part e.now) (state_seen s.now told)) }
+    ensures given { (code : levels.Code) (told : Told) →
+        GivesNumber result (state_seen s.now told)
+        (parts.value (level code room) (part e.now) (state_seen s.now told)) }
 {
     if room == 0 {
         return None;
@@ -186,7 +202,8 @@ fn cell_within(
 
 /// The number in the cell of an index, where there is such a cell and it holds a number.
 fn number_in(s: &State, at: Place, array: &Value, index: i64) -> Option<i64>
-    ensures given { (told : Told) → GivesNumber result (state_seen s.now told) (indexed at (value_seen array.now) index (state_seen s.now told)) }
+    ensures given { (told : Told) → GivesNumber result (state_seen s.now told)
+        (indexed at (value_seen array.now) index (state_seen s.now told)) }
 {
     match s.index(at, array, index) {
         Ok(Value::Number(number)) => Some(number),

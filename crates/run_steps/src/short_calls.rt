@@ -31,7 +31,8 @@ const CALL_FUEL: u64 = 3;
 
 /// The number of a part that is such a call, or a chain with such calls, where there is room and fuel for it.
 pub fn called_number(s: &mut State, code: &Code<'_>, room: u32, e: &Typed) -> Option<i64>
-    ensures given { (told : Told) → TakesFuel result (state_seen s.old told) (state_seen s.new told) (parts.value (level (code_seen code.now) room) (part e.now) (state_seen s.old told)) }
+    ensures given { (told : Told) → TakesFuel result (state_seen s.old told) (state_seen s.new told)
+        (parts.value (level (code_seen code.now) room) (part e.now) (state_seen s.old told)) }
 {
     let fuel = s.fuel;
     match number_spending(s, code, room, e) {
@@ -45,7 +46,8 @@ pub fn called_number(s: &mut State, code: &Code<'_>, room: u32, e: &Typed) -> Op
 
 /// The same, but where nothing is answered some fuel may be gone.
 fn number_spending(s: &mut State, code: &Code<'_>, room: u32, e: &Typed) -> Option<i64>
-    ensures given { (told : Told) → Spends result (state_seen s.old told) (state_seen s.new told) (parts.value (level (code_seen code.now) room) (part e.now) (state_seen s.old told)) }
+    ensures given { (told : Told) → Spends result (state_seen s.old told) (state_seen s.new told)
+        (parts.value (level (code_seen code.now) room) (part e.now) (state_seen s.old told)) }
 {
     if room == 0 {
         return None;
@@ -68,7 +70,9 @@ fn chain_spending(
     first: &Typed,
     links: &[Link],
 ) -> Option<i64>
-    ensures given { (told : Told) → Spends result (state_seen s.old told) (state_seen s.new told) (operators.chain_form (level (code_seen code.now) room) (part first.now) (links_seen links.now) (state_seen s.old told)) }
+    ensures given { (told : Told) → Spends result (state_seen s.old told) (state_seen s.new told)
+        (operators.chain_form (level (code_seen code.now) room) (part first.now)
+        (links_seen links.now) (state_seen s.old told)) }
 {
     let mut number = operand_spending(s, code, room, first)?;
     for link in links {
@@ -80,7 +84,8 @@ fn chain_spending(
 
 /// The number of a part that is plain or such a call.
 fn operand_spending(s: &mut State, code: &Code<'_>, room: u32, e: &Typed) -> Option<i64>
-    ensures given { (told : Told) → Spends result (state_seen s.old told) (state_seen s.new told) (parts.value (level (code_seen code.now) room) (part e.now) (state_seen s.old told)) }
+    ensures given { (told : Told) → Spends result (state_seen s.old told) (state_seen s.new told)
+        (parts.value (level (code_seen code.now) room) (part e.now) (state_seen s.old told)) }
 {
     match number_itself(s, room, e) {
         Some(number) => Some(number),
@@ -90,7 +95,8 @@ fn operand_spending(s: &mut State, code: &Code<'_>, room: u32, e: &Typed) -> Opt
 
 /// The number of a part that is such a call.
 fn itself_spending(s: &mut State, code: &Code<'_>, room: u32, e: &Typed) -> Option<i64>
-    ensures given { (told : Told) → Spends result (state_seen s.old told) (state_seen s.new told) (parts.value (level (code_seen code.now) room) (part e.now) (state_seen s.old told)) }
+    ensures given { (told : Told) → Spends result (state_seen s.old told) (state_seen s.new told)
+        (parts.value (level (code_seen code.now) room) (part e.now) (state_seen s.old told)) }
 {
     if room == 0 {
         return None;
@@ -175,7 +181,8 @@ fn returned_alone(body: &Task) -> Option<&Typed>
 
 /// The value that the only one of some statements returns.
 fn returned_first(tasks: &[Task]) -> Option<&Typed>
-    ensures given { (at : Place) → IsAlone (option_map seen (option_copied result)) (works.task at (works.block (works.row_of (map work_of tasks.now)))) }
+    ensures given { (at : Place) → IsAlone (option_map seen (option_copied result))
+        (works.task at (works.block (works.row_of (map work_of tasks.now)))) }
 {
     if tasks.len() != 1 {
         return None;

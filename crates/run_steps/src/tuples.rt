@@ -79,7 +79,8 @@ fn low_of(bounds: Bounds) -> Option<i64>
 
 /// The numbers within bounds behind the least one.
 fn behind_low(bounds: Bounds) -> Pending
-    ensures { SameLeft (behind_next (odometer.pending_of (Range (bounds_seen bounds)))) (pending_seen result) }
+    ensures { SameLeft (behind_next (odometer.pending_of (Range (bounds_seen bounds))))
+        (pending_seen result) }
 {
     if bounds.up <= bounds.low {
         return Pending::Done;
@@ -93,7 +94,8 @@ fn behind_low(bounds: Bounds) -> Pending
 /// The member at an index, which is left no more.
 fn take_member(set: &IntSet, index: &mut usize) -> Option<i64>
     ensures next { result ≡ next_of (odometer.Members (drop index.old set.now)) }
-    ensures left { behind_next (odometer.Members (drop index.old set.now)) ≡ odometer.Members (drop index.new set.now) }
+    ensures left { behind_next (odometer.Members (drop index.old set.now)) ≡
+        odometer.Members (drop index.new set.now) }
 {
     if set.len() <= *index {
         return None;
@@ -111,7 +113,9 @@ pub fn begin(
     slot: Slot,
     value: i64,
 ) -> Result<(), Stop>
-    ensures did { (told : Told) → Did (λ _. tt) result (state_seen s.new told) (begun place (with_bound (names_seen below.now) slot value) (state_seen s.old told)) }
+    ensures did { (told : Told) → Did (λ _.
+        tt) result (state_seen s.new told)
+        (begun place (with_bound (names_seen below.now) slot value) (state_seen s.old told)) }
     ensures falls { OnOk result (s.new.fuel < s.old.fuel) }
 {
     s.charge(1, place)?;
@@ -121,7 +125,8 @@ pub fn begin(
 
 /// The names of open generators get their values.
 fn bind_names(s: &mut State, below: &[Entered]) -> Result<(), Stop>
-    ensures did { (told : Told) → Did (λ _. tt) result (state_seen s.new told) (bind (names_seen below.now) (state_seen s.old told)) }
+    ensures did { (told : Told) → Did (λ _.
+        tt) result (state_seen s.new told) (bind (names_seen below.now) (state_seen s.old told)) }
     ensures fuel { s.new.fuel ≡ s.old.fuel }
 {
     for entered in below {

@@ -37,7 +37,8 @@ pub fn push_element(
     key: i64,
     value: Value,
 ) -> Result<(), Stop>
-    ensures did { (s : State) → Did (λ _. map element_seen elements.new.items) result s (with_element at aggregate key (map element_seen elements.old.items) (value_seen value) s) }
+    ensures did { (s : State) → Did (λ _. map element_seen elements.new.items) result s
+        (with_element at aggregate key (map element_seen elements.old.items) (value_seen value) s) }
     ensures stop { IfErr result IsFaultOrMemory }
 {
     match aggregate {
@@ -51,7 +52,8 @@ pub fn push_element(
 
 /// Adds one more element of an `all`. `TooMany` at the place exactly where there are as many as an array has cells.
 fn push_cell(elements: &mut Vec<Element>, at: Place, key: i64, value: Value) -> Result<(), Stop>
-    ensures did { (s : State) → Did (λ _. map element_seen elements.new.items) result s (with_element at All key (map element_seen elements.old.items) (value_seen value) s) }
+    ensures did { (s : State) → Did (λ _. map element_seen elements.new.items) result s
+        (with_element at All key (map element_seen elements.old.items) (value_seen value) s) }
     ensures stop { IfErr result IsFaultOrMemory }
 {
     if MAX_CELLS <= elements.len() {
@@ -69,7 +71,8 @@ pub fn aggregate_value(
     aggregate: Aggregate,
     elements: &[Element],
 ) -> Result<Value, Stop>
-    ensures did { (s : State) → Did value_seen result s (aggregate_value at aggregate (map element_seen elements.now) s) }
+    ensures did { (s : State) → Did value_seen result s
+        (aggregate_value at aggregate (map element_seen elements.now) s) }
     ensures stop { IfErr result IsFaultOrMemory }
 {
     match aggregate {
@@ -87,7 +90,8 @@ pub fn aggregate_value(
 
 /// The numbers of the elements. `NoMemory` where there is none for them; there is no other stop.
 fn numbers_in(alloc: Global, elements: &[Element]) -> Result<Vec<i64>, Stop>
-    ensures numbers { IfOk result (λ numbers. numbers.items ≡ numbers_of (map element_seen elements.now)) }
+    ensures numbers { IfOk result (λ numbers.
+        numbers.items ≡ numbers_of (map element_seen elements.now)) }
     ensures memory { IfErr result (λ stop. stop ≡ NoMemory) }
 {
     let mut numbers = Vec::new(alloc);
@@ -135,7 +139,8 @@ fn is_one_true(elements: &[Element]) -> bool
 
 /// The total of the numbers.
 fn sum(alloc: Global, at: Place, elements: &[Element]) -> Result<Value, Stop>
-    ensures did { (s : State) → Did value_seen result s (aggregate_value at Sum (map element_seen elements.now) s) }
+    ensures did { (s : State) → Did value_seen result s
+        (aggregate_value at Sum (map element_seen elements.now) s) }
     ensures stop { IfErr result IsFaultOrMemory }
 {
     let numbers = numbers_in(alloc, elements)?;
@@ -144,7 +149,8 @@ fn sum(alloc: Global, at: Place, elements: &[Element]) -> Result<Value, Stop>
 
 /// The least of the numbers.
 fn least(alloc: Global, at: Place, elements: &[Element]) -> Result<Value, Stop>
-    ensures did { (s : State) → Did value_seen result s (aggregate_value at Min (map element_seen elements.now) s) }
+    ensures did { (s : State) → Did value_seen result s
+        (aggregate_value at Min (map element_seen elements.now) s) }
     ensures stop { IfErr result IsFaultOrMemory }
 {
     let numbers = numbers_in(alloc, elements)?;
@@ -153,7 +159,8 @@ fn least(alloc: Global, at: Place, elements: &[Element]) -> Result<Value, Stop>
 
 /// The greatest of the numbers.
 fn greatest(alloc: Global, at: Place, elements: &[Element]) -> Result<Value, Stop>
-    ensures did { (s : State) → Did value_seen result s (aggregate_value at Max (map element_seen elements.now) s) }
+    ensures did { (s : State) → Did value_seen result s
+        (aggregate_value at Max (map element_seen elements.now) s) }
     ensures stop { IfErr result IsFaultOrMemory }
 {
     let numbers = numbers_in(alloc, elements)?;
@@ -182,7 +189,8 @@ fn greatest_or(numbers: &[i64]) -> Result<i64, RunFault>
 
 /// The numbers in a row.
 fn all(alloc: Global, elements: &[Element]) -> Result<Value, Stop>
-    ensures did { (at : Place) (s : State) → Did value_seen result s (aggregate_value at All (map element_seen elements.now) s) }
+    ensures did { (at : Place) (s : State) →
+        Did value_seen result s (aggregate_value at All (map element_seen elements.now) s) }
     ensures memory { IfErr result (λ stop. stop ≡ NoMemory) }
 {
     let numbers = numbers_in(alloc, elements)?;
@@ -191,7 +199,8 @@ fn all(alloc: Global, elements: &[Element]) -> Result<Value, Stop>
 
 /// The set of the keys whose number is 1.
 fn true_keys(alloc: Global, elements: &[Element]) -> Result<Value, Stop>
-    ensures did { (at : Place) (s : State) → Did value_seen result s (aggregate_value at SetOf (map element_seen elements.now) s) }
+    ensures did { (at : Place) (s : State) →
+        Did value_seen result s (aggregate_value at SetOf (map element_seen elements.now) s) }
     ensures memory { IfErr result (λ stop. stop ≡ NoMemory) }
 {
     let keys = keys_in(alloc, elements)?;
@@ -202,7 +211,8 @@ fn true_keys(alloc: Global, elements: &[Element]) -> Result<Value, Stop>
 
 /// The set of the keys whose number is least.
 fn least_keys(alloc: Global, elements: &[Element]) -> Result<Value, Stop>
-    ensures did { (at : Place) (s : State) → Did value_seen result s (aggregate_value at ArgMin (map element_seen elements.now) s) }
+    ensures did { (at : Place) (s : State) →
+        Did value_seen result s (aggregate_value at ArgMin (map element_seen elements.now) s) }
     ensures memory { IfErr result (λ stop. stop ≡ NoMemory) }
 {
     let keys = keys_in(alloc, elements)?;
@@ -213,7 +223,8 @@ fn least_keys(alloc: Global, elements: &[Element]) -> Result<Value, Stop>
 
 /// The set of the keys whose number is greatest.
 fn greatest_keys(alloc: Global, elements: &[Element]) -> Result<Value, Stop>
-    ensures did { (at : Place) (s : State) → Did value_seen result s (aggregate_value at ArgMax (map element_seen elements.now) s) }
+    ensures did { (at : Place) (s : State) →
+        Did value_seen result s (aggregate_value at ArgMax (map element_seen elements.now) s) }
     ensures memory { IfErr result (λ stop. stop ≡ NoMemory) }
 {
     let keys = keys_in(alloc, elements)?;

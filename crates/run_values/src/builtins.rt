@@ -27,7 +27,8 @@ pub fn builtin(
     function: Builtin,
     arguments: &[Value],
 ) -> Result<Value, Stop>
-    ensures did { (s : State) → Did value_seen result s (builtin_value at function (map value_seen arguments.now) s) }
+    ensures did { (s : State) → Did value_seen result s
+        (builtin_value at function (map value_seen arguments.now) s) }
     ensures stop { IfErr result IsFaultOrMemory }
 {
     match arguments {
@@ -39,7 +40,8 @@ pub fn builtin(
 
 /// The value of a function of one argument.
 fn builtin_of_one(at: Place, function: Builtin, x: &Value) -> Result<Value, Stop>
-    ensures did { (s : State) → Did value_seen result s (builtin_value at function (value_seen x.now ∷ []) s) }
+    ensures did { (s : State) → Did value_seen result s
+        (builtin_value at function (value_seen x.now ∷ []) s) }
     ensures stop { IfErr result IsFaultOrMemory }
 {
     match function {
@@ -51,7 +53,9 @@ fn builtin_of_one(at: Place, function: Builtin, x: &Value) -> Result<Value, Stop
 
 /// The value of a function of two arguments.
 fn builtin_of_two(alloc: Global, function: Builtin, x: &Value, y: &Value) -> Result<Value, Stop>
-    ensures did { (at : Place) (s : State) → Did value_seen result s (builtin_value at function (value_seen x.now ∷ value_seen y.now ∷ []) s) }
+    ensures did { (at : Place) (s : State) →
+        Did value_seen result s (builtin_value at function
+        (value_seen x.now ∷ value_seen y.now ∷ []) s) }
     ensures stop { IfErr result IsFaultOrMemory }
 {
     match function {
@@ -98,7 +102,8 @@ fn has_member(alloc: Global, number: i64, set: &Value) -> bool
 
 /// The set of the members of either.
 fn joined(alloc: Global, a: &Value, b: &Value) -> Result<Value, Stop>
-    ensures set { IfOk result (λ set. value_seen set ≡ values.Set (set_of (members_of (value_seen a.now) ++ members_of (value_seen b.now)))) }
+    ensures set { IfOk result (λ set. value_seen set ≡
+        values.Set (set_of (members_of (value_seen a.now) ++ members_of (value_seen b.now)))) }
     ensures memory { IfErr result (λ stop. stop ≡ NoMemory) }
 {
     let empty = IntSet::new(alloc);
@@ -108,7 +113,9 @@ fn joined(alloc: Global, a: &Value, b: &Value) -> Result<Value, Stop>
 
 /// The set of the members of both.
 fn common(alloc: Global, a: &Value, b: &Value) -> Result<Value, Stop>
-    ensures set { IfOk result (λ set. value_seen set ≡ values.Set (filter (λ v. is_member v (members_of (value_seen b.now))) (members_of (value_seen a.now)))) }
+    ensures set { IfOk result (λ set. value_seen set ≡
+        values.Set (filter (λ v. is_member v (members_of (value_seen b.now)))
+        (members_of (value_seen a.now)))) }
     ensures memory { IfErr result (λ stop. stop ≡ NoMemory) }
 {
     let empty = IntSet::new(alloc);
@@ -118,7 +125,9 @@ fn common(alloc: Global, a: &Value, b: &Value) -> Result<Value, Stop>
 
 /// The set of the members of the first that are none of the second.
 fn without(alloc: Global, a: &Value, b: &Value) -> Result<Value, Stop>
-    ensures set { IfOk result (λ set. value_seen set ≡ values.Set (filter (λ v. not (is_member v (members_of (value_seen b.now)))) (members_of (value_seen a.now)))) }
+    ensures set { IfOk result (λ set. value_seen set ≡
+        values.Set (filter (λ v. not (is_member v (members_of (value_seen b.now))))
+        (members_of (value_seen a.now)))) }
     ensures memory { IfErr result (λ stop. stop ≡ NoMemory) }
 {
     let empty = IntSet::new(alloc);

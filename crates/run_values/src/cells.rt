@@ -86,7 +86,8 @@ impl Cells {
 impl VariableCells {
     /// A copy. `NoMemory` where there is none for it; there is no other stop.
     pub fn copied(&self, alloc: Global) -> Result<VariableCells, Stop>
-        ensures same { IfOk result (λ cells. variable_cells_seen cells ≡ variable_cells_seen self.now) }
+        ensures same { IfOk result (λ cells.
+            variable_cells_seen cells ≡ variable_cells_seen self.now) }
         ensures memory { IfErr result (λ stop. stop ≡ NoMemory) }
     {
         let variables = Vec::from_slice(alloc, &self.variables)?;
@@ -163,7 +164,8 @@ impl Extent {
 
 /// A copy of each array's variables. `NoMemory` where there is none for them; there is no other stop.
 pub fn copied_variables(alloc: Global, arrays: &[VariableCells]) -> Result<Vec<VariableCells>, Stop>
-    ensures same { IfOk result (λ copies. map variable_cells_seen copies.items ≡ map variable_cells_seen arrays.now) }
+    ensures same { IfOk result (λ copies.
+        map variable_cells_seen copies.items ≡ map variable_cells_seen arrays.now) }
     ensures memory { IfErr result (λ stop. stop ≡ NoMemory) }
 {
     let mut copies = Vec::new(alloc);

@@ -19,7 +19,8 @@ use std::alloc::Global;
 
 /// The number, or its fault at this place.
 pub(crate) fn number_or(at: Place, number: Result<i64, RunFault>) -> Result<Value, Stop>
-    ensures did { (meant : Result ℤ RunFault) (s : State) → number ≡ meant → Did value_seen result s (then_do (give_or at meant s) (λ z. give (values.Number z))) }
+    ensures did { (meant : Result ℤ RunFault) (s : State) → number ≡ meant →
+        Did value_seen result s (then_do (give_or at meant s) (λ z. give (values.Number z))) }
     ensures stop { IfErr result IsFault }
 {
     match number {
@@ -30,7 +31,8 @@ pub(crate) fn number_or(at: Place, number: Result<i64, RunFault>) -> Result<Valu
 
 /// The value of `-v` or `!v`. `Overflow` at the place exactly where the number's negative doesn't fit 64 bits.
 pub fn unary(at: Place, operator: UnaryOperator, value: &Value) -> Result<Value, Stop>
-    ensures did { (s : State) → Did value_seen result s (unary_result at operator (value_seen value.now) s) }
+    ensures did { (s : State) → Did value_seen result s
+        (unary_result at operator (value_seen value.now) s) }
     ensures stop { IfErr result IsFault }
 {
     match operator {
@@ -72,7 +74,8 @@ pub fn linked(
     so_far: &Value,
     next: &Value,
 ) -> Result<Value, Stop>
-    ensures did { (s : State) → Did value_seen result s (linked at operator (value_seen so_far.now) (value_seen next.now) s) }
+    ensures did { (s : State) → Did value_seen result s
+        (linked at operator (value_seen so_far.now) (value_seen next.now) s) }
     ensures stop { IfErr result IsFault }
 {
     match operator {
@@ -88,7 +91,8 @@ pub fn linked(
 
 /// The set of the numbers of these values. `NoMemory` where there is none for it; there is no other stop.
 pub fn set_of_values(alloc: Global, members: &[Value]) -> Result<Value, Stop>
-    ensures set { IfOk result (λ set. value_seen set ≡ values.Set (set_of (map number_of (map value_seen members.now)))) }
+    ensures set { IfOk result (λ set. value_seen set ≡
+        values.Set (set_of (map number_of (map value_seen members.now)))) }
     ensures memory { IfErr result (λ stop. stop ≡ NoMemory) }
 {
     let numbers = numbers_of(alloc, members)?;
@@ -98,7 +102,8 @@ pub fn set_of_values(alloc: Global, members: &[Value]) -> Result<Value, Stop>
 
 /// The numbers of these values, in a row. `NoMemory` where there is none for them; there is no other stop.
 pub fn row_of_values(alloc: Global, cells: &[Value]) -> Result<Value, Stop>
-    ensures row { IfOk result (λ row. value_seen row ≡ values.Row (map number_of (map value_seen cells.now))) }
+    ensures row { IfOk result (λ row. value_seen row ≡
+        values.Row (map number_of (map value_seen cells.now))) }
     ensures memory { IfErr result (λ stop. stop ≡ NoMemory) }
 {
     let numbers = numbers_of(alloc, cells)?;

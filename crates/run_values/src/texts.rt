@@ -13,7 +13,8 @@ use itoa::Buffer;
 /// Writes a value that is no array; what can't be printed is nothing. `NoMemory` where there is none for the text, of
 /// which a front may then be written; there is no other stop.
 pub fn push_value(text: &mut Vec<u8>, value: &Value) -> Result<(), Stop>
-    ensures ok { OnOk result (text.new.items ≡ text.old.items ++ plain_text (value_seen value.now)) }
+    ensures ok { OnOk result (text.new.items ≡
+        text.old.items ++ plain_text (value_seen value.now)) }
     ensures memory { IfErr result (λ stop. stop ≡ NoMemory) }
 {
     match value {
@@ -63,7 +64,8 @@ impl Shown for Value {
 /// Writes an array's cells. `NoMemory` where there is none for the text, of which a front may then be written; there is
 /// no other stop.
 pub fn push_cells(text: &mut Vec<u8>, cells: &Cells) -> Result<(), Stop>
-    ensures ok { OnOk result (text.new.items ≡ text.old.items ++ cells_text (cells_seen cells.now)) }
+    ensures ok { OnOk result (text.new.items ≡
+        text.old.items ++ cells_text (cells_seen cells.now)) }
     ensures memory { IfErr result (λ stop. stop ≡ NoMemory) }
 {
     push_array(text, cells.extent(), &cells.numbers)
@@ -72,7 +74,9 @@ pub fn push_cells(text: &mut Vec<u8>, cells: &Cells) -> Result<(), Stop>
 /// Writes the cells of an array with these bounds. `NoMemory` where there is none for the text, of which a front may then
 /// be written; there is no other stop.
 pub fn push_array<T: Shown>(text: &mut Vec<u8>, extent: Extent, cells: &[T]) -> Result<(), Stop>
-    ensures ok { OnOk result (text.new.items ≡ text.old.items ++ grid_text (bounds_seen extent.rows) (map T.shown cells.now) (option_map bounds_seen extent.columns)) }
+    ensures ok { OnOk result (text.new.items ≡
+        text.old.items ++ grid_text (bounds_seen extent.rows) (map T.shown cells.now)
+        (option_map bounds_seen extent.columns)) }
     ensures memory { IfErr result (λ stop. stop ≡ NoMemory) }
 {
     match extent.columns {
@@ -84,7 +88,8 @@ pub fn push_array<T: Shown>(text: &mut Vec<u8>, extent: Extent, cells: &[T]) -> 
 /// Writes what stands in a row, in brackets. `NoMemory` where there is none for the text, of which a front may then be
 /// written; there is no other stop.
 pub fn push_row<T: Shown>(text: &mut Vec<u8>, cells: &[T]) -> Result<(), Stop>
-    ensures ok { OnOk result (text.new.items ≡ text.old.items ++ in_brackets (map T.shown cells.now)) }
+    ensures ok { OnOk result (text.new.items ≡
+        text.old.items ++ in_brackets (map T.shown cells.now)) }
     ensures memory { IfErr result (λ stop. stop ≡ NoMemory) }
 {
     text.push(b'[')?;
@@ -136,7 +141,8 @@ fn push_set(text: &mut Vec<u8>, members: &[i64]) -> Result<(), Stop>
 
 /// Writes parts with commas between them.
 fn push_separated<T: Shown>(text: &mut Vec<u8>, parts: &[T]) -> Result<(), Stop>
-    ensures ok { OnOk result (text.new.items ≡ text.old.items ++ separated (map T.shown parts.now)) }
+    ensures ok { OnOk result (text.new.items ≡
+        text.old.items ++ separated (map T.shown parts.now)) }
     ensures memory { IfErr result (λ stop. stop ≡ NoMemory) }
 {
     match parts.split_first() {
@@ -147,7 +153,8 @@ fn push_separated<T: Shown>(text: &mut Vec<u8>, parts: &[T]) -> Result<(), Stop>
 
 /// Writes a part, and then the others, each behind a comma.
 fn push_with_first<T: Shown>(text: &mut Vec<u8>, first: &T, others: &[T]) -> Result<(), Stop>
-    ensures ok { OnOk result (text.new.items ≡ text.old.items ++ separated (map T.shown (first.now ∷ others.now))) }
+    ensures ok { OnOk result (text.new.items ≡
+        text.old.items ++ separated (map T.shown (first.now ∷ others.now))) }
     ensures memory { IfErr result (λ stop. stop ≡ NoMemory) }
 {
     first.push_shown(text)?;
@@ -157,7 +164,8 @@ fn push_with_first<T: Shown>(text: &mut Vec<u8>, first: &T, others: &[T]) -> Res
 
 /// Writes parts, each behind a comma.
 fn push_behind_commas<T: Shown>(text: &mut Vec<u8>, parts: &[T]) -> Result<(), Stop>
-    ensures ok { OnOk result (text.new.items ≡ text.old.items ++ behind_commas (map T.shown parts.now)) }
+    ensures ok { OnOk result (text.new.items ≡
+        text.old.items ++ behind_commas (map T.shown parts.now)) }
     ensures memory { IfErr result (λ stop. stop ≡ NoMemory) }
 {
     for part in parts {
@@ -174,7 +182,9 @@ fn push_grid<T: Shown>(
     columns: u128,
     cells: &[T],
 ) -> Result<(), Stop>
-    ensures ok { OnOk result (text.new.items ≡ text.old.items ++ in_brackets (map in_brackets (rows_of rows columns (map T.shown cells.now)))) }
+    ensures ok { OnOk result (text.new.items ≡
+        text.old.items ++ in_brackets (map in_brackets
+        (rows_of rows columns (map T.shown cells.now)))) }
     ensures memory { IfErr result (λ stop. stop ≡ NoMemory) }
 {
     text.push(b'[')?;
@@ -190,7 +200,9 @@ fn push_rows<T: Shown>(
     columns: u128,
     cells: &[T],
 ) -> Result<(), Stop>
-    ensures ok { OnOk result (text.new.items ≡ text.old.items ++ separated (map in_brackets (rows_of rows columns (map T.shown cells.now)))) }
+    ensures ok { OnOk result (text.new.items ≡
+        text.old.items ++ separated (map in_brackets
+        (rows_of rows columns (map T.shown cells.now)))) }
     ensures memory { IfErr result (λ stop. stop ≡ NoMemory) }
 {
     let mut remaining = cells;
@@ -205,7 +217,8 @@ fn push_rows<T: Shown>(
 
 /// Writes a comma, if this isn't the first row.
 fn push_comma(text: &mut Vec<u8>, row: u128) -> Result<(), Stop>
-    ensures ok { OnOk result (text.new.items ≡ text.old.items ++ (if row == 0 then [] else codes ",")) }
+    ensures ok { OnOk result (text.new.items ≡
+        text.old.items ++ (if row == 0 then [] else codes ",")) }
     ensures memory { IfErr result (λ stop. stop ≡ NoMemory) }
 {
     if row == 0 {

@@ -209,7 +209,8 @@ pub fn first_value(alloc: Global, kind: Kind) -> Value
 
 /// The number of each value. `NoMemory` where there is none for them; there is no other stop.
 pub fn numbers_of(alloc: Global, values: &[Value]) -> Result<Vec<i64>, Stop>
-    ensures numbers { IfOk result (λ numbers. numbers.items ≡ map number_of (map value_seen values.now)) }
+    ensures numbers { IfOk result (λ numbers.
+        numbers.items ≡ map number_of (map value_seen values.now)) }
     ensures memory { IfErr result (λ stop. stop ≡ NoMemory) }
 {
     let mut numbers = Vec::new(alloc);

@@ -63,7 +63,9 @@ impl Candidates {
     /// candidates at this place exactly where there are 4,194,304 before.
     pub(crate) fn add(&mut self, at: Place, known: &[i64], value: i64) -> Result<(), Stop>
         requires rows { AreRows self.old (length known.now + 1) }
-        ensures did { (s : State) → Did (λ _. candidates_seen self.new) result s (with_candidate at (known.now ++ value ∷ []) (candidates_seen self.old) s) }
+        ensures did { (s : State) → Did (λ _.
+            candidates_seen self.new) result s
+            (with_candidate at (known.now ++ value ∷ []) (candidates_seen self.old) s) }
         ensures rows { OnOk result (AreRows self.new (length known.now + 1)) }
         ensures more { OnOk result (self.new.count ≡ self.old.count + 1) }
         ensures stop { IfErr result IsFaultOrMemory }
@@ -81,7 +83,8 @@ impl Candidates {
     /// there is none for it; there is no other stop.
     pub(crate) fn copied(&self, alloc: Global, number: usize) -> Result<Option<Vec<i64>>, Stop>
         requires { AreRows self.now self.now.width }
-        ensures same { IfOk result (λ chosen. option_map (λ v. v.items) chosen ≡ slice_get (candidates_seen self.now) number) }
+        ensures same { IfOk result (λ chosen.
+            option_map (λ v. v.items) chosen ≡ slice_get (candidates_seen self.now) number) }
         ensures memory { IfErr result (λ stop. stop ≡ NoMemory) }
     {
         if number >= self.count {

@@ -32,7 +32,9 @@ pub(crate) fn candidates_of<O: Outside, W: Within<O>>(
     generators: &[Generator],
 ) -> Result<Candidates, Stop>
     requires ready { W.is_ready inside.now }
-    ensures did { Does candidates_seen result (state_seen s.new (O.told out.new)) (candidates_form (level (W.code inside.now) (W.depth inside.now)) at (map shape_of_generator generators.now) (state_seen s.old (O.told out.old))) }
+    ensures did { Does candidates_seen result (state_seen s.new (O.told out.new))
+        (candidates_form (level (W.code inside.now) (W.depth inside.now)) at
+        (map shape_of_generator generators.now) (state_seen s.old (O.told out.old))) }
     ensures rows { IfOk result (λ c. AreRows c (length generators.now)) }
 {
     let count = generators.len();
@@ -105,7 +107,9 @@ fn list_last<O: Outside, W: Within<O>>(
 /// A candidate for each value of the last generator, behind these values of those before it.
 fn add_values(at: Place, known: &[i64], domain: Value, found: &mut Candidates) -> Result<(), Stop>
     requires rows { AreRows found.old (length known.now + 1) }
-    ensures did { (s : states.State) → Did (λ _. candidates_seen found.new) result s (values_behind at known.now (value_seen domain) (candidates_seen found.old) s) }
+    ensures did { (s : states.State) →
+        Did (λ _. candidates_seen found.new) result s
+        (values_behind at known.now (value_seen domain) (candidates_seen found.old) s) }
     ensures rows { OnOk result (AreRows found.new (length known.now + 1)) }
     ensures stop { IfErr result IsFaultOrMemory }
 {
@@ -120,7 +124,9 @@ fn add_values(at: Place, known: &[i64], domain: Value, found: &mut Candidates) -
 
 /// The values that the names of generators have now.
 fn values_now(s: &State, generators: &[Generator]) -> Result<Vec<i64>, Stop>
-    ensures did { (told : Told) → Did (λ v. v.items) result (state_seen s.now told) (meaning.values_now (map shape_of_generator generators.now) (state_seen s.now told)) }
+    ensures did { (told : Told) → Did (λ v.
+        v.items) result (state_seen s.now told)
+        (meaning.values_now (map shape_of_generator generators.now) (state_seen s.now told)) }
     ensures many { IfOk result (λ v. length v.items ≡ length generators.now) }
     ensures memory { IfErr result (λ stop. stop ≡ NoMemory) }
 {

@@ -45,7 +45,9 @@ pub fn call_move<O: Outside, W: Within<O>>(
     e: &Typed,
 ) -> Result<(), Stop>
     requires ready { W.is_ready inside.now }
-    ensures did { Does (λ _. tt) result (state_seen s.new (O.told out.new)) (moves.choose_form (level (W.code inside.now) (W.depth inside.now)) (seen e.now) (state_seen s.old (O.told out.old))) }
+    ensures did { Does (λ _. tt) result (state_seen s.new (O.told out.new))
+        (moves.choose_form (level (W.code inside.now) (W.depth inside.now)) (seen e.now)
+        (state_seen s.old (O.told out.old))) }
 {
     let chosen = value_of(s, out, inside, e)?;
     run_move(s, out, inside, &chosen)
@@ -59,7 +61,9 @@ fn run_move<O: Outside, W: Within<O>>(
     chosen: &Value,
 ) -> Result<(), Stop>
     requires ready { W.is_ready inside.now }
-    ensures did { Does (λ _. tt) result (state_seen s.new (O.told out.new)) (moves.called_move (level (W.code inside.now) (W.depth inside.now)) (value_seen chosen.now) (state_seen s.old (O.told out.old))) }
+    ensures did { Does (λ _. tt) result (state_seen s.new (O.told out.new))
+        (moves.called_move (level (W.code inside.now) (W.depth inside.now)) (value_seen chosen.now)
+        (state_seen s.old (O.told out.old))) }
 {
     match chosen {
         Value::Move(number) => run_kept(s, out, inside, *number),

@@ -130,7 +130,9 @@ fn key_asked<O: Outside, W: Within<O>>(
     key: Option<&Typed>,
 ) -> Result<i64, Stop>
     requires ready { W.is_ready inside.now }
-    ensures did { Does (λ z. z) result (state_seen s.new (O.told out.new)) (selection.key_form (level (W.code inside.now) (W.depth inside.now)) (optional (λ e. part e.now) key.entry) (state_seen s.old (O.told out.old))) }
+    ensures did { Does (λ z. z) result (state_seen s.new (O.told out.new))
+        (selection.key_form (level (W.code inside.now) (W.depth inside.now))
+        (optional (λ e. part e.now) key.entry) (state_seen s.old (O.told out.old))) }
 {
     match key {
         None => Ok(0),
@@ -144,7 +146,9 @@ pub(crate) fn bind_values(
     generators: &[Generator],
     values: &[i64],
 ) -> Result<(), Stop>
-    ensures did { (told : Told) → Did (λ _. tt) result (state_seen s.new told) (bind (named (map shape_of_generator generators.now) values.now) (state_seen s.old told)) }
+    ensures did { (told : Told) → Did (λ _.
+        tt) result (state_seen s.new told)
+        (bind (named (map shape_of_generator generators.now) values.now) (state_seen s.old told)) }
     ensures fuel { s.new.fuel ≡ s.old.fuel }
 {
     for (generator, value) in generators.iter().zip(values.iter()) {

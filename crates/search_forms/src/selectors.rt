@@ -96,7 +96,8 @@ fn chosen_in(
     number: Option<u64>,
 ) -> Result<Option<Vec<i64>>, Stop>
     requires { AreRows candidates.now candidates.now.width }
-    ensures same { IfOk result (λ chosen. option_map (λ v. v.items) chosen ≡ candidate_at (candidates_seen candidates.now) number) }
+    ensures same { IfOk result (λ chosen.
+        option_map (λ v. v.items) chosen ≡ candidate_at (candidates_seen candidates.now) number) }
     ensures memory { IfErr result (λ stop. stop ≡ NoMemory) }
 {
     match number {

@@ -69,7 +69,8 @@ pub fn changes_in(
 ) -> Result<Vec<VarChange>, NoMemory>
     requires few { length old.now < 2 ^ 32 }
     requires same { length new.now ≡ length old.now }
-    ensures { IfOk result (λ changes. changes.items ≡ filter_map (change_in solver old.now new.now) (range_with_len 0 (length old.now))) }
+    ensures { IfOk result (λ changes. changes.items ≡
+        filter_map (change_in solver old.now new.now) (range_with_len 0 (length old.now))) }
 {
     let mut changes = Vec::new(alloc);
     for index in 0..old.len() as u32 {

@@ -18,7 +18,9 @@ fn add_posted(
     model: &Model,
     posted: Posted,
 ) -> Result<(), NoMemory>
-    ensures { OnOk result ((so_far : List Posted) → Counts counted.old (once (subterms_posted model.now so_far)) → Counts counted.new (once (subterms_posted model.now (so_far ++ posted ∷ [])))) }
+    ensures { OnOk result ((so_far : List Posted) →
+        Counts counted.old (once (subterms_posted model.now so_far)) →
+        Counts counted.new (once (subterms_posted model.now (so_far ++ posted ∷ [])))) }
 {
     match term_posted(model, posted) {
         Some(term) => counted.add(alloc, term),
@@ -56,7 +58,8 @@ pub fn counted_with(
     term: &Term,
 ) -> Result<Subterms, NoMemory>
     requires { IsCounted kept model.now }
-    ensures { IfOk result (λ counted. Counts counted (distinct_with (distinct_subterms model.now) term.now)) }
+    ensures { IfOk result (λ counted. Counts counted
+        (distinct_with (distinct_subterms model.now) term.now)) }
 {
     let mut counted = counted_or(alloc, kept, model)?;
     counted.add(alloc, term)?;

@@ -12,7 +12,8 @@ use term_model::{Model, definitions_of, dependencies_of};
 
 /// The ids of variables at these places.
 fn ids_of(alloc: Global, solver: u32, places: &[u32]) -> Result<Vec<VarId>, NoMemory>
-    ensures { IfOk result (λ ids. ids.items ≡ map (λ i. record { solver = solver; index = i }) places.now) }
+    ensures { IfOk result (λ ids. ids.items ≡
+        map (λ i. record { solver = solver; index = i }) places.now) }
 {
     let mut ids = Vec::new(alloc);
     for index in places {
@@ -38,7 +39,9 @@ fn dependencies(alloc: Global, model: &Model) -> Result<Vec<Vec<u32>>, NoMemory>
 pub fn cycle_of(alloc: Global, number: u32, model: &Model) -> Result<Option<Vec<VarId>>, NoMemory>
     requires formed { IsWellFormed model.now }
     requires few { length model.now.vars.items < 2 ^ 32 }
-    ensures { IfOk result (λ found. MatchOption found (IsAcyclic model.now) (λ ids. (list : List ℕ) × (ids.items ≡ map (λ i. record { solver = number; index = i }) list) × IsNamedCycle model.now list)) }
+    ensures { IfOk result (λ found. MatchOption found (IsAcyclic model.now) (λ ids.
+        (list : List ℕ) × (ids.items ≡ map (λ i. record { solver = number; index = i }) list) ×
+        IsNamedCycle model.now list)) }
 {
     let deps = dependencies(alloc, model)?;
     match plan(alloc, &deps) {

@@ -16,7 +16,8 @@ pub fn free_count(marks: &[bool]) -> usize
 
 /// Puts the number at a place, where there is one, behind the others.
 fn push_number(numbers: &mut Vec<i64>, assignment: &[i64], index: u32) -> Result<(), NoMemory>
-    ensures { OnOk result (numbers.new.items ≡ with_number numbers.old.items (slice_get assignment.now index)) }
+    ensures { OnOk result (numbers.new.items ≡
+        with_number numbers.old.items (slice_get assignment.now index)) }
 {
     if let Some(number) = assignment.get(index as usize) {
         numbers.push(*number)?;
@@ -27,7 +28,8 @@ fn push_number(numbers: &mut Vec<i64>, assignment: &[i64], index: u32) -> Result
 /// The numbers of the variables without a mark.
 pub fn free_numbers(alloc: Global, marks: &[bool], assignment: &[i64]) -> Result<Vec<i64>, NoMemory>
     requires { length marks.now < 2 ^ 32 }
-    ensures { IfOk result (λ numbers. numbers.items ≡ numbers_at assignment.now (unmarked marks.now)) }
+    ensures { IfOk result (λ numbers. numbers.items ≡
+        numbers_at assignment.now (unmarked marks.now)) }
 {
     let mut numbers = Vec::new(alloc);
     for index in 0..marks.len() as u32 {
@@ -41,7 +43,8 @@ pub fn free_numbers(alloc: Global, marks: &[bool], assignment: &[i64]) -> Result
 
 /// Puts a move behind the others, where there is a value for it.
 fn push_move(moves: &mut Vec<(VarId, i64)>, x: VarId, values: &[i64]) -> Result<(), NoMemory>
-    ensures { OnOk result (moves.new.items ≡ with_move moves.old.items x (slice_get values.now (length moves.old.items))) }
+    ensures { OnOk result (moves.new.items ≡
+        with_move moves.old.items x (slice_get values.now (length moves.old.items))) }
 {
     if let Some(value) = values.get(moves.len()) {
         moves.push((x, *value))?;
@@ -57,7 +60,8 @@ pub fn free_moves(
     values: &[i64],
 ) -> Result<Vec<(VarId, i64)>, NoMemory>
     requires { length marks.now < 2 ^ 32 }
-    ensures { IfOk result (λ moves. moves.items ≡ zip (map (id_in solver) (unmarked marks.now)) values.now) }
+    ensures { IfOk result (λ moves. moves.items ≡
+        zip (map (id_in solver) (unmarked marks.now)) values.now) }
 {
     let mut moves = Vec::new(alloc);
     for index in 0..marks.len() as u32 {

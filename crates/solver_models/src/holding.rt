@@ -138,7 +138,8 @@ pub fn settled<U: LocalConstraint>(
     requires formed { IsWellFormed model.now }
     requires closable { IsClosable model.now }
     requires assigned { length assignment.now ≡ length model.now.vars.items }
-    ensures fresh { IsFresh (fresh_of (users_of (rules_of users.old.posted.items)) model.now assignment.now) result }
+    ensures fresh { IsFresh (fresh_of (users_of
+        (rules_of users.old.posted.items)) model.now assignment.now) result }
     ensures rules { rules_of users.new.posted.items ≡ rules_of users.old.posted.items }
 {
     let values = fresh_with(alloc, model, assignment, &*users)?;

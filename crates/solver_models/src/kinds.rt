@@ -36,7 +36,8 @@ pub fn is_of_kind(
     index: u32,
     term: &Term,
 ) -> Result<bool, NoMemory>
-    ensures { IfOk result (λ is. OnTrue is (kind_of_term (kinds_in vars.now) term.now ≡ kinds_in vars.now index)) }
+    ensures { IfOk result (λ is. OnTrue is (kind_of_term (kinds_in vars.now) term.now ≡
+        kinds_in vars.now index)) }
 {
     let Some(wanted) = kind_at(vars, index) else {
         return Ok(false);
@@ -49,7 +50,8 @@ pub fn is_of_kind(
 
 /// Whether a term is a number.
 pub fn is_number(alloc: Global, vars: &[VarDecl], term: &Term) -> Result<bool, NoMemory>
-    ensures { IfOk result (λ is. OnTrue is (kind_of_term (kinds_in vars.now) term.now ≡ Some number_kind)) }
+    ensures { IfOk result (λ is. OnTrue is (kind_of_term (kinds_in vars.now) term.now ≡
+        Some number_kind)) }
 {
     match kind_within(alloc, vars, usize::MAX, term)? {
         Some(VarKind::Number) => Ok(true),

@@ -27,8 +27,10 @@ pub fn mark(marks: &mut Vec<bool>, place: usize)
 
 /// Whether the variable at a place has a mark or is a number.
 fn is_marked_or_number(marks: &[bool], vars: &[VarDecl], index: usize) -> bool
-    ensures holds { OnTrue result (mark_at marks.now index ≡ false → kinds_in vars.now index ≡ Some number_kind) }
-    ensures fails { OnFalse result ((mark_at marks.now index ≡ false → kinds_in vars.now index ≡ Some number_kind) → ⊥) }
+    ensures holds { OnTrue result (mark_at marks.now index ≡ false →
+        kinds_in vars.now index ≡ Some number_kind) }
+    ensures fails { OnFalse result ((mark_at marks.now index ≡ false →
+        kinds_in vars.now index ≡ Some number_kind) → ⊥) }
 {
     if marks.get(index).copied().unwrap_or(false) {
         return true;

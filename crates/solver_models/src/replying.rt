@@ -29,7 +29,8 @@ pub fn total_delta<U: UserValues>(
     requires assigned { length assignment.now ≡ length model.now.vars.items }
     requires there { k.index < length (totals_by model.now k.side) }
     requires own { AreOwn model.now change }
-    ensures { IsAnswer (delta_of (user_rules (U.viol_of users.now) (U.viol_at users.now)) model.now assignment.now (whole_of k) change) result }
+    ensures { IsAnswer (delta_of (user_rules (U.viol_of users.now)
+        (U.viol_at users.now)) model.now assignment.now (whole_of k) change) result }
 {
     delta(alloc, model, assignment, users, whole_of(k), change)
 }
@@ -48,7 +49,9 @@ pub fn violations_in<U: UserValues>(
     requires assigned { length assignment.now ≡ length model.now.vars.items }
     requires system { system < length model.now.systems.items }
     requires var { var < length model.now.vars.items }
-    ensures { IsAnswer (variable_violations_of (user_rules (U.viol_of users.now) (U.viol_at users.now)) model.now assignment.now system var) result }
+    ensures { IsAnswer (variable_violations_of
+        (user_rules (U.viol_of users.now)
+        (U.viol_at users.now)) model.now assignment.now system var) result }
 {
     variable_violations(alloc, model, assignment, users, system, var)
 }

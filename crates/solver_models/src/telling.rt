@@ -37,7 +37,8 @@ pub fn tell<U: LocalConstraint>(
     requires assigned { length assignment.now ≡ length model.now.vars.items }
     requires few { length model.now.vars.items < 2 ^ 32 }
     requires before { length before.now ≡ length model.now.vars.items }
-    ensures told { TellsChanges (users_of (rules_of users.old.posted.items)) number model.now assignment.now before.now result }
+    ensures told { TellsChanges (users_of
+        (rules_of users.old.posted.items)) number model.now assignment.now before.now result }
     ensures rules { rules_of users.new.posted.items ≡ rules_of users.old.posted.items }
 {
     let values = settled(alloc, users, model, assignment)?;

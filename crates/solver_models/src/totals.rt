@@ -144,7 +144,8 @@ fn move_into(total: &mut Total, mut larger: Vec<Member>, member: Member)
 /// Puts a member behind the others. With `NoMemory` nothing at all changes, nor where the others lie.
 fn grow(alloc: Global, total: &mut Total, member: Member) -> Result<(), NoMemory>
     ensures place { OnOk result (total.new.place ≡ total.old.place) }
-    ensures members { OnOk result (total.new.members.items ≡ total.old.members.items ++ member ∷ []) }
+    ensures members { OnOk result (total.new.members.items ≡
+        total.old.members.items ++ member ∷ []) }
     ensures err { OnErr result (total.new ≡ total.old) }
 {
     if total.members.len() < total.members.capacity() {
@@ -168,7 +169,8 @@ fn grow_at(alloc: Global, totals: &mut Vec<Total>, k: u32, member: Member) -> Re
 /// How many members the one at a place has, as a number of a member.
 fn next_member(totals: &[Total], k: u32) -> Result<u32, NoMemory>
     requires { k < length totals.now }
-    ensures { IfOk result (λ n. option_map (λ total. length total.members.items) (slice_get totals.now k) ≡ Some n) }
+    ensures { IfOk result (λ n. option_map (λ total.
+        length total.members.items) (slice_get totals.now k) ≡ Some n) }
 {
     let count = totals[k as usize].members.len();
     if count > u32::MAX as usize {

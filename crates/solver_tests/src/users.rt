@@ -243,9 +243,11 @@ fn push_place<U: LocalConstraint>(
     places: &mut Vec<Term>,
     term: Term,
 ) -> Result<(), Fail>
-    requires kinds { All (λ t. kind_of_term (kinds_in solver.now.model.vars.items) t ≡ Some number_kind) places.old.items }
+    requires kinds { All (λ t. kind_of_term (kinds_in solver.now.model.vars.items) t ≡
+        Some number_kind) places.old.items }
     requires users { All (λ t. users_of t ≡ []) places.old.items }
-    ensures kinds { OnOk result (All (λ t. kind_of_term (kinds_in solver.now.model.vars.items) t ≡ Some number_kind) places.new.items) }
+    ensures kinds { OnOk result (All (λ t. kind_of_term (kinds_in solver.now.model.vars.items) t ≡
+        Some number_kind) places.new.items) }
     ensures users { OnOk result (All (λ t. users_of t ≡ []) places.new.items) }
 {
     match solver.is_number(&term) {
@@ -259,7 +261,9 @@ fn places_of<U: LocalConstraint>(
     solver: &Solver<U>,
     sums: &[Sum],
 ) -> Result<Vec<Term>, Fail>
-    ensures kinds { IfOk result (λ places. All (λ t. kind_of_term (kinds_in solver.now.model.vars.items) t ≡ Some number_kind) places.items) }
+    ensures kinds { IfOk result (λ places.
+        All (λ t. kind_of_term (kinds_in solver.now.model.vars.items) t ≡
+        Some number_kind) places.items) }
     ensures users { IfOk result (λ places. All (λ t. users_of t ≡ []) places.items) }
 {
     let mut places = Vec::new(alloc);

@@ -32,7 +32,9 @@ pub(crate) fn execute_while<O: Outside, W: Around<O>>(
     requires ready { W.is_ready inside.now }
     requires defines { W.can_define inside.now }
     requires locates { W.can_locate inside.now }
-    ensures did { Does flow_seen result (state_seen s.new (O.told out.new)) (while_form (level (W.code inside.now) (W.depth inside.now)) at (seen test.now) (work_of body.now) (state_seen s.old (O.told out.old))) }
+    ensures did { Does flow_seen result (state_seen s.new (O.told out.new))
+        (while_form (level (W.code inside.now) (W.depth inside.now)) at (seen test.now)
+        (work_of body.now) (state_seen s.old (O.told out.old))) }
 {
     repeat(s, out, inside, at, Some(test), None, body)
 }
@@ -67,7 +69,9 @@ fn start_counter<O: Outside, W: Within<O>>(
     counter: &Option<Counter>,
 ) -> Result<(), Stop>
     requires ready { W.is_ready inside.now }
-    ensures did { Does (λ _. tt) result (state_seen s.new (O.told out.new)) (counter_form (level (W.code inside.now) (W.depth inside.now)) (option_map counter_of counter.now) (state_seen s.old (O.told out.old))) }
+    ensures did { Does (λ _. tt) result (state_seen s.new (O.told out.new))
+        (counter_form (level (W.code inside.now) (W.depth inside.now))
+        (option_map counter_of counter.now) (state_seen s.old (O.told out.old))) }
 {
     match counter {
         None => Ok(()),
@@ -162,7 +166,9 @@ fn perform_step<O: Outside, W: Around<O>>(
     requires ready { W.is_ready inside.now }
     requires defines { W.can_define inside.now }
     requires locates { W.can_locate inside.now }
-    ensures did { Does (λ _. tt) result (state_seen s.new (O.told out.new)) (step_of (level (W.code inside.now) (W.depth inside.now)) at (option_map deed_of (option_copied step.entry)) (state_seen s.old (O.told out.old))) }
+    ensures did { Does (λ _. tt) result (state_seen s.new (O.told out.new))
+        (step_of (level (W.code inside.now) (W.depth inside.now)) at
+        (option_map deed_of (option_copied step.entry)) (state_seen s.old (O.told out.old))) }
 {
     match step {
         None => Ok(()),

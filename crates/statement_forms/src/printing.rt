@@ -20,7 +20,9 @@ pub(crate) fn print_all<O: Outside, W: Within<O>>(
     items: &[Printed],
 ) -> Result<(), Stop>
     requires ready { W.is_ready inside.now }
-    ensures did { Does (λ _. tt) result (state_seen s.new (O.told out.new)) (print_form (level (W.code inside.now) (W.depth inside.now)) (map printed_of items.now) (state_seen s.old (O.told out.old))) }
+    ensures did { Does (λ _. tt) result (state_seen s.new (O.told out.new))
+        (print_form (level (W.code inside.now) (W.depth inside.now)) (map printed_of items.now)
+        (state_seen s.old (O.told out.old))) }
 {
     for item in items {
         show(s, out, inside, item)?;
@@ -36,7 +38,9 @@ fn show<O: Outside, W: Within<O>>(
     item: &Printed,
 ) -> Result<(), Stop>
     requires ready { W.is_ready inside.now }
-    ensures did { Does (λ _. tt) result (state_seen s.new (O.told out.new)) (shown_form (level (W.code inside.now) (W.depth inside.now)) (printed_of item.now) (state_seen s.old (O.told out.old))) }
+    ensures did { Does (λ _. tt) result (state_seen s.new (O.told out.new))
+        (shown_form (level (W.code inside.now) (W.depth inside.now)) (printed_of item.now)
+        (state_seen s.old (O.told out.old))) }
 {
     match item {
         Printed::Value(e) => {

@@ -17,6 +17,7 @@ use crate::printing::print_all;
 use crate::together::execute_together;
 use crate::writes::{step_target, swap_values, write_value};
 use cbl_base::Place;
+use cbl_base::limits::MAX_RUNNING_DEPTH;
 use checked_tree::{Act, Action, Task, Typed};
 use run_values::Stop;
 use search_forms::declaring::{declare, declare_array, declare_object, declare_variable};
@@ -28,7 +29,7 @@ use search_forms::{
 };
 
 /// How many statements and expressions may be executed inside each other.
-const MOST_DEPTH: u32 = 1000;
+const MOST_DEPTH: u32 = MAX_RUNNING_DEPTH;
 
 /// A statement at a place, by its form. What isn't there yet does nothing.
 pub fn execute_act<O: Outside, W: Around<O>>(
@@ -41,7 +42,9 @@ pub fn execute_act<O: Outside, W: Around<O>>(
     requires ready { W.is_ready inside.now }
     requires defines { W.can_define inside.now }
     requires locates { W.can_locate inside.now }
-    ensures did { Does flow_seen result (state_seen s.new (O.told out.new)) (meaning_of_form (level (W.code inside.now) (W.depth inside.now)) at (work_of_act act.now) (state_seen s.old (O.told out.old))) }
+    ensures did { Does flow_seen result (state_seen s.new (O.told out.new))
+        (meaning_of_form (level (W.code inside.now) (W.depth inside.now)) at (work_of_act act.now)
+        (state_seen s.old (O.told out.old))) }
 {
     match act {
         Act::Action(action) => execute_action(s, out, inside, at, action),
@@ -101,7 +104,9 @@ pub fn execute_all<O: Outside, W: Within<O>>(
     tasks: &[Task],
 ) -> Result<Flow, Stop>
     requires ready { W.is_ready inside.now }
-    ensures did { Does flow_seen result (state_seen s.new (O.told out.new)) (tasks_form (level (W.code inside.now) (W.depth inside.now)) (map work_of tasks.now) (state_seen s.old (O.told out.old))) }
+    ensures did { Does flow_seen result (state_seen s.new (O.told out.new))
+        (tasks_form (level (W.code inside.now) (W.depth inside.now)) (map work_of tasks.now)
+        (state_seen s.old (O.told out.old))) }
 {
     for task in tasks {
         let flow = inside.execute(s, out, task)?;
@@ -122,7 +127,9 @@ fn execute_if<O: Outside, W: Within<O>>(
     then: &Task,
 ) -> Result<Flow, Stop>
     requires ready { W.is_ready inside.now }
-    ensures did { Does flow_seen result (state_seen s.new (O.told out.new)) (if_form (level (W.code inside.now) (W.depth inside.now)) (seen test.now) (work_of «then».now) (state_seen s.old (O.told out.old))) }
+    ensures did { Does flow_seen result (state_seen s.new (O.told out.new))
+        (if_form (level (W.code inside.now) (W.depth inside.now)) (seen test.now)
+        (work_of «then».now) (state_seen s.old (O.told out.old))) }
 {
     let test = truth_of(s, out, inside, test)?;
     if test {
@@ -142,7 +149,9 @@ fn execute_if_else<O: Outside, W: Within<O>>(
     otherwise: &Task,
 ) -> Result<Flow, Stop>
     requires ready { W.is_ready inside.now }
-    ensures did { Does flow_seen result (state_seen s.new (O.told out.new)) (if_else_form (level (W.code inside.now) (W.depth inside.now)) (seen test.now) (work_of «then».now) (work_of otherwise.now) (state_seen s.old (O.told out.old))) }
+    ensures did { Does flow_seen result (state_seen s.new (O.told out.new))
+        (if_else_form (level (W.code inside.now) (W.depth inside.now)) (seen test.now)
+        (work_of «then».now) (work_of otherwise.now) (state_seen s.old (O.told out.old))) }
 {
     let test = truth_of(s, out, inside, test)?;
     if test {
@@ -163,7 +172,9 @@ pub fn execute_action<O: Outside, W: Around<O>>(
     requires ready { W.is_ready inside.now }
     requires defines { W.can_define inside.now }
     requires locates { W.can_locate inside.now }
-    ensures did { Does flow_seen result (state_seen s.new (O.told out.new)) (action_form (level (W.code inside.now) (W.depth inside.now)) at (deed_of action.now) (state_seen s.old (O.told out.old))) }
+    ensures did { Does flow_seen result (state_seen s.new (O.told out.new))
+        (action_form (level (W.code inside.now) (W.depth inside.now)) at (deed_of action.now)
+        (state_seen s.old (O.told out.old))) }
 {
     match returned(action) {
         Some(value) => execute_return(s, out, inside, value),
@@ -179,7 +190,9 @@ fn execute_return<O: Outside, W: Within<O>>(
     value: &Option<Typed>,
 ) -> Result<Flow, Stop>
     requires ready { W.is_ready inside.now }
-    ensures did { Does flow_seen result (state_seen s.new (O.told out.new)) (return_form (level (W.code inside.now) (W.depth inside.now)) (option_map seen value.now) (state_seen s.old (O.told out.old))) }
+    ensures did { Does flow_seen result (state_seen s.new (O.told out.new))
+        (return_form (level (W.code inside.now) (W.depth inside.now)) (option_map seen value.now)
+        (state_seen s.old (O.told out.old))) }
 {
     match value {
         None => Ok(Flow::Returned(None)),
@@ -199,7 +212,9 @@ pub(crate) fn perform<O: Outside, W: Around<O>>(
     requires ready { W.is_ready inside.now }
     requires defines { W.can_define inside.now }
     requires locates { W.can_locate inside.now }
-    ensures did { Does (λ _. tt) result (state_seen s.new (O.told out.new)) (deed_form (level (W.code inside.now) (W.depth inside.now)) at (deed_of action.now) (state_seen s.old (O.told out.old))) }
+    ensures did { Does (λ _. tt) result (state_seen s.new (O.told out.new))
+        (deed_form (level (W.code inside.now) (W.depth inside.now)) at (deed_of action.now)
+        (state_seen s.old (O.told out.old))) }
 {
     match action {
         Action::Empty => Ok(()),

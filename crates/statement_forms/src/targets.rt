@@ -34,7 +34,9 @@ pub fn target_of_form<
     requires ready { W.is_ready inside.now }
     requires located { L.IsAlwaysCallable locate.now }
     requires locates { Locates O.told (L.post locate.now) (W.code inside.now) (W.depth inside.now) }
-    ensures did { Does target_seen result (state_seen s.new (O.told out.new)) (writes.target_of_form (level (W.code inside.now) (W.depth inside.now)) at kind (shape_of form.now) (state_seen s.old (O.told out.old))) }
+    ensures did { Does target_seen result (state_seen s.new (O.told out.new))
+        (writes.target_of_form (level (W.code inside.now) (W.depth inside.now)) at kind
+        (shape_of form.now) (state_seen s.old (O.told out.old))) }
 {
     match form {
         Form::Name(slot) => s.name_target(kind, *slot),
@@ -58,7 +60,9 @@ fn target_of_index<O: Outside, W: Within<O>>(
     index: &Typed,
 ) -> Result<Target, Stop>
     requires ready { W.is_ready inside.now }
-    ensures did { Does target_seen result (state_seen s.new (O.told out.new)) (writes.index_target (level (W.code inside.now) (W.depth inside.now)) at (part array.now) (part index.now) (state_seen s.old (O.told out.old))) }
+    ensures did { Does target_seen result (state_seen s.new (O.told out.new))
+        (writes.index_target (level (W.code inside.now) (W.depth inside.now)) at (part array.now)
+        (part index.now) (state_seen s.old (O.told out.old))) }
 {
     let array = value_of(s, out, inside, array)?;
     let index = number_of(s, out, inside, index);
@@ -77,7 +81,9 @@ fn target_of_cell<O: Outside, W: Within<O>>(
     column: &Typed,
 ) -> Result<Target, Stop>
     requires ready { W.is_ready inside.now }
-    ensures did { Does target_seen result (state_seen s.new (O.told out.new)) (writes.cell_target (level (W.code inside.now) (W.depth inside.now)) at (part grid.now) (part row.now) (part column.now) (state_seen s.old (O.told out.old))) }
+    ensures did { Does target_seen result (state_seen s.new (O.told out.new))
+        (writes.cell_target (level (W.code inside.now) (W.depth inside.now)) at (part grid.now)
+        (part row.now) (part column.now) (state_seen s.old (O.told out.old))) }
 {
     let grid = value_of(s, out, inside, grid)?;
     let row = number_of(s, out, inside, row)?;
@@ -93,7 +99,9 @@ pub fn target_of<O: Outside, W: Around<O>>(
     e: &Typed,
 ) -> Result<Target, Stop>
     requires locates { W.can_locate inside.now }
-    ensures did { Does target_seen result (state_seen s.new (O.told out.new)) ((level (W.code inside.now) (W.depth inside.now)).target (part e.now) (state_seen s.old (O.told out.old))) }
+    ensures did { Does target_seen result (state_seen s.new (O.told out.new))
+        ((level (W.code inside.now) (W.depth inside.now)).target (part e.now)
+        (state_seen s.old (O.told out.old))) }
 {
     match plain_target(inside.room(), e) {
         Some(target) => Ok(target),

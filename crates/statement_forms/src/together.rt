@@ -28,7 +28,9 @@ pub(crate) fn execute_together<O: Outside, W: Within<O>>(
     body: &Task,
 ) -> Result<Flow, Stop>
     requires ready { W.is_ready inside.now }
-    ensures did { Does flow_seen result (state_seen s.new (O.told out.new)) (together_form (level (W.code inside.now) (W.depth inside.now)) at slot (work_of body.now) (state_seen s.old (O.told out.old))) }
+    ensures did { Does flow_seen result (state_seen s.new (O.told out.new))
+        (together_form (level (W.code inside.now) (W.depth inside.now)) at slot (work_of body.now)
+        (state_seen s.old (O.told out.old))) }
 {
     let solver = s.look(slot)?;
     let outermost = open_with(out, at, &solver)?;

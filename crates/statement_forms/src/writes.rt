@@ -40,7 +40,9 @@ pub(crate) fn write_value<O: Outside, W: Around<O>>(
     requires ready { W.is_ready inside.now }
     requires defines { W.can_define inside.now }
     requires locates { W.can_locate inside.now }
-    ensures did { Does (λ _. tt) result (state_seen s.new (O.told out.new)) (write_form (level (W.code inside.now) (W.depth inside.now)) at operator (seen target.now) (seen value.now) (state_seen s.old (O.told out.old))) }
+    ensures did { Does (λ _. tt) result (state_seen s.new (O.told out.new))
+        (write_form (level (W.code inside.now) (W.depth inside.now)) at operator (seen target.now)
+        (seen value.now) (state_seen s.old (O.told out.old))) }
 {
     match operator {
         WriteOperator::Set => assign(s, out, inside, at, target, value),
@@ -63,7 +65,9 @@ fn assign<O: Outside, W: Around<O>>(
 ) -> Result<(), Stop>
     requires ready { W.is_ready inside.now }
     requires locates { W.can_locate inside.now }
-    ensures did { Does (λ _. tt) result (state_seen s.new (O.told out.new)) (assign_form (level (W.code inside.now) (W.depth inside.now)) at (seen target.now) (seen value.now) (state_seen s.old (O.told out.old))) }
+    ensures did { Does (λ _. tt) result (state_seen s.new (O.told out.new))
+        (assign_form (level (W.code inside.now) (W.depth inside.now)) at (seen target.now)
+        (seen value.now) (state_seen s.old (O.told out.old))) }
 {
     match plain_slot(inside.room(), target) {
         Some(slot) => assign_name(s, out, inside, at, slot, value),
@@ -122,7 +126,9 @@ fn assign_any<O: Outside, W: Around<O>>(
 ) -> Result<(), Stop>
     requires ready { W.is_ready inside.now }
     requires locates { W.can_locate inside.now }
-    ensures did { Does (λ _. tt) result (state_seen s.new (O.told out.new)) (assign_form (level (W.code inside.now) (W.depth inside.now)) at (seen target.now) (seen value.now) (state_seen s.old (O.told out.old))) }
+    ensures did { Does (λ _. tt) result (state_seen s.new (O.told out.new))
+        (assign_form (level (W.code inside.now) (W.depth inside.now)) at (seen target.now)
+        (seen value.now) (state_seen s.old (O.told out.old))) }
 {
     let kind = target.kind;
     let target = target_of(s, out, inside, target)?;
@@ -143,7 +149,9 @@ fn add_value<O: Outside, W: Around<O>>(
 ) -> Result<(), Stop>
     requires ready { W.is_ready inside.now }
     requires locates { W.can_locate inside.now }
-    ensures did { Does (λ _. tt) result (state_seen s.new (O.told out.new)) (add_form (level (W.code inside.now) (W.depth inside.now)) at ◌+ℤ◌ (seen target.now) (seen value.now) (state_seen s.old (O.told out.old))) }
+    ensures did { Does (λ _. tt) result (state_seen s.new (O.told out.new))
+        (add_form (level (W.code inside.now) (W.depth inside.now)) at ◌+ℤ◌ (seen target.now)
+        (seen value.now) (state_seen s.old (O.told out.old))) }
 {
     let target = target_of(s, out, inside, target)?;
     let old = s.old_value(&target)?;
@@ -163,7 +171,9 @@ fn subtract_value<O: Outside, W: Around<O>>(
 ) -> Result<(), Stop>
     requires ready { W.is_ready inside.now }
     requires locates { W.can_locate inside.now }
-    ensures did { Does (λ _. tt) result (state_seen s.new (O.told out.new)) (add_form (level (W.code inside.now) (W.depth inside.now)) at ◌-ℤ◌ (seen target.now) (seen value.now) (state_seen s.old (O.told out.old))) }
+    ensures did { Does (λ _. tt) result (state_seen s.new (O.told out.new))
+        (add_form (level (W.code inside.now) (W.depth inside.now)) at ◌-ℤ◌ (seen target.now)
+        (seen value.now) (state_seen s.old (O.told out.old))) }
 {
     let target = target_of(s, out, inside, target)?;
     let old = s.old_value(&target)?;
@@ -183,7 +193,9 @@ fn define_value<O: Outside, W: Around<O>>(
 ) -> Result<(), Stop>
     requires defines { W.can_define inside.now }
     requires locates { W.can_locate inside.now }
-    ensures did { Does (λ _. tt) result (state_seen s.new (O.told out.new)) (define_form (level (W.code inside.now) (W.depth inside.now)) at (seen target.now) (seen term.now) (state_seen s.old (O.told out.old))) }
+    ensures did { Does (λ _. tt) result (state_seen s.new (O.told out.new))
+        (define_form (level (W.code inside.now) (W.depth inside.now)) at (seen target.now)
+        (seen term.now) (state_seen s.old (O.told out.old))) }
 {
     let target = target_of(s, out, inside, target)?;
     let term = single_term(s, out, inside, term);
@@ -202,7 +214,9 @@ pub(crate) fn swap_values<O: Outside, W: Around<O>>(
 ) -> Result<(), Stop>
     requires ready { W.is_ready inside.now }
     requires locates { W.can_locate inside.now }
-    ensures did { Does (λ _. tt) result (state_seen s.new (O.told out.new)) (swap_form (level (W.code inside.now) (W.depth inside.now)) at (seen left.now) (seen right.now) (state_seen s.old (O.told out.old))) }
+    ensures did { Does (λ _. tt) result (state_seen s.new (O.told out.new))
+        (swap_form (level (W.code inside.now) (W.depth inside.now)) at (seen left.now)
+        (seen right.now) (state_seen s.old (O.told out.old))) }
 {
     let left = target_of(s, out, inside, left)?;
     let right = target_of(s, out, inside, right);
@@ -222,7 +236,9 @@ pub(crate) fn step_target<O: Outside, W: Around<O>>(
 ) -> Result<(), Stop>
     requires ready { W.is_ready inside.now }
     requires locates { W.can_locate inside.now }
-    ensures did { Does (λ _. tt) result (state_seen s.new (O.told out.new)) (step_form (level (W.code inside.now) (W.depth inside.now)) at step (seen target.now) (state_seen s.old (O.told out.old))) }
+    ensures did { Does (λ _. tt) result (state_seen s.new (O.told out.new))
+        (step_form (level (W.code inside.now) (W.depth inside.now)) at step (seen target.now)
+        (state_seen s.old (O.told out.old))) }
 {
     let target = target_of(s, out, inside, target);
     step_part(s, out, at, step, target)

@@ -42,7 +42,8 @@ pub fn eval<L: Ledger, U: LocalConstraint>(
 ) -> Result<Value, EvalStop>
     requires known { (code_seen code.now).pure ≡ pure_functions (code_seen code.now).functions }
     requires pure { is_pure (code_seen code.now).pure (part e.now) ≡ true }
-    ensures { (printed : List ℕ) → Evaluates ((level (code_seen code.now) room).expr (part e.now)) (standing_seen standing.now printed) fuel.old.left result fuel.new.left }
+    ensures { (printed : List ℕ) → Evaluates ((level (code_seen code.now) room).expr (part e.now))
+        (standing_seen standing.now printed) fuel.old.left result fuel.new.left }
 {
     let copy = match standing.without_data(fuel.left) {
         Ok(copy) => copy,

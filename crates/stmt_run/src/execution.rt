@@ -55,7 +55,8 @@ pub fn run<O: CountedOut, U: LocalConstraint>(
     standing: Standing<U>,
     out: O,
 ) -> Ended<O, U>
-    ensures meant { EndsAs result.end result.fuel (O.taken result.out) (programs.run (program_of program.now) (standing_seen standing (O.taken out))) }
+    ensures meant { EndsAs result.end result.fuel (O.taken result.out)
+        (programs.run (program_of program.now) (standing_seen standing (O.taken out))) }
     ensures failed { result.end ≡ Write → HasRisen (O.faults out) (O.faults result.out) }
     ensures fuel { result.fuel ≡ result.standing.state.fuel }
 {
@@ -127,7 +128,8 @@ fn execute<O: Outside>(
     s: &mut State,
     out: &mut O,
 ) -> Result<Flow, Stop>
-    ensures { Does flow_seen result (state_seen s.new (O.told out.new)) (programs.meaning_of_program (program_of program.now) (state_seen s.old (O.told out.old))) }
+    ensures { Does flow_seen result (state_seen s.new (O.told out.new))
+        (programs.meaning_of_program (program_of program.now) (state_seen s.old (O.told out.old))) }
 {
     let pure = pure_functions(alloc, program.functions.as_slice())?;
     let code = Code::new(alloc, program.functions.as_slice(), pure.as_slice())?;

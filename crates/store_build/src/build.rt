@@ -35,9 +35,13 @@ fn build_over<N: NodeRule, E: LayerEval<N>>(
     ensures ready { IfOk result (λ p. All N.ready p.nodes.items) }
     ensures rules { IfOk result (λ p. map N.rule p.nodes.items ≡ aim.rules) }
     ensures frame { IfOk result (λ p. p.frame ≡ frame) }
-    ensures kept { IfOk result (λ p. IsKept aim.rules (map N.held p.nodes.items) frame p.values.items) }
-    ensures free { IfOk result (λ p. (j : ℕ) → j < length frame.inputs.items → (graph_of aim.rules frame).is_free j ≡ true → cell_of p.values.items j ≡ start_of start.now j) }
-    ensures fault { IfErr result (λ stop. IsStop (graph_of aim.rules frame) (start_of start.now) stop) }
+    ensures kept { IfOk result (λ p. IsKept aim.rules
+        (map N.held p.nodes.items) frame p.values.items) }
+    ensures free { IfOk result (λ p. (j : ℕ) → j < length frame.inputs.items →
+        (graph_of aim.rules frame).is_free j ≡ true →
+        cell_of p.values.items j ≡ start_of start.now j) }
+    ensures fault { IfErr result (λ stop.
+        IsStop (graph_of aim.rules frame) (start_of start.now) stop) }
 {
     let groups = groups_of(alloc, nodes, frame.first, &frame.layers)?;
     let building = build_layers(alloc, &frame, start, groups, eval)?;
@@ -72,16 +76,22 @@ pub fn parts_of<N: NodeRule, E: LayerEval<N>>(
     layers: &Layers,
     eval: &E,
 ) -> Result<Parts<N>, StoreFault>
-    requires linked { AreLinked (map N.rule nodes.items) (length start.now) links.inputs.items layers.now }
+    requires linked { AreLinked (map N.rule nodes.items)
+        (length start.now) links.inputs.items layers.now }
     requires takes { (o : ℕ → Outcome) → IsMeaning (graph_over (map N.rule nodes.items) (length start.now) links.inputs.items) (start_of start.now) o → Takes (map N.rule nodes.items) (length start.now) links.inputs.items o }
     ensures ready { IfOk result (λ p. All N.ready p.nodes.items) }
     ensures rules { IfOk result (λ p. map N.rule p.nodes.items ≡ map N.rule nodes.items) }
     ensures first { IfOk result (λ p. p.frame.first ≡ length start.now) }
     ensures inputs { IfOk result (λ p. p.frame.inputs ≡ links.inputs) }
     ensures layers { IfOk result (λ p. p.frame.layers.items ≡ layers.now) }
-    ensures kept { IfOk result (λ p. IsKept (map N.rule p.nodes.items) (map N.held p.nodes.items) p.frame p.values.items) }
-    ensures free { IfOk result (λ p. (j : ℕ) → j < length links.inputs.items → (graph_over (map N.rule nodes.items) (length start.now) links.inputs.items).is_free j ≡ true → cell_of p.values.items j ≡ start_of start.now j) }
-    ensures fault { IfErr result (λ stop. IsStop (graph_over (map N.rule nodes.items) (length start.now) links.inputs.items) (start_of start.now) stop) }
+    ensures kept { IfOk result (λ p. IsKept (map N.rule p.nodes.items)
+        (map N.held p.nodes.items) p.frame p.values.items) }
+    ensures free { IfOk result (λ p. (j : ℕ) → j < length links.inputs.items →
+        (graph_over (map N.rule nodes.items) (length start.now) links.inputs.items).is_free j ≡
+        true → cell_of p.values.items j ≡ start_of start.now j) }
+    ensures fault { IfErr result (λ stop.
+        IsStop (graph_over (map N.rule nodes.items) (length start.now) links.inputs.items)
+        (start_of start.now) stop) }
 {
     let first = start.len() as u32;
     let list = layers_of(alloc, layers)?;

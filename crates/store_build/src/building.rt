@@ -34,8 +34,11 @@ fn keep_node<N: NodeRule>(
     requires within { id < length building.old.outcomes.items }
     requires behind { first ≤ id }
     requires place { id - first < length building.old.nodes.items }
-    ensures outcomes { OnOk result (building.new.outcomes.items ≡ slice_set building.old.outcomes.items id (Some (outcome_of ((N.rule node).value (N.held node))))) }
-    ensures nodes { OnOk result (building.new.nodes.items ≡ slice_set building.old.nodes.items (id - first) (Some node)) }
+    ensures outcomes { OnOk result (building.new.outcomes.items ≡
+        slice_set building.old.outcomes.items id
+        (Some (outcome_of ((N.rule node).value (N.held node))))) }
+    ensures nodes { OnOk result (building.new.nodes.items ≡
+        slice_set building.old.nodes.items (id - first) (Some node)) }
 {
     let outcome = value_of(alloc, &node)?;
     building.outcomes[id as usize] = Some(outcome);
@@ -56,10 +59,14 @@ fn keep_nodes<N: NodeRule>(
     requires count { frame.now.first + length aim.rules ≡ length frame.now.inputs.items }
     requires places { HasPlaces aim frame.now building.old }
     requires ready { All N.ready nodes.items }
-    requires tasks { AreTasks aim frame.now ids.now (map N.rule nodes.items) (map N.held nodes.items) }
+    requires tasks { AreTasks aim frame.now ids.now (map N.rule nodes.items)
+        (map N.held nodes.items) }
     ensures places { OnOk result (HasPlaces aim frame.now building.new) }
-    ensures kept { OnOk result ((k : ℕ) → IsFinished N.rule N.held N.ready aim frame.now building.old k → IsFinished N.rule N.held N.ready aim frame.now building.new k) }
-    ensures all { OnOk result ((k : ℕ) → Contains ids.now k → IsFinished N.rule N.held N.ready aim frame.now building.new k) }
+    ensures kept { OnOk result ((k : ℕ) →
+        IsFinished N.rule N.held N.ready aim frame.now building.old k →
+        IsFinished N.rule N.held N.ready aim frame.now building.new k) }
+    ensures all { OnOk result ((k : ℕ) → Contains ids.now k →
+        IsFinished N.rule N.held N.ready aim frame.now building.new k) }
 {
     let mut place = 0;
     for node in nodes {
@@ -83,8 +90,11 @@ fn build_layer<N: NodeRule, E: LayerEval<N>>(
     requires places { HasPlaces aim frame.now building.old }
     requires items { All (λ i. IsItem N.rule aim.rules frame.now.first i × (i.id < length frame.now.inputs.items) × Each (HasCome aim.outcome building.old.outcomes.items) (inputs_in frame.now i.id)) group.items }
     ensures places { OnOk result (HasPlaces aim frame.now building.new) }
-    ensures kept { OnOk result ((k : ℕ) → IsFinished N.rule N.held N.ready aim frame.now building.old k → IsFinished N.rule N.held N.ready aim frame.now building.new k) }
-    ensures all { OnOk result ((k : ℕ) → Contains (ids_in group.items) k → IsFinished N.rule N.held N.ready aim frame.now building.new k) }
+    ensures kept { OnOk result ((k : ℕ) →
+        IsFinished N.rule N.held N.ready aim frame.now building.old k →
+        IsFinished N.rule N.held N.ready aim frame.now building.new k) }
+    ensures all { OnOk result ((k : ℕ) → Contains (ids_in group.items) k →
+        IsFinished N.rule N.held N.ready aim frame.now building.new k) }
 {
     let gathered = gather(alloc, frame, start, &mut building.outcomes, group)?;
     let ids = gathered.ids;
@@ -103,9 +113,11 @@ pub(crate) fn build_layers<N: NodeRule, E: LayerEval<N>>(
     ghost aim: { Aim }
     requires aim { IsAim aim frame.now start.now }
     requires layers { AreLayers (graph_of aim.rules frame.now) (layer_of frame.now) }
-    requires groups { IsGrouped N.rule aim.rules frame.now.first frame.now.layers.items (length frame.now.inputs.items) groups.items }
+    requires groups { IsGrouped N.rule aim.rules frame.now.first frame.now.layers.items
+        (length frame.now.inputs.items) groups.items }
     ensures places { IfOk result (λ b. HasPlaces aim frame.now b) }
-    ensures all { IfOk result (λ b. (k : ℕ) → k < length frame.now.inputs.items → IsFinished N.rule N.held N.ready aim frame.now b k) }
+    ensures all { IfOk result (λ b. (k : ℕ) → k < length frame.now.inputs.items →
+        IsFinished N.rule N.held N.ready aim frame.now b k) }
 {
     let count = frame.inputs.len();
     let mut building = Building {

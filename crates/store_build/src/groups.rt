@@ -35,8 +35,10 @@ fn add_item<N: NodeRule>(
     item: Item<N>,
 ) -> Result<(), NoMemory>
     requires within { item.id < length layers.now }
-    ensures here { OnOk result (list_in groups.new.items (slice_index_or layers.now item.id 0) ≡ list_in groups.old.items (slice_index_or layers.now item.id 0) ++ item ∷ []) }
-    ensures elsewhere { OnOk result ((i : ℕ) → i ≢ slice_index_or layers.now item.id 0 → list_in groups.new.items i ≡ list_in groups.old.items i) }
+    ensures here { OnOk result (list_in groups.new.items (slice_index_or layers.now item.id 0) ≡
+        list_in groups.old.items (slice_index_or layers.now item.id 0) ++ item ∷ []) }
+    ensures elsewhere { OnOk result ((i : ℕ) → i ≢ slice_index_or layers.now item.id 0 →
+        list_in groups.new.items i ≡ list_in groups.old.items i) }
 {
     let layer = layers[item.id as usize] as usize;
     grow(alloc, groups, layer + 1)?;
@@ -52,7 +54,8 @@ pub(crate) fn groups_of<N: NodeRule>(
 ) -> Result<Vec<Vec<Item<N>>>, NoMemory>
     requires count { first + vec_len nodes ≡ length layers.now }
     requires few { length layers.now < 4294967296 }
-    ensures { IfOk result (λ groups. IsGrouped N.rule (map N.rule nodes.items) first layers.now (length layers.now) groups.items) }
+    ensures { IfOk result (λ groups. IsGrouped N.rule (map N.rule nodes.items) first layers.now
+        (length layers.now) groups.items) }
 {
     let mut groups = Vec::new(alloc);
     for id in 0..first {

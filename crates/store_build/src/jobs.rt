@@ -56,9 +56,12 @@ fn take_item<N: NodeRule>(
 ) -> Result<(), NoMemory>
     requires within { item.id < length outcomes.old.items }
     requires inputs { All (λ i. i.0 < length outcomes.old.items) inputs.now }
-    requires one { item.id < length start.now → is_empty (ids_of inputs.now) ≡ false → (i : ℕ) × (ids_of inputs.now ≡ i ∷ []) }
+    requires one { item.id < length start.now → is_empty (ids_of inputs.now) ≡ false →
+        (i : ℕ) × (ids_of inputs.now ≡ i ∷ []) }
     requires cell { IsSome item.node ⊎ (item.id < length start.now) }
-    ensures { OnOk result (ItemTaken N.rule (ids_of inputs.now) (slice_index_or start.now item.id (pos 0)) item.id item.node outcomes.old.items outcomes.new.items jobs.old jobs.new) }
+    ensures { OnOk result (ItemTaken N.rule (ids_of inputs.now)
+        (slice_index_or start.now item.id
+        (pos 0)) item.id item.node outcomes.old.items outcomes.new.items jobs.old jobs.new) }
 {
     let id = item.id;
     match item.node {
@@ -82,11 +85,16 @@ pub(crate) fn gather<N: NodeRule>(
     ghost aim: { Aim }
     requires aim { IsAim aim frame.now start.now }
     requires places { length outcomes.old.items ≡ length frame.now.inputs.items }
-    requires items { All (λ i. IsItem N.rule aim.rules frame.now.first i × (i.id < length frame.now.inputs.items) × Each (HasCome aim.outcome outcomes.old.items) (inputs_in frame.now i.id)) group.items }
+    requires items { All (λ i. IsItem N.rule aim.rules frame.now.first i ×
+        (i.id < length frame.now.inputs.items) ×
+        Each (HasCome aim.outcome outcomes.old.items) (inputs_in frame.now i.id)) group.items }
     ensures places { OnOk result (length outcomes.new.items ≡ length frame.now.inputs.items) }
-    ensures kept { OnOk result ((k : ℕ) → HasCome aim.outcome outcomes.old.items k → HasCome aim.outcome outcomes.new.items k) }
-    ensures tasks { IfOk result (λ jobs. AreTasks aim frame.now jobs.ids.items (job_rules N.rule jobs) (job_values jobs)) }
-    ensures all { IfOk result (λ jobs. (k : ℕ) → Contains (ids_in group.items) k → IsSettled aim frame.now outcomes.new.items k ⊎ Contains jobs.ids.items k) }
+    ensures kept { OnOk result ((k : ℕ) → HasCome aim.outcome outcomes.old.items k →
+        HasCome aim.outcome outcomes.new.items k) }
+    ensures tasks { IfOk result (λ jobs.
+        AreTasks aim frame.now jobs.ids.items (job_rules N.rule jobs) (job_values jobs)) }
+    ensures all { IfOk result (λ jobs. (k : ℕ) → Contains (ids_in group.items) k →
+        IsSettled aim frame.now outcomes.new.items k ⊎ Contains jobs.ids.items k) }
 {
     let mut jobs = Jobs {
         ids: Vec::new(alloc),

@@ -11,7 +11,8 @@ pub(crate) fn grow<T: Drop>(
     lists: &mut Vec<Vec<T>>,
     count: usize,
 ) -> Result<(), NoMemory>
-    ensures count { OnOk result (length lists.new.items ≡ length lists.old.items + (count - length lists.old.items)) }
+    ensures count { OnOk result (length lists.new.items ≡
+        length lists.old.items + (count - length lists.old.items)) }
     ensures same { OnOk result ((i : ℕ) → list_in lists.new.items i ≡ list_in lists.old.items i) }
 {
     let missing = count.saturating_sub(lists.len());
@@ -25,8 +26,10 @@ pub(crate) fn grow<T: Drop>(
 pub(crate) fn put<T: Drop>(lists: &mut Vec<Vec<T>>, at: usize, item: T) -> Result<(), NoMemory>
     requires { at < length lists.old.items }
     ensures count { OnOk result (length lists.new.items ≡ length lists.old.items) }
-    ensures here { OnOk result (list_in lists.new.items at ≡ list_in lists.old.items at ++ item ∷ []) }
-    ensures elsewhere { OnOk result ((i : ℕ) → i ≢ at → list_in lists.new.items i ≡ list_in lists.old.items i) }
+    ensures here { OnOk result (list_in lists.new.items at ≡
+        list_in lists.old.items at ++ item ∷ []) }
+    ensures elsewhere { OnOk result ((i : ℕ) → i ≢ at →
+        list_in lists.new.items i ≡ list_in lists.old.items i) }
 {
     lists[at].push(item)?;
     Ok(())

@@ -18,7 +18,9 @@ fn add_uses(
     requires within { All (λ i. i.0 < length uses.old.items) inputs.now }
     requires few { length inputs.now ≤ 4294967296 }
     ensures count { OnOk result (length uses.new.items ≡ length uses.old.items) }
-    ensures more { OnOk result ((i : ℕ) → list_in uses.new.items i ≡ list_in uses.old.items i ++ uses_by user (positions i (ids_of inputs.now))) }
+    ensures more { OnOk result ((i : ℕ) →
+        list_in uses.new.items i ≡ list_in uses.old.items i ++ uses_by user
+        (positions i (ids_of inputs.now))) }
 {
     for (place, id) in inputs.iter().enumerate() {
         put(uses, id.0 as usize, (user, place as u32))?;
@@ -35,8 +37,10 @@ pub(crate) fn uses_of(
     requires within { (j : ℕ) → All (λ i. i.0 < length inputs.now) (list_in inputs.now j) }
     requires short { (j : ℕ) → length (list_in inputs.now j) ≤ 4294967296 }
     ensures count { IfOk result (λ uses. length uses.items ≡ length inputs.now) }
-    ensures users { IfOk result (λ uses. (i : ℕ) → All (λ u. u.0.0 < length inputs.now) (list_in uses.items i)) }
-    ensures uses { IfOk result (λ uses. (i j : ℕ) → places_in j (list_in uses.items i) ≡ positions i (ids_of (list_in inputs.now j))) }
+    ensures users { IfOk result (λ uses. (i : ℕ) →
+        All (λ u. u.0.0 < length inputs.now) (list_in uses.items i)) }
+    ensures uses { IfOk result (λ uses. (i j : ℕ) →
+        places_in j (list_in uses.items i) ≡ positions i (ids_of (list_in inputs.now j))) }
 {
     let mut uses = Vec::new(alloc);
     grow(alloc, &mut uses, inputs.len())?;

@@ -42,7 +42,8 @@ pub(crate) fn values_at(
     outcomes: &[Option<Outcome>],
 ) -> Result<Option<Vec<Input>>, NoMemory>
     requires { All (λ i. i.0 < length outcomes.now) ids.now }
-    ensures { IfOk result (λ r. option_map (λ v. v.items) r ≡ values_in outcomes.now (ids_of ids.now)) }
+    ensures { IfOk result (λ r. option_map (λ v. v.items) r ≡
+        values_in outcomes.now (ids_of ids.now)) }
 {
     let mut values = Vec::new(alloc);
     for id in ids {
@@ -66,7 +67,8 @@ pub(crate) fn cell_outcome(
 ) -> Result<Outcome, NoMemory>
     requires within { All (λ i. i.0 < length outcomes.now) ids.now }
     requires one { is_empty (ids_of ids.now) ≡ false → (i : ℕ) × (ids_of ids.now ≡ i ∷ []) }
-    ensures { IfOk result (λ o. o ≡ cell_outcome number (ids_of ids.now) (values_in outcomes.now (ids_of ids.now))) }
+    ensures { IfOk result (λ o. o ≡ cell_outcome number (ids_of ids.now)
+        (values_in outcomes.now (ids_of ids.now))) }
 {
     match ids.first() {
         None => Ok(Outcome::Value(Input::Int(number))),

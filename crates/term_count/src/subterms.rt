@@ -18,8 +18,10 @@ type Codes = IndexSet<Vec<i64>>;
 
 /// Keeps a code, unless it is there, and answers its place.
 fn keep(codes: &mut Codes, code: Vec<i64>) -> Result<i64, NoMemory>
-    ensures codes { OnOk result (listed codes.new.keys ≡ with_code (listed codes.old.keys) code.items) }
-    ensures place { IfOk result (λ place. place ≡ pos (position_or_len (pointwise int_eq code.items) (listed codes.old.keys))) }
+    ensures codes { OnOk result (listed codes.new.keys ≡
+        with_code (listed codes.old.keys) code.items) }
+    ensures place { IfOk result (λ place.
+        place ≡ pos (position_or_len (pointwise int_eq code.items) (listed codes.old.keys))) }
 {
     let (place, _) = codes.insert_full(code)?;
     let _count = codes.len();
@@ -28,7 +30,8 @@ fn keep(codes: &mut Codes, code: Vec<i64>) -> Result<i64, NoMemory>
 
 /// Adds a term with all below it, and answers its name.
 fn add_to(alloc: Global, codes: &mut Codes, term: &Term) -> Result<i64, NoMemory>
-    ensures { IfOk result (λ name. (ts : List Term) → IsNumbered (listed codes.old.keys) ts → Adds (listed codes.new.keys) ts term.now name) }
+    ensures { IfOk result (λ name. (ts : List Term) → IsNumbered (listed codes.old.keys) ts →
+        Adds (listed codes.new.keys) ts term.now name) }
 {
     match term {
         Term::Const(number) => {
@@ -74,7 +77,8 @@ impl Subterms {
     /// Adds the subterms of a term, in post-order, each unless one that is equal to it was added. With `NoMemory`
     /// a part of them was added, and the count is of no use any more.
     pub fn add(&mut self, alloc: Global, term: &Term) -> Result<(), NoMemory>
-        ensures { OnOk result ((ts : List Term) → Counts self.old ts → Counts self.new (terms_after ts term.now)) }
+        ensures { OnOk result ((ts : List Term) → Counts self.old ts →
+            Counts self.new (terms_after ts term.now)) }
     {
         let _name = add_to(alloc, &mut self.codes, term)?;
         Ok(())

@@ -30,7 +30,9 @@ pub fn index_term<O: Outside, W: Defining<O>>(
 ) -> Result<Built, Stop>
     requires ready { W.is_ready inside.now }
     requires defines { W.can_define inside.now }
-    ensures did { Does (λ t. t) result (state_seen s.new (O.told out.new)) (forms.index_term (level (W.code inside.now) (W.depth inside.now)) at (part array.now) (part index.now) (state_seen s.old (O.told out.old))) }
+    ensures did { Does (λ t. t) result (state_seen s.new (O.told out.new))
+        (forms.index_term (level (W.code inside.now) (W.depth inside.now)) at (part array.now)
+        (part index.now) (state_seen s.old (O.told out.old))) }
 {
     if index.moving {
         element_term(s, out, inside, at, array, index)
@@ -50,7 +52,9 @@ fn element_term<O: Outside, W: Defining<O>>(
     index: &Typed,
 ) -> Result<Built, Stop>
     requires defines { W.can_define inside.now }
-    ensures did { Does (λ t. t) result (state_seen s.new (O.told out.new)) (forms.element_term (level (W.code inside.now) (W.depth inside.now)) at (part array.now) (part index.now) (state_seen s.old (O.told out.old))) }
+    ensures did { Does (λ t. t) result (state_seen s.new (O.told out.new))
+        (forms.element_term (level (W.code inside.now) (W.depth inside.now)) at (part array.now)
+        (part index.now) (state_seen s.old (O.told out.old))) }
 {
     let place = array.place;
     let cells = term_cells(s, out, inside, array)?;
@@ -70,7 +74,9 @@ fn picked_term<O: Outside, W: Defining<O>>(
 ) -> Result<Built, Stop>
     requires ready { W.is_ready inside.now }
     requires defines { W.can_define inside.now }
-    ensures did { Does (λ t. t) result (state_seen s.new (O.told out.new)) (forms.picked_term (level (W.code inside.now) (W.depth inside.now)) at (part array.now) (part index.now) (state_seen s.old (O.told out.old))) }
+    ensures did { Does (λ t. t) result (state_seen s.new (O.told out.new))
+        (forms.picked_term (level (W.code inside.now) (W.depth inside.now)) at (part array.now)
+        (part index.now) (state_seen s.old (O.told out.old))) }
 {
     let cells = term_cells(s, out, inside, array)?;
     let index = number_of(s, out, inside, index);
@@ -90,7 +96,9 @@ pub fn cell_term<O: Outside, W: Defining<O>>(
 ) -> Result<Built, Stop>
     requires ready { W.is_ready inside.now }
     requires defines { W.can_define inside.now }
-    ensures did { Does (λ t. t) result (state_seen s.new (O.told out.new)) (forms.cell_term (level (W.code inside.now) (W.depth inside.now)) at (part grid.now) (part row.now) (part column.now) (state_seen s.old (O.told out.old))) }
+    ensures did { Does (λ t. t) result (state_seen s.new (O.told out.new))
+        (forms.cell_term (level (W.code inside.now) (W.depth inside.now)) at (part grid.now)
+        (part row.now) (part column.now) (state_seen s.old (O.told out.old))) }
 {
     if is_one_moving(row, column) {
         grid_term(s, out, inside, at, grid, row, column)
@@ -118,7 +126,9 @@ fn grid_term<O: Outside, W: Defining<O>>(
     column: &Typed,
 ) -> Result<Built, Stop>
     requires defines { W.can_define inside.now }
-    ensures did { Does (λ t. t) result (state_seen s.new (O.told out.new)) (forms.grid_term (level (W.code inside.now) (W.depth inside.now)) at (part grid.now) (part row.now) (part column.now) (state_seen s.old (O.told out.old))) }
+    ensures did { Does (λ t. t) result (state_seen s.new (O.told out.new))
+        (forms.grid_term (level (W.code inside.now) (W.depth inside.now)) at (part grid.now)
+        (part row.now) (part column.now) (state_seen s.old (O.told out.old))) }
 {
     let place = grid.place;
     let cells = term_cells(s, out, inside, grid)?;
@@ -140,7 +150,9 @@ fn picked_cell<O: Outside, W: Defining<O>>(
 ) -> Result<Built, Stop>
     requires ready { W.is_ready inside.now }
     requires defines { W.can_define inside.now }
-    ensures did { Does (λ t. t) result (state_seen s.new (O.told out.new)) (forms.picked_cell (level (W.code inside.now) (W.depth inside.now)) at (part grid.now) (part row.now) (part column.now) (state_seen s.old (O.told out.old))) }
+    ensures did { Does (λ t. t) result (state_seen s.new (O.told out.new))
+        (forms.picked_cell (level (W.code inside.now) (W.depth inside.now)) at (part grid.now)
+        (part row.now) (part column.now) (state_seen s.old (O.told out.old))) }
 {
     let cells = term_cells(s, out, inside, grid)?;
     let row = number_of(s, out, inside, row)?;
@@ -157,7 +169,9 @@ pub fn list_term<O: Outside, W: Defining<O>>(
     cells: &[Typed],
 ) -> Result<InTerm, Stop>
     requires defines { W.can_define inside.now }
-    ensures did { Does in_term_seen result (state_seen s.new (O.told out.new)) (forms.list_term (level (W.code inside.now) (W.depth inside.now)) (row cells.now) (state_seen s.old (O.told out.old))) }
+    ensures did { Does in_term_seen result (state_seen s.new (O.told out.new))
+        (forms.list_term (level (W.code inside.now) (W.depth inside.now)) (row cells.now)
+        (state_seen s.old (O.told out.old))) }
 {
     as_row(terms_of(s, out, inside, cells))
 }

@@ -35,7 +35,8 @@ pub fn push_body(
     key: i64,
     term: Built,
 ) -> Result<(), Stop>
-    ensures did { (s : State) → Did (λ _. map body_seen bodies.new.items) result s (with_keyed at aggregate key (map body_seen bodies.old.items) term s) }
+    ensures did { (s : State) → Did (λ _. map body_seen bodies.new.items) result s
+        (with_keyed at aggregate key (map body_seen bodies.old.items) term s) }
     ensures stop { IfErr result IsFaultOrMemory }
 {
     match aggregate {
@@ -49,7 +50,8 @@ pub fn push_body(
 
 /// Adds one more body of an `all`. `TooMany` cells at the place exactly where there are as many as an array has cells.
 fn push_cell(bodies: &mut Vec<Body>, at: Place, key: i64, term: Built) -> Result<(), Stop>
-    ensures did { (s : State) → Did (λ _. map body_seen bodies.new.items) result s (with_keyed at All key (map body_seen bodies.old.items) term s) }
+    ensures did { (s : State) → Did (λ _. map body_seen bodies.new.items) result s
+        (with_keyed at All key (map body_seen bodies.old.items) term s) }
     ensures stop { IfErr result IsFaultOrMemory }
 {
     if MAX_CELLS <= bodies.len() {
@@ -67,7 +69,8 @@ pub fn aggregated(
     aggregate: Aggregate,
     bodies: Vec<Body>,
 ) -> Result<InTerm, Stop>
-    ensures did { (s : State) → Does in_term_seen result s (forms.aggregated at aggregate (map body_seen bodies.items) s) }
+    ensures did { (s : State) → Does in_term_seen result s
+        (forms.aggregated at aggregate (map body_seen bodies.items) s) }
 {
     match aggregate {
         Aggregate::Sum => operation_of(alloc, at, Op::Sum, bodies),
@@ -109,7 +112,8 @@ fn keys_in(alloc: Global, bodies: &[Body]) -> Result<Numbers, Stop>
 
 /// One operation of all bodies.
 fn operation_of(alloc: Global, at: Place, op: Op, bodies: Vec<Body>) -> Result<InTerm, Stop>
-    ensures did { (s : State) → Does in_term_seen result s (body_node at op (map body_seen bodies.items) s) }
+    ensures did { (s : State) → Does in_term_seen result s
+        (body_node at op (map body_seen bodies.items) s) }
 {
     let terms = terms_in(alloc, bodies)?;
     as_in_term(node_of(at, op, terms))
@@ -117,7 +121,8 @@ fn operation_of(alloc: Global, at: Place, op: Op, bodies: Vec<Body>) -> Result<I
 
 /// The same of the least or the greatest, which none is without a body.
 fn extreme_of(alloc: Global, at: Place, op: Op, bodies: Vec<Body>) -> Result<InTerm, Stop>
-    ensures did { (s : State) → Does in_term_seen result s (extreme_node at op (map body_seen bodies.items) s) }
+    ensures did { (s : State) → Does in_term_seen result s
+        (extreme_node at op (map body_seen bodies.items) s) }
 {
     let count = bodies.len();
     if count == 0 {
@@ -128,7 +133,8 @@ fn extreme_of(alloc: Global, at: Place, op: Op, bodies: Vec<Body>) -> Result<InT
 
 /// The bodies of an `all`, as an array from 0.
 fn all_of(alloc: Global, at: Place, bodies: Vec<Body>) -> Result<InTerm, Stop>
-    ensures did { (s : State) → Does in_term_seen result s (forms.aggregated at All (map body_seen bodies.items) s) }
+    ensures did { (s : State) → Does in_term_seen result s
+        (forms.aggregated at All (map body_seen bodies.items) s) }
 {
     let terms = terms_in(alloc, bodies)?;
     Ok(InTerm::Several(TermCells::row(terms)))
@@ -136,7 +142,8 @@ fn all_of(alloc: Global, at: Place, bodies: Vec<Body>) -> Result<InTerm, Stop>
 
 /// The set of the keys whose body is 1.
 fn set_of(alloc: Global, at: Place, bodies: Vec<Body>) -> Result<InTerm, Stop>
-    ensures did { (s : State) → Does in_term_seen result s (forms.aggregated at SetOf (map body_seen bodies.items) s) }
+    ensures did { (s : State) → Does in_term_seen result s
+        (forms.aggregated at SetOf (map body_seen bodies.items) s) }
 {
     let keys = keys_in(alloc, &bodies)?;
     operation_of(alloc, at, Op::SetOf { keys }, bodies)
@@ -144,7 +151,8 @@ fn set_of(alloc: Global, at: Place, bodies: Vec<Body>) -> Result<InTerm, Stop>
 
 /// The set of the keys whose body is least.
 fn least_keys_of(alloc: Global, at: Place, bodies: Vec<Body>) -> Result<InTerm, Stop>
-    ensures did { (s : State) → Does in_term_seen result s (forms.aggregated at ArgMin (map body_seen bodies.items) s) }
+    ensures did { (s : State) → Does in_term_seen result s
+        (forms.aggregated at ArgMin (map body_seen bodies.items) s) }
 {
     let keys = keys_in(alloc, &bodies)?;
     operation_of(alloc, at, Op::ArgMin { keys }, bodies)
@@ -152,7 +160,8 @@ fn least_keys_of(alloc: Global, at: Place, bodies: Vec<Body>) -> Result<InTerm, 
 
 /// The set of the keys whose body is greatest.
 fn greatest_keys_of(alloc: Global, at: Place, bodies: Vec<Body>) -> Result<InTerm, Stop>
-    ensures did { (s : State) → Does in_term_seen result s (forms.aggregated at ArgMax (map body_seen bodies.items) s) }
+    ensures did { (s : State) → Does in_term_seen result s
+        (forms.aggregated at ArgMax (map body_seen bodies.items) s) }
 {
     let keys = keys_in(alloc, &bodies)?;
     operation_of(alloc, at, Op::ArgMax { keys }, bodies)

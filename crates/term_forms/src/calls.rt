@@ -28,7 +28,9 @@ pub fn builtin_term<O: Outside, W: Defining<O>>(
     arguments: &[Typed],
 ) -> Result<Built, Stop>
     requires defines { W.can_define inside.now }
-    ensures did { Does (λ t. t) result (state_seen s.new (O.told out.new)) (forms.builtin_term (level (W.code inside.now) (W.depth inside.now)) at function (row arguments.now) (state_seen s.old (O.told out.old))) }
+    ensures did { Does (λ t. t) result (state_seen s.new (O.told out.new))
+        (forms.builtin_term (level (W.code inside.now) (W.depth inside.now)) at function
+        (row arguments.now) (state_seen s.old (O.told out.old))) }
 {
     match function {
         Builtin::Count => count_call(s, out, inside, at, arguments),
@@ -45,7 +47,9 @@ fn count_call<O: Outside, W: Defining<O>>(
     arguments: &[Typed],
 ) -> Result<Built, Stop>
     requires defines { W.can_define inside.now }
-    ensures did { Does (λ t. t) result (state_seen s.new (O.told out.new)) (forms.builtin_term (level (W.code inside.now) (W.depth inside.now)) at Count (row arguments.now) (state_seen s.old (O.told out.old))) }
+    ensures did { Does (λ t. t) result (state_seen s.new (O.told out.new))
+        (forms.builtin_term (level (W.code inside.now) (W.depth inside.now)) at Count
+        (row arguments.now) (state_seen s.old (O.told out.old))) }
 {
     if arguments.len() != 2 {
         return plain_term(s, out, inside, at, Builtin::Count, arguments);
@@ -64,7 +68,9 @@ fn count_term<O: Outside, W: Defining<O>>(
     number: &Typed,
 ) -> Result<Built, Stop>
     requires defines { W.can_define inside.now }
-    ensures did { Does (λ t. t) result (state_seen s.new (O.told out.new)) (forms.count_term (level (W.code inside.now) (W.depth inside.now)) at (part array.now) (part number.now) (state_seen s.old (O.told out.old))) }
+    ensures did { Does (λ t. t) result (state_seen s.new (O.told out.new))
+        (forms.count_term (level (W.code inside.now) (W.depth inside.now)) at (part array.now)
+        (part number.now) (state_seen s.old (O.told out.old))) }
 {
     let place = array.place;
     let cells = term_cells(s, out, inside, array)?;
@@ -82,7 +88,9 @@ fn plain_term<O: Outside, W: Defining<O>>(
     arguments: &[Typed],
 ) -> Result<Built, Stop>
     requires defines { W.can_define inside.now }
-    ensures did { Does (λ t. t) result (state_seen s.new (O.told out.new)) (plain_call (level (W.code inside.now) (W.depth inside.now)) at function (row arguments.now) (state_seen s.old (O.told out.old))) }
+    ensures did { Does (λ t. t) result (state_seen s.new (O.told out.new))
+        (plain_call (level (W.code inside.now) (W.depth inside.now)) at function (row arguments.now)
+        (state_seen s.old (O.told out.old))) }
 {
     let terms = terms_of(s, out, inside, arguments);
     call_with(s, at, function, terms)

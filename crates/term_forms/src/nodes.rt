@@ -50,7 +50,8 @@ pub fn node_of_two(
     first: Built,
     second: Built,
 ) -> Result<Built, Stop>
-    ensures did { (s : states.State) → Does (λ t. t) result s (node_form at op (first ∷ second ∷ []) s) }
+    ensures did { (s : states.State) →
+        Does (λ t. t) result s (node_form at op (first ∷ second ∷ []) s) }
 {
     let mut terms = Vec::new(alloc);
     terms.push(first)?;
@@ -80,7 +81,8 @@ fn behind(terms: Vec<Built>, last: Built) -> Result<Vec<Built>, Stop>
 
 /// What a part stands for that is one term.
 pub fn as_in_term(term: Result<Built, Stop>) -> Result<InTerm, Stop>
-    ensures did { (s : states.State) → Follows (λ t. t) in_term_seen term result s s (λ t. give (Single t)) }
+    ensures did { (s : states.State) →
+        Follows (λ t. t) in_term_seen term result s s (λ t. give (Single t)) }
 {
     match term {
         Err(stop) => Err(stop),
@@ -90,7 +92,9 @@ pub fn as_in_term(term: Result<Built, Stop>) -> Result<InTerm, Stop>
 
 /// Terms in a row, as an array from 0.
 pub fn as_row(terms: Result<Vec<Built>, Stop>) -> Result<InTerm, Stop>
-    ensures did { (s : states.State) → Follows (λ terms. terms.items) in_term_seen terms result s s (λ ts. give (Several (term_row ts))) }
+    ensures did { (s : states.State) →
+        Follows (λ terms. terms.items) in_term_seen terms result s s (λ ts.
+        give (Several (term_row ts))) }
 {
     match terms {
         Err(stop) => Err(stop),
@@ -105,7 +109,8 @@ pub fn unary_of(
     operator: UnaryOperator,
     operand: Result<Built, Stop>,
 ) -> Result<Built, Stop>
-    ensures did { (s : states.State) → Follows (λ t. t) (λ t. t) operand result s s (unary_node at operator) }
+    ensures did { (s : states.State) →
+        Follows (λ t. t) (λ t. t) operand result s s (unary_node at operator) }
 {
     match operand {
         Err(stop) => Err(stop),
@@ -131,7 +136,8 @@ fn comparison_of(
     left: Built,
     right: Built,
 ) -> Result<Built, Stop>
-    ensures did { (s : states.State) → Does (λ t. t) result s (compared at comparison left right s) }
+    ensures did { (s : states.State) →
+        Does (λ t. t) result s (compared at comparison left right s) }
 {
     match comparison {
         Comparison::Equal => node_of_two(alloc, at, Op::Eq, left, right),
@@ -151,7 +157,8 @@ pub fn compare_with(
     left: Built,
     right: Result<Built, Stop>,
 ) -> Result<Built, Stop>
-    ensures did { (s : states.State) → Follows (λ t. t) (λ t. t) right result s s (compared at comparison left) }
+    ensures did { (s : states.State) →
+        Follows (λ t. t) (λ t. t) right result s s (compared at comparison left) }
 {
     match right {
         Err(stop) => Err(stop),
@@ -182,7 +189,8 @@ pub fn join_with(
     so_far: Built,
     operand: Result<Built, Stop>,
 ) -> Result<Built, Stop>
-    ensures did { (s : states.State) → Follows (λ t. t) (λ t. t) operand result s s (joined at operator so_far) }
+    ensures did { (s : states.State) →
+        Follows (λ t. t) (λ t. t) operand result s s (joined at operator so_far) }
 {
     match operand {
         Err(stop) => Err(stop),
@@ -196,7 +204,9 @@ pub fn join_all(
     operator: ChainOperator,
     operands: Result<Vec<Built>, Stop>,
 ) -> Result<Built, Stop>
-    ensures did { (s : states.State) → Follows (λ terms. terms.items) (λ t. t) operands result s s (node_form at (chain_op operator)) }
+    ensures did { (s : states.State) →
+        Follows (λ terms. terms.items) (λ t.
+        t) operands result s s (node_form at (chain_op operator)) }
 {
     match operands {
         Err(stop) => Err(stop),
@@ -230,7 +240,9 @@ fn counted(bounds: Bounds) -> Result<u32, Stop>
 /// The operation of the indices of an array and its cells. `NoMemory` where there are more than 32 bits count, which no
 /// array has; there is no other stop.
 fn grid_operation(cells: &TermCells) -> Result<Op, Stop>
-    ensures operation { IfOk result (λ op. op ≡ grid_op (term_cells_seen cells.now).rows (term_cells_seen cells.now).columns (term_cells_seen cells.now).terms) }
+    ensures operation { IfOk result (λ op.
+        op ≡ grid_op (term_cells_seen cells.now).rows (term_cells_seen cells.now).columns
+        (term_cells_seen cells.now).terms) }
     ensures memory { IfErr result (λ stop. stop ≡ NoMemory) }
 {
     match cells.columns {
@@ -241,7 +253,8 @@ fn grid_operation(cells: &TermCells) -> Result<Op, Stop>
 
 /// The same where there are columns, of so many cells; where there is none neither length counts.
 fn plane_operation(rows: Bounds, columns: Bounds, count: usize) -> Result<Op, Stop>
-    ensures operation { IfOk result (λ op. op ≡ plane_op (bounds_seen rows) (bounds_seen columns) count) }
+    ensures operation { IfOk result (λ op.
+        op ≡ plane_op (bounds_seen rows) (bounds_seen columns) count) }
     ensures memory { IfErr result (λ stop. stop ≡ NoMemory) }
 {
     if count == 0 {
@@ -270,7 +283,9 @@ fn element_of(
     cells: TermCells,
     index: Built,
 ) -> Result<Built, Stop>
-    ensures did { (told : Told) → Does (λ t. t) result (state_seen s.new told) (element_node at place (term_cells_seen cells) index (state_seen s.old told)) }
+    ensures did { (told : Told) → Does (λ t.
+        t) result (state_seen s.new told)
+        (element_node at place (term_cells_seen cells) index (state_seen s.old told)) }
 {
     let count = cells.terms.len();
     s.charge(count as u64, place)?;
@@ -287,7 +302,9 @@ pub fn element_with(
     cells: TermCells,
     index: Result<Built, Stop>,
 ) -> Result<Built, Stop>
-    ensures did { (told : Told) → Follows (λ t. t) (λ t. t) index result (state_seen s.old told) (state_seen s.new told) (element_node at place (term_cells_seen cells)) }
+    ensures did { (told : Told) → Follows (λ t. t) (λ t.
+        t) index result (state_seen s.old told) (state_seen s.new told)
+        (element_node at place (term_cells_seen cells)) }
 {
     match index {
         Err(stop) => Err(stop),
@@ -304,7 +321,9 @@ fn grid_of(
     row: Built,
     column: Built,
 ) -> Result<Built, Stop>
-    ensures did { (told : Told) → Does (λ t. t) result (state_seen s.new told) (grid_node at place (term_cells_seen cells) row column (state_seen s.old told)) }
+    ensures did { (told : Told) → Does (λ t.
+        t) result (state_seen s.new told)
+        (grid_node at place (term_cells_seen cells) row column (state_seen s.old told)) }
 {
     let count = cells.terms.len();
     s.charge(count as u64, place)?;
@@ -323,7 +342,8 @@ pub fn grid_with(
     row: Built,
     column: Result<Built, Stop>,
 ) -> Result<Built, Stop>
-    ensures did { (told : Told) → Follows (λ t. t) (λ t. t) column result (state_seen s.old told) (state_seen s.new told) (grid_node at place (term_cells_seen cells) row) }
+    ensures did { (told : Told) → Follows (λ t. t) (λ t. t) column result (state_seen s.old told)
+        (state_seen s.new told) (grid_node at place (term_cells_seen cells) row) }
 {
     match column {
         Err(stop) => Err(stop),
@@ -346,7 +366,9 @@ fn term_in(terms: Vec<Built>, cell: u128) -> Built
 
 /// The term at an index. `OutOfRange` at this place exactly where there is no such cell.
 fn cell_at(at: Place, cells: TermCells, cell: Option<u128>) -> Result<Built, Stop>
-    ensures did { (s : states.State) → Does (λ t. t) result s (then_do (found_at at cell s) (λ k. give (term_at (term_cells_seen cells) k))) }
+    ensures did { (s : states.State) →
+        Does (λ t. t) result s (then_do (found_at at cell s) (λ k.
+        give (term_at (term_cells_seen cells) k))) }
 {
     match cell {
         None => Err(Stop::Fault(at, RunFault::OutOfRange)),
@@ -356,7 +378,8 @@ fn cell_at(at: Place, cells: TermCells, cell: Option<u128>) -> Result<Built, Sto
 
 /// `a[i]`, of the cells and an index that is a number.
 pub fn pick(at: Place, cells: TermCells, index: Result<i64, Stop>) -> Result<Built, Stop>
-    ensures did { (s : states.State) → Follows (λ z. z) (λ t. t) index result s s (picked at (term_cells_seen cells)) }
+    ensures did { (s : states.State) →
+        Follows (λ z. z) (λ t. t) index result s s (picked at (term_cells_seen cells)) }
 {
     match index {
         Err(stop) => Err(stop),
@@ -374,7 +397,8 @@ pub fn pick_twice(
     row: i64,
     column: Result<i64, Stop>,
 ) -> Result<Built, Stop>
-    ensures did { (s : states.State) → Follows (λ z. z) (λ t. t) column result s s (picked_twice at (term_cells_seen cells) row) }
+    ensures did { (s : states.State) →
+        Follows (λ z. z) (λ t. t) column result s s (picked_twice at (term_cells_seen cells) row) }
 {
     match column {
         Err(stop) => Err(stop),
@@ -393,7 +417,9 @@ fn count_of(
     cells: TermCells,
     number: Built,
 ) -> Result<Built, Stop>
-    ensures did { (told : Told) → Does (λ t. t) result (state_seen s.new told) (count_node at place (term_cells_seen cells) number (state_seen s.old told)) }
+    ensures did { (told : Told) → Does (λ t.
+        t) result (state_seen s.new told)
+        (count_node at place (term_cells_seen cells) number (state_seen s.old told)) }
 {
     s.charge(1, at)?;
     let count = cells.terms.len();
@@ -410,7 +436,8 @@ pub fn count_with(
     cells: TermCells,
     number: Result<Built, Stop>,
 ) -> Result<Built, Stop>
-    ensures did { (told : Told) → Follows (λ t. t) (λ t. t) number result (state_seen s.old told) (state_seen s.new told) (count_node at place (term_cells_seen cells)) }
+    ensures did { (told : Told) → Follows (λ t. t) (λ t. t) number result (state_seen s.old told)
+        (state_seen s.new told) (count_node at place (term_cells_seen cells)) }
 {
     match number {
         Err(stop) => Err(stop),
@@ -420,7 +447,8 @@ pub fn count_with(
 
 /// A function of the language, of its arguments; 0 of one that no term has.
 fn function_of(at: Place, function: Builtin, terms: Vec<Built>) -> Result<Built, Stop>
-    ensures did { (s : states.State) → Does (λ t. t) result s (forms.builtin_node at function terms.items s) }
+    ensures did { (s : states.State) →
+        Does (λ t. t) result s (forms.builtin_node at function terms.items s) }
 {
     match function {
         Builtin::Abs => node_of(at, Op::Abs, terms),
@@ -450,7 +478,9 @@ fn charged_function(
     function: Builtin,
     terms: Vec<Built>,
 ) -> Result<Built, Stop>
-    ensures did { (told : Told) → Does (λ t. t) result (state_seen s.new told) (called_node at function terms.items (state_seen s.old told)) }
+    ensures did { (told : Told) → Does (λ t.
+        t) result (state_seen s.new told)
+        (called_node at function terms.items (state_seen s.old told)) }
 {
     s.charge(1, at)?;
     function_of(at, function, terms)
@@ -463,7 +493,9 @@ pub fn call_with(
     function: Builtin,
     arguments: Result<Vec<Built>, Stop>,
 ) -> Result<Built, Stop>
-    ensures did { (told : Told) → Follows (λ terms. terms.items) (λ t. t) arguments result (state_seen s.old told) (state_seen s.new told) (called_node at function) }
+    ensures did { (told : Told) → Follows (λ terms. terms.items) (λ t.
+        t) arguments result (state_seen s.old told) (state_seen s.new told)
+        (called_node at function) }
 {
     match arguments {
         Err(stop) => Err(stop),

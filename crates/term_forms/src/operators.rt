@@ -27,7 +27,9 @@ pub fn unary_term<O: Outside, W: Defining<O>>(
     operand: &Typed,
 ) -> Result<Built, Stop>
     requires defines { W.can_define inside.now }
-    ensures did { Does (λ t. t) result (state_seen s.new (O.told out.new)) (forms.unary_term (level (W.code inside.now) (W.depth inside.now)) at operator (part operand.now) (state_seen s.old (O.told out.old))) }
+    ensures did { Does (λ t. t) result (state_seen s.new (O.told out.new))
+        (forms.unary_term (level (W.code inside.now) (W.depth inside.now)) at operator
+        (part operand.now) (state_seen s.old (O.told out.old))) }
 {
     let operand = single_term(s, out, inside, operand);
     unary_of(s.alloc, at, operator, operand)
@@ -45,7 +47,9 @@ pub fn compare_term<O: Outside, W: Defining<O>>(
     right: &Typed,
 ) -> Result<Built, Stop>
     requires defines { W.can_define inside.now }
-    ensures did { Does (λ t. t) result (state_seen s.new (O.told out.new)) (forms.compare_term (level (W.code inside.now) (W.depth inside.now)) at comparison (part left.now) (part right.now) (state_seen s.old (O.told out.old))) }
+    ensures did { Does (λ t. t) result (state_seen s.new (O.told out.new))
+        (forms.compare_term (level (W.code inside.now) (W.depth inside.now)) at comparison
+        (part left.now) (part right.now) (state_seen s.old (O.told out.old))) }
 {
     let left = single_term(s, out, inside, left)?;
     let right = single_term(s, out, inside, right);
@@ -62,7 +66,9 @@ pub fn chain_term<O: Outside, W: Defining<O>>(
     links: &[Link],
 ) -> Result<Built, Stop>
     requires defines { W.can_define inside.now }
-    ensures did { Does (λ t. t) result (state_seen s.new (O.told out.new)) (forms.chain_term (level (W.code inside.now) (W.depth inside.now)) (part first.now) (links_seen links.now) (state_seen s.old (O.told out.old))) }
+    ensures did { Does (λ t. t) result (state_seen s.new (O.told out.new))
+        (forms.chain_term (level (W.code inside.now) (W.depth inside.now)) (part first.now)
+        (links_seen links.now) (state_seen s.old (O.told out.old))) }
 {
     let term = single_term(s, out, inside, first)?;
     links_term(s, out, inside, links, term)
@@ -78,7 +84,9 @@ fn links_term<O: Outside, W: Defining<O>>(
     first: Built,
 ) -> Result<Built, Stop>
     requires defines { W.can_define inside.now }
-    ensures did { Does (λ t. t) result (state_seen s.new (O.told out.new)) (forms.links_term (level (W.code inside.now) (W.depth inside.now)) (links_seen links.now) first (state_seen s.old (O.told out.old))) }
+    ensures did { Does (λ t. t) result (state_seen s.new (O.told out.new))
+        (forms.links_term (level (W.code inside.now) (W.depth inside.now))
+        (links_seen links.now) first (state_seen s.old (O.told out.old))) }
 {
     match links.first() {
         None => joined_term(s, out, inside, links, first),
@@ -103,7 +111,9 @@ fn joined_term<O: Outside, W: Defining<O>>(
     first: Built,
 ) -> Result<Built, Stop>
     requires defines { W.can_define inside.now }
-    ensures did { Does (λ t. t) result (state_seen s.new (O.told out.new)) (forms.joined_form (level (W.code inside.now) (W.depth inside.now)) (links_seen links.now) first (state_seen s.old (O.told out.old))) }
+    ensures did { Does (λ t. t) result (state_seen s.new (O.told out.new))
+        (forms.joined_form (level (W.code inside.now) (W.depth inside.now))
+        (links_seen links.now) first (state_seen s.old (O.told out.old))) }
 {
     let mut term = first;
     for link in links {
@@ -140,7 +150,9 @@ fn junction_term<O: Outside, W: Defining<O>>(
     first: Built,
 ) -> Result<Built, Stop>
     requires defines { W.can_define inside.now }
-    ensures did { Does (λ t. t) result (state_seen s.new (O.told out.new)) (forms.junction_form (level (W.code inside.now) (W.depth inside.now)) at operator (links_seen links.now) first (state_seen s.old (O.told out.old))) }
+    ensures did { Does (λ t. t) result (state_seen s.new (O.told out.new))
+        (forms.junction_form (level (W.code inside.now) (W.depth inside.now)) at operator
+        (links_seen links.now) first (state_seen s.old (O.told out.old))) }
 {
     let operands = operands_of(s, out, inside, links, first);
     join_all(at, operator, operands)
@@ -155,7 +167,9 @@ fn operands_of<O: Outside, W: Defining<O>>(
     first: Built,
 ) -> Result<Vec<Built>, Stop>
     requires defines { W.can_define inside.now }
-    ensures did { Does (λ terms. terms.items) result (state_seen s.new (O.told out.new)) (forms.operands_form (level (W.code inside.now) (W.depth inside.now)) (links_seen links.now) (first ∷ []) (state_seen s.old (O.told out.old))) }
+    ensures did { Does (λ terms. terms.items) result (state_seen s.new (O.told out.new))
+        (forms.operands_form (level (W.code inside.now) (W.depth inside.now)) (links_seen links.now)
+        (first ∷ []) (state_seen s.old (O.told out.old))) }
 {
     let mut terms = Vec::new(s.alloc);
     terms.push(first)?;

@@ -21,7 +21,9 @@ pub fn terms_of<O: Outside, W: Defining<O>>(
     es: &[Typed],
 ) -> Result<Vec<Built>, Stop>
     requires defines { W.can_define inside.now }
-    ensures did { Does (λ terms. terms.items) result (state_seen s.new (O.told out.new)) (parts.each_term (level (W.code inside.now) (W.depth inside.now)) (row es.now) [] (state_seen s.old (O.told out.old))) }
+    ensures did { Does (λ terms. terms.items) result (state_seen s.new (O.told out.new))
+        (parts.each_term (level (W.code inside.now) (W.depth inside.now)) (row es.now) []
+        (state_seen s.old (O.told out.old))) }
 {
     let mut terms = Vec::new(s.alloc);
     for e in es {

@@ -37,7 +37,9 @@ pub fn constant_term<O: Outside, W: Defining<O>>(
     requires ready { W.is_ready inside.now }
     requires defines { W.can_define inside.now }
     requires same_code { W.code inside.now ≡ code_seen code.now }
-    ensures did { Does in_term_seen result (state_seen s.new (O.told out.new)) (constant_form (W.code inside.now) (level (W.code inside.now) (W.depth inside.now)) at kind (shape_of form.now) (state_seen s.old (O.told out.old))) }
+    ensures did { Does in_term_seen result (state_seen s.new (O.told out.new))
+        (constant_form (W.code inside.now) (level (W.code inside.now) (W.depth inside.now)) at kind
+        (shape_of form.now) (state_seen s.old (O.told out.old))) }
 {
     let value = evaluate_form(s, out, inside, code, at, kind, form);
     as_standing(s, value)
@@ -54,7 +56,9 @@ pub fn moving_term<O: Outside, W: Defining<O>>(
 ) -> Result<InTerm, Stop>
     requires ready { W.is_ready inside.now }
     requires defines { W.can_define inside.now }
-    ensures did { Does in_term_seen result (state_seen s.new (O.told out.new)) (forms.moving_term (level (W.code inside.now) (W.depth inside.now)) at (shape_of form.now) (state_seen s.old (O.told out.old))) }
+    ensures did { Does in_term_seen result (state_seen s.new (O.told out.new))
+        (forms.moving_term (level (W.code inside.now) (W.depth inside.now)) at (shape_of form.now)
+        (state_seen s.old (O.told out.old))) }
 {
     match form {
         Form::Name(slot) => name_term(s, *slot),

@@ -32,7 +32,8 @@ pub fn push_variables(term: &Term, into: &mut Vec<u32>) -> Result<(), NoMemory>
 /// Notes what was posted, where it is a definition.
 fn note(defs: &[Definition], table: &mut Vec<Option<u32>>, posted: Posted)
     ensures count { length table.new.items ≡ length table.old.items }
-    ensures each { (i : ℕ) (so_far : Option ℕ) → slice_get table.old.items i ≡ Some so_far → slice_get table.new.items i ≡ Some (note defs.now i so_far posted) }
+    ensures each { (i : ℕ) (so_far : Option ℕ) → slice_get table.old.items i ≡ Some so_far →
+        slice_get table.new.items i ≡ Some (note defs.now i so_far posted) }
 {
     let Posted::Define(number) = posted else {
         return;
@@ -49,7 +50,8 @@ fn note(defs: &[Definition], table: &mut Vec<Option<u32>>, posted: Posted)
 /// The number of the definition of each variable.
 pub fn definitions_of(alloc: Global, model: &Model) -> Result<Vec<Option<u32>>, NoMemory>
     ensures count { IfOk result (λ v. length v.items ≡ length model.now.vars.items) }
-    ensures each { IfOk result (λ v. (i : ℕ) → i < length model.now.vars.items → slice_get v.items i ≡ Some (definition_of model.now i)) }
+    ensures each { IfOk result (λ v. (i : ℕ) → i < length model.now.vars.items →
+        slice_get v.items i ≡ Some (definition_of model.now i)) }
 {
     let mut table = vec![in alloc; None; model.vars.len()]?;
     for turn in 0..model.posted.len() {
@@ -83,7 +85,8 @@ pub fn dependencies_of(
     defs: &[Definition],
     table: &[Option<u32>],
 ) -> Result<Vec<Vec<u32>>, NoMemory>
-    ensures { IfOk result (λ v. map (λ names. names.items) v.items ≡ map (named_by defs.now) table.now) }
+    ensures { IfOk result (λ v. map (λ names. names.items) v.items ≡
+        map (named_by defs.now) table.now) }
 {
     let mut lists = Vec::new(alloc);
     for entry in table {

@@ -68,7 +68,8 @@ struct Parts<'a> {
 
 /// The operation and the arguments of a term that is a node.
 fn parts_of(term: &Term) -> Option<Parts<'_>>
-    ensures { (op : Op) (tests : List (Term → Bool)) → is_node (out-Term term.now) op tests ≡ is_node_of result op tests }
+    ensures { (op : Op) (tests : List (Term → Bool)) →
+        is_node (out-Term term.now) op tests ≡ is_node_of result op tests }
 {
     match term {
         Term::Const(_) => None,

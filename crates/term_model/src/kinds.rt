@@ -44,14 +44,16 @@ fn are_numbers(kinds: &[VarKind]) -> bool
 
 /// Whether the kinds are those of so many numbers.
 fn are_so_many(kinds: &[VarKind], count: usize) -> bool
-    ensures { result ≡ (all_numbers (map kind_of_var kinds.now) && (length (map kind_of_var kinds.now) == count)) }
+    ensures { result ≡ (all_numbers (map kind_of_var kinds.now) &&
+        (length (map kind_of_var kinds.now) == count)) }
 {
     are_numbers(kinds) && kinds.len() == count
 }
 
 /// Whether the kinds are those of numbers, of one at least.
 fn are_some_numbers(kinds: &[VarKind]) -> bool
-    ensures { result ≡ (all_numbers (map kind_of_var kinds.now) && nat_lt 0 (length (map kind_of_var kinds.now))) }
+    ensures { result ≡ (all_numbers (map kind_of_var kinds.now) && nat_lt 0
+        (length (map kind_of_var kinds.now))) }
 {
     are_numbers(kinds) && kinds.len() > 0
 }
@@ -225,7 +227,8 @@ pub fn kind_within(
 #[tactic(auto, using(crate::proofs::KindSteps::kind_found))]
 pub fn term_kind(alloc: Global, vars: &[VarDecl], term: &Term) -> Result<Option<VarKind>, NoMemory>
     requires { depth_of term.now ≤ MAX_TERM_DEPTH }
-    ensures { IfOk result (λ kind. option_map kind_of_var kind ≡ kind_of_term (kinds_in vars.now) term.now) }
+    ensures { IfOk result (λ kind. option_map kind_of_var kind ≡
+        kind_of_term (kinds_in vars.now) term.now) }
 {
     kind_within(alloc, vars, MAX_TERM_DEPTH as usize, term)
 }

@@ -25,9 +25,15 @@ pub fn equal_terms_law()
 /// is the first of them with a property that equal terms share is the first one posted, so that each stands where
 /// it was posted first. A term that was posted before, at whatever place, adds none.
 pub fn distinct_subterms_law()
-    ensures all { (M : Model) (t : Term) → list_any (same_term t) (distinct_subterms M) ≡ list_any (same_term t) (subterms_posted M M.posted.items) }
-    ensures apart { (M : Model) (i j : ℕ) (t u : Term) → slice_get (distinct_subterms M) i ≡ Some t → slice_get (distinct_subterms M) j ≡ Some u → same_term t u ≡ true → i ≡ j }
-    ensures first { (M : Model) (p : Term → Bool) → ((t u : Term) → same_term t u ≡ true → p t ≡ p u) → find p (distinct_subterms M) ≡ find p (subterms_posted M M.posted.items) }
+    ensures all { (M : Model) (t : Term) →
+        list_any (same_term t) (distinct_subterms M) ≡
+        list_any (same_term t) (subterms_posted M M.posted.items) }
+    ensures apart { (M : Model) (i j : ℕ) (t u : Term) →
+        slice_get (distinct_subterms M) i ≡ Some t → slice_get (distinct_subterms M) j ≡ Some u →
+        same_term t u ≡ true → i ≡ j }
+    ensures first { (M : Model) (p : Term → Bool) →
+        ((t u : Term) → same_term t u ≡ true → p t ≡ p u) →
+        find p (distinct_subterms M) ≡ find p (subterms_posted M M.posted.items) }
     ensures again { (M : Model) (posted : List Posted) (k : ℕ) (p q : Posted) (t u : Term) → slice_get posted k ≡ Some q → term_posted M q ≡ Some t → term_posted M p ≡ Some u →
         same_term t u ≡ true → once (subterms_posted M (posted ++ p ∷ [])) ≡ once (subterms_posted M posted) }
 {}
@@ -35,5 +41,6 @@ pub fn distinct_subterms_law()
 /// A well formed model is acyclic exactly where no variable depends on itself, also through others.
 pub fn acyclic_law()
     ensures ranked { (M : Model) (i : ℕ) → IsAcyclic M → DependsOnItself M i → ⊥ }
-    ensures none { (M : Model) → IsWellFormed M → ((i : ℕ) → DependsOnItself M i → ⊥) → IsAcyclic M }
+    ensures none { (M : Model) → IsWellFormed M → ((i : ℕ) → DependsOnItself M i → ⊥) →
+        IsAcyclic M }
 {}

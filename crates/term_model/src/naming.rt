@@ -52,7 +52,8 @@ fn names_each_once(alloc: Global, numbers: &[u32], count: usize) -> Result<bool,
 
 /// The number of a definition that was posted, behind those in the list.
 fn push_define(posted: Posted, into: &mut Vec<u32>) -> Result<(), NoMemory>
-    ensures { OnOk result (into.new.items ≡ into.old.items ++ filter_map define_number (posted ∷ [])) }
+    ensures { OnOk result (into.new.items ≡
+        into.old.items ++ filter_map define_number (posted ∷ [])) }
 {
     match posted {
         Posted::Define(number) => Ok(into.push(number)?),
@@ -73,7 +74,9 @@ fn define_numbers(alloc: Global, model: &Model) -> Result<Vec<u32>, NoMemory>
 
 /// Whether each definition was posted once, and no other.
 pub(crate) fn are_defined_once(alloc: Global, model: &Model) -> Result<bool, NoMemory>
-    ensures { IfOk result (λ is. OnTrue is (NamesEachOnce (filter_map define_number model.now.posted.items) (length model.now.defs.items))) }
+    ensures { IfOk result (λ is. OnTrue is
+        (NamesEachOnce (filter_map define_number model.now.posted.items)
+        (length model.now.defs.items))) }
 {
     let numbers = define_numbers(alloc, model)?;
     names_each_once(alloc, &numbers, model.defs.len())
@@ -108,7 +111,8 @@ pub fn push_users(term: &Term, into: &mut Vec<u32>) -> Result<(), NoMemory>
 
 /// Puts the numbers of the users' constraints in what was posted behind those in the list.
 fn push_users_posted(model: &Model, posted: Posted, into: &mut Vec<u32>) -> Result<(), NoMemory>
-    ensures { OnOk result (into.new.items ≡ into.old.items ++ users_where (term_posted model.now posted)) }
+    ensures { OnOk result (into.new.items ≡
+        into.old.items ++ users_where (term_posted model.now posted)) }
 {
     match term_posted(model, posted) {
         Some(term) => push_users(term, into),
@@ -129,7 +133,9 @@ fn user_numbers(alloc: Global, model: &Model) -> Result<Vec<u32>, NoMemory>
 
 /// Whether the users' constraints have each number below their count once.
 pub(crate) fn are_users_once(alloc: Global, model: &Model) -> Result<bool, NoMemory>
-    ensures { IfOk result (λ is. OnTrue is (NamesEachOnce (users_posted model.now model.now.posted.items) (length (users_posted model.now model.now.posted.items)))) }
+    ensures { IfOk result (λ is. OnTrue is
+        (NamesEachOnce (users_posted model.now model.now.posted.items)
+        (length (users_posted model.now model.now.posted.items)))) }
 {
     let numbers = user_numbers(alloc, model)?;
     names_each_once(alloc, &numbers, numbers.len())

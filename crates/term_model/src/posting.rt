@@ -34,7 +34,8 @@ pub struct Posting {
 /// What was posted, where it is a member on this side.
 pub fn posting_of(side: Side, posted: Posted) -> Option<Posting>
     ensures number { (k : ℕ) → number_by side k posted ≡ number_in k result }
-    ensures there { (count : ℕ) → ForSome result (λ posting. posting.total < count) → IsThere side count posted }
+    ensures there { (count : ℕ) → ForSome result (λ posting. posting.total < count) →
+        IsThere side count posted }
 {
     match (side, posted) {
         (Side::Systems, Posted::Constrain { system, member }) => Some(Posting {
@@ -51,7 +52,8 @@ pub fn posting_of(side: Side, posted: Posted) -> Option<Posting>
 
 /// The term of a member of one of these systems or objectives.
 fn member_term(totals: &[Total], number: u32, member: u32) -> Option<&Term>
-    ensures { option_map (λ t. t.now) result ≡ option_map (λ m. m.term) (member_at totals.now number member) }
+    ensures { option_map (λ t. t.now) result ≡
+        option_map (λ m. m.term) (member_at totals.now number member) }
 {
     let total = totals.get(number as usize)?;
     let member = total.members.get(member as usize)?;

@@ -121,7 +121,9 @@ fn count(counts: &mut Vec<usize>, posting: Posting) -> bool
 #[tactic(auto, using(crate::proofs::UsableLaws::counts_more, crate::proofs::UsableLaws::counts_same, crate::proofs::UsableLaws::counted_there, crate::proofs::UsableLaws::none_there))]
 fn count_posted(counts: &mut Vec<usize>, side: Side, posted: Posted) -> bool
     ensures length { length counts.new.items ≡ length counts.old.items }
-    ensures counted { OnTrue result ((so_far : List Posted) → AreCounts side so_far counts.old.items → AreCounts side (so_far ++ posted ∷ []) counts.new.items) }
+    ensures counted { OnTrue result ((so_far : List Posted) →
+        AreCounts side so_far counts.old.items →
+        AreCounts side (so_far ++ posted ∷ []) counts.new.items) }
     ensures there { OnTrue result (IsThere side (length counts.old.items) posted) }
 {
     match posting_of(side, posted) {
@@ -157,7 +159,8 @@ fn are_all_counted(counts: &[usize], totals: &[Total]) -> bool
 #[tactic(auto, using(crate::proofs::UsableLaws::counts_none, crate::proofs::UsableLaws::counted_all))]
 fn are_posted_in_order(alloc: Global, model: &Model, side: Side) -> Result<bool, NoMemory>
     ensures posted { IfOk result (λ is. OnTrue is ((k : ℕ) (total : Total) → slice_get (totals_by model.now side) k ≡ Some total → filter_map (number_by side k) model.now.posted.items ≡ range_with_len 0 (length total.members.items))) }
-    ensures there { IfOk result (λ is. OnTrue is (All (IsThere side (length (totals_by model.now side))) model.now.posted.items)) }
+    ensures there { IfOk result (λ is.
+        OnTrue is (All (IsThere side (length (totals_by model.now side))) model.now.posted.items)) }
 {
     let totals = totals_by(model, side);
     let mut counts = vec![in alloc; 0; totals.len()]?;

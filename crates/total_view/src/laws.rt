@@ -17,9 +17,13 @@ ghost use Rattle.comet_meaning.specs.OfViolationShares.VariableViolations.{varia
 /// Systems and objectives have the values, the deltas and the variables' violations that they have where it isn't told
 /// where lists lie.
 pub fn plain_totals_law()
-    ensures value { (users : ℕ → NumberRule) (M : Model) (a : List ℤ) (whole : Whole) → value_of users (plain_model M) a whole ≡ value_of users M a whole }
-    ensures delta { (users : ℕ → NumberRule) (M : Model) (a : List ℤ) (whole : Whole) (move : Move) → delta_of users (plain_model M) a whole move ≡ delta_of users M a whole move }
-    ensures violations { (users : ℕ → NumberRule) (M : Model) (a : List ℤ) (s x : ℕ) → variable_violations_of users (plain_model M) a s x ≡ variable_violations_of users M a s x }
+    ensures value { (users : ℕ → NumberRule) (M : Model) (a : List ℤ) (whole : Whole) →
+        value_of users (plain_model M) a whole ≡ value_of users M a whole }
+    ensures delta { (users : ℕ → NumberRule) (M : Model) (a : List ℤ) (whole : Whole)
+        (move : Move) → delta_of users (plain_model M) a whole move ≡
+        delta_of users M a whole move }
+    ensures violations { (users : ℕ → NumberRule) (M : Model) (a : List ℤ) (s x : ℕ) →
+        variable_violations_of users (plain_model M) a s x ≡ variable_violations_of users M a s x }
 {}
 
 /// A model that has one more system or objective has a twin that has it, too.

@@ -33,7 +33,8 @@ pub fn make_array(
     dimensions: Vec<Dimension>,
     start: Option<Start>,
 ) -> Action
-    ensures { deed_of result ≡ deeds.declaring_array slot kind (map dimension_of dimensions.items) (option_map start_of start) }
+    ensures { deed_of result ≡ deeds.declaring_array slot kind (map dimension_of dimensions.items)
+        (option_map start_of start) }
 {
     Action::DeclareArray {
         slot,

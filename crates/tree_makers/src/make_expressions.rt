@@ -34,7 +34,8 @@ pub fn make_compare(
     left: Typed,
     right: Typed,
 ) -> Result<Form, Stop>
-    ensures { Makes shape_of result (shapes.compare comparison (whole (seen left)) (whole (seen right))) }
+    ensures { Makes shape_of result (shapes.compare comparison (whole (seen left))
+        (whole (seen right))) }
 {
     let (left, right) = box_both(alloc, left, right)?;
     Ok(Form::Compare {
@@ -59,7 +60,8 @@ pub fn make_conditional(
     then: Typed,
     otherwise: Typed,
 ) -> Result<Form, Stop>
-    ensures { Makes shape_of result (shapes.conditional (whole (seen test)) (whole (seen «then»)) (whole (seen otherwise))) }
+    ensures { Makes shape_of result (shapes.conditional (whole (seen test)) (whole (seen «then»))
+        (whole (seen otherwise))) }
 {
     let (test, then, otherwise) = box_three(alloc, test, then, otherwise)?;
     Ok(Form::Conditional {
@@ -79,7 +81,8 @@ pub fn make_index(alloc: Global, array: Typed, index: Typed) -> Result<Form, Sto
 
 #[tactic(auto, unfolding(checked_tree::specs::Shape::shape_of))]
 pub fn make_cell(alloc: Global, grid: Typed, row: Typed, column: Typed) -> Result<Form, Stop>
-    ensures { Makes shape_of result (shapes.cell (whole (seen grid)) (whole (seen row)) (whole (seen column))) }
+    ensures { Makes shape_of result (shapes.cell (whole (seen grid)) (whole (seen row))
+        (whole (seen column))) }
 {
     let (grid, row, column) = box_three(alloc, grid, row, column)?;
     Ok(Form::Cell { grid, row, column })
@@ -92,7 +95,8 @@ pub fn make_builtin(
     left: Typed,
     right: Typed,
 ) -> Result<Form, Stop>
-    ensures { Makes shape_of result (shapes.builtin builtin (wholes (seen left ∷ seen right ∷ []))) }
+    ensures { Makes shape_of result (shapes.builtin builtin
+        (wholes (seen left ∷ seen right ∷ []))) }
 {
     let arguments = list_both(alloc, left, right)?;
     Ok(Form::Builtin { builtin, arguments })
@@ -121,7 +125,8 @@ pub fn make_truth(value: bool) -> Form
 
 #[tactic(auto, unfolding(checked_tree::specs::Shape::shape_of, checked_tree::specs::Shape::shape_of_link))]
 pub fn make_chain(alloc: Global, first: Typed, links: Vec<Link>) -> Result<Form, Stop>
-    ensures { Makes shape_of result (shapes.chain (whole (seen first)) (rows (map shape_of_link links.items))) }
+    ensures { Makes shape_of result (shapes.chain (whole (seen first))
+        (rows (map shape_of_link links.items))) }
 {
     let first = Box::new(alloc, first)?;
     Ok(Form::Chain { first, links })
@@ -166,7 +171,8 @@ pub fn make_method(
     object: Typed,
     arguments: Vec<Typed>,
 ) -> Result<Form, Stop>
-    ensures { Makes shape_of result (shapes.method method (whole (seen object)) (wholes (map seen arguments.items))) }
+    ensures { Makes shape_of result (shapes.method method (whole (seen object))
+        (wholes (map seen arguments.items))) }
 {
     let object = Box::new(alloc, object)?;
     Ok(Form::Method {
@@ -224,7 +230,9 @@ pub fn make_aggregate(
     condition: Option<Typed>,
     body: Typed,
 ) -> Result<Form, Stop>
-    ensures { Makes shape_of result (shapes.aggregate aggregate (rows (map shape_of_generator generators.items)) (optional whole (option_map seen condition)) (whole (seen body))) }
+    ensures { Makes shape_of result (shapes.aggregate aggregate
+        (rows (map shape_of_generator generators.items))
+        (optional whole (option_map seen condition)) (whole (seen body))) }
 {
     let (condition, body) = box_beside(alloc, condition, body)?;
     let condition = boxed(alloc, condition)?;

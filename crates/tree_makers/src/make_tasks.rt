@@ -54,7 +54,8 @@ pub fn make_if(place: Place, test: Typed, then: Box<Task>) -> Task
 
 #[tactic(auto, unfolding(checked_tree::specs::Tasks::work_of_act, checked_tree::specs::Tasks::work_of))]
 pub fn make_if_else(place: Place, test: Typed, then: Box<Task>, otherwise: Box<Task>) -> Task
-    ensures { work_of result ≡ works.task place (works.when_else (seen test) (work_of «then».value) (work_of otherwise.value)) }
+    ensures { work_of result ≡ works.task place
+        (works.when_else (seen test) (work_of «then».value) (work_of otherwise.value)) }
 {
     Task {
         place,
@@ -84,7 +85,9 @@ pub fn make_for(
     step: Option<Action>,
     body: Box<Task>,
 ) -> Task
-    ensures { work_of result ≡ works.task place (works.counting (option_map counter_of counter) (option_map seen test) (option_map deed_of step) (work_of body.value)) }
+    ensures { work_of result ≡ works.task place
+        (works.counting (option_map counter_of counter) (option_map seen test)
+        (option_map deed_of step) (work_of body.value)) }
 {
     Task {
         place,
@@ -104,7 +107,9 @@ pub fn make_for_all(
     condition: Option<Typed>,
     body: Box<Task>,
 ) -> Task
-    ensures { work_of result ≡ works.task place (works.for_all (map shape_of_generator generators.items) (option_map seen condition) (work_of body.value)) }
+    ensures { work_of result ≡ works.task place
+        (works.for_all (map shape_of_generator generators.items) (option_map seen condition)
+        (work_of body.value)) }
 {
     Task {
         place,
@@ -123,7 +128,9 @@ pub fn make_select(
     condition: Option<Typed>,
     body: Box<Task>,
 ) -> Task
-    ensures { work_of result ≡ works.task place (works.selecting (map shape_of_generator generators.items) (option_map seen condition) (work_of body.value)) }
+    ensures { work_of result ≡ works.task place
+        (works.selecting (map shape_of_generator generators.items) (option_map seen condition)
+        (work_of body.value)) }
 {
     Task {
         place,
@@ -144,7 +151,9 @@ pub fn make_select_by(
     key: Typed,
     body: Box<Task>,
 ) -> Task
-    ensures { work_of result ≡ works.task place (works.selecting_by extreme (map shape_of_generator generators.items) (option_map seen condition) (seen key) (work_of body.value)) }
+    ensures { work_of result ≡ works.task place
+        (works.selecting_by extreme (map shape_of_generator generators.items)
+        (option_map seen condition) (seen key) (work_of body.value)) }
 {
     Task {
         place,
@@ -166,7 +175,8 @@ pub fn make_neighbor(
     selector: Slot,
     body: Box<Task>,
 ) -> Result<Task, Stop>
-    ensures { Makes work_of result (works.task place (works.submitting (seen key) selector (work_of body.value))) }
+    ensures { Makes work_of result (works.task place
+        (works.submitting (seen key) selector (work_of body.value))) }
 {
     let (key, body) = share_beside(alloc, key, body)?;
     Ok(Task {
@@ -187,7 +197,8 @@ pub fn make_whenever(
     names: Option<EventSlots>,
     body: Box<Task>,
 ) -> Result<Task, Stop>
-    ensures { Makes work_of result (works.task place (works.watching (seen variable) names (work_of body.value))) }
+    ensures { Makes work_of result (works.task place
+        (works.watching (seen variable) names (work_of body.value))) }
 {
     let (variable, body) = share_beside(alloc, variable, body)?;
     Ok(Task {
@@ -212,7 +223,8 @@ pub fn make_with(place: Place, mode: WithMode, solver: Slot, body: Box<Task>) ->
 
 #[tactic(auto, unfolding(checked_tree::specs::Tasks::work_of_act, checked_tree::specs::Tasks::work_of))]
 pub fn make_parall(place: Place, slot: Slot, domain: Typed, body: Box<Task>) -> Task
-    ensures { work_of result ≡ works.task place (works.in_threads slot (seen domain) (work_of body.value)) }
+    ensures { work_of result ≡ works.task place
+        (works.in_threads slot (seen domain) (work_of body.value)) }
 {
     Task {
         place,

@@ -77,7 +77,8 @@ pub fn suits(asked: Asked, note: Note) -> bool
 }
 
 fn all_suit_of(wants: &[Want], values: &[Typed]) -> bool
-    ensures { result ≡ list_all (λ (w, e). calls.suits w.asked (calls.note_of (seen e))) (zip wants.now values.now) }
+    ensures { result ≡ list_all (λ (w, e). calls.suits w.asked (calls.note_of (seen e)))
+        (zip wants.now values.now) }
 {
     wants
         .iter()
@@ -107,7 +108,8 @@ pub fn any_unfixed(wants: &[Want], values: &[Typed]) -> bool
 }
 
 fn all_fit_of(kinds: &[Kind], values: &[Typed]) -> bool
-    ensures { result ≡ list_all (λ (k, e). kinds_of.fits (kinds_of.asked_of k) e.kind) (zip kinds.now values.now) }
+    ensures { result ≡ list_all (λ (k, e). kinds_of.fits (kinds_of.asked_of k) e.kind)
+        (zip kinds.now values.now) }
 {
     kinds
         .iter()

@@ -90,7 +90,8 @@ pub fn builtin_called(
     visible: bool,
     builtin: Option<Builtin>,
 ) -> Result<Typed, Stop>
-    ensures { Did seen result checker.now (calls.builtin_called place scope (map seen values.items) visible builtin checker.now) }
+    ensures { Did seen result checker.now
+        (calls.builtin_called place scope (map seen values.items) visible builtin checker.now) }
 {
     match builtin {
         None => Err(Stop::Fault(place, unknown(visible))),

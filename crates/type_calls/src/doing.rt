@@ -42,7 +42,8 @@ pub fn act_on(
     doing: Doing,
     roots: &[Slot],
 ) -> Result<(), Stop>
-    ensures { Did (λ _. tt) result checker.new (calls.act_on place scope doing roots.now checker.old) }
+    ensures { Did (λ _. tt) result checker.new
+        (calls.act_on place scope doing roots.now checker.old) }
 {
     match doing_fault(scope, doing, roots) {
         Some(cause) => Err(Stop::Fault(place, cause)),

@@ -57,7 +57,9 @@ fn call_so(
     signature: &Signature,
     values: &[Typed],
 ) -> Result<Calling, Stop>
-    ensures { (s : acts.State) → Did calling_of result s (calls.call_so place signature.now (map seen values.now) (calls.function_fault signature.now.parameters (map seen values.now)) s) }
+    ensures { (s : acts.State) → Did calling_of result s
+        (calls.call_so place signature.now (map seen values.now)
+        (calls.function_fault signature.now.parameters (map seen values.now)) s) }
 {
     match function_fault(signature.parameters.as_slice(), values) {
         Some(cause) => Err(Stop::Fault(place, cause)),
@@ -78,7 +80,8 @@ fn call_of(
     values: &[Typed],
     function: usize,
 ) -> Result<Calling, Stop>
-    ensures { (s : acts.State) → Did calling_of result s (calls.call_of place (map seen values.now) (slice_get checker.now.signatures function) s) }
+    ensures { (s : acts.State) → Did calling_of result s
+        (calls.call_of place (map seen values.now) (slice_get checker.now.signatures function) s) }
 {
     match checker.signature(function) {
         None => Err(Stop::Fault(place, Cause::UnknownName)),
@@ -94,7 +97,8 @@ fn function_called(
     values: Vec<Typed>,
     function: usize,
 ) -> Result<Typed, Stop>
-    ensures { Did seen result checker.new (calls.function_called name.now scope (map seen values.items) function checker.old) }
+    ensures { Did seen result checker.new
+        (calls.function_called name.now scope (map seen values.items) function checker.old) }
 {
     let call = call_of(checker, name.place, &values, function)?;
     act_on(checker, name.place, scope, call.doing, &call.roots)?;
@@ -115,7 +119,8 @@ pub fn called(
     scope: Scope,
     values: Vec<Typed>,
 ) -> Result<Typed, Stop>
-    ensures { Did seen result checker.new (calls.called name.now scope (map seen values.items) checker.old) }
+    ensures { Did seen result checker.new
+        (calls.called name.now scope (map seen values.items) checker.old) }
 {
     match checker.look(name.text.as_slice()) {
         None => builtin_called(

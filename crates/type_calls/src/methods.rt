@@ -68,7 +68,8 @@ fn method_doing(row: Row, scope: Scope, object: &Typed, values: &[Typed]) -> Doi
 
 /// The cells through which a solution is reached, and those of its solvers.
 fn solution_roots(checker: &Checker, scope: Scope, object: &Typed) -> Result<Vec<Slot>, Stop>
-    ensures { Makes (λ roots. roots.items) result (calls.solution_roots scope checker.now.names (whole (seen object.now))) }
+    ensures { Makes (λ roots. roots.items) result
+        (calls.solution_roots scope checker.now.names (whole (seen object.now))) }
 {
     let roots = roots_of(checker.alloc(), object)?;
     let mut all = roots_of(checker.alloc(), object)?;
@@ -83,7 +84,8 @@ fn write_name(
     doing: Doing,
     object: &Typed,
 ) -> Result<(), Stop>
-    ensures { Did (λ _. tt) result checker.new (calls.method_done writes.Name place scope doing (seen object.now) checker.old) }
+    ensures { Did (λ _. tt) result checker.new
+        (calls.method_done writes.Name place scope doing (seen object.now) checker.old) }
 {
     if is_name(&object.form) && is_same(object.kind, Kind::Set) {
         let roots = roots_of(checker.alloc(), object)?;
@@ -106,7 +108,8 @@ fn method_done(
     doing: Doing,
     object: &Typed,
 ) -> Result<(), Stop>
-    ensures { Did (λ _. tt) result checker.new (calls.method_done writes place scope doing (seen object.now) checker.old) }
+    ensures { Did (λ _. tt) result checker.new
+        (calls.method_done writes place scope doing (seen object.now) checker.old) }
 {
     match writes {
         Writes::Nothing => act_on(checker, place, scope, doing, no_root()),
@@ -131,7 +134,9 @@ fn method_made(
     method: Method,
     fault: Option<Cause>,
 ) -> Result<Typed, Stop>
-    ensures { Did seen result checker.new (calls.method_made place (seen object) scope (map seen values.items) method fault checker.old) }
+    ensures { Did seen result checker.new
+        (calls.method_made place (seen object) scope
+        (map seen values.items) method fault checker.old) }
 {
     match fault {
         Some(cause) => Err(Stop::Fault(place, cause)),
@@ -172,7 +177,8 @@ pub fn method_called(
     values: Vec<Typed>,
     method: Option<Method>,
 ) -> Result<Typed, Stop>
-    ensures { Did seen result checker.new (calls.method_called place (seen object) scope (map seen values.items) method checker.old) }
+    ensures { Did seen result checker.new
+        (calls.method_called place (seen object) scope (map seen values.items) method checker.old) }
 {
     match method {
         None => {

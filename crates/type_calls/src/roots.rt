@@ -13,7 +13,8 @@ use type_scopes::{Checker, Scope};
 /// Adds the cells of the names through which an array, a variable or an object is reached.
 #[tactic(auto, unfolding(checked_tree::specs::Shape::shape_of))]
 pub fn push_roots(typed: &Typed, roots: &mut Vec<Slot>) -> Result<(), Stop>
-    ensures ok { OnOk result (roots.new.items ≡ roots.old.items ++ calls.roots_of (whole (seen typed.now))) }
+    ensures ok { OnOk result (roots.new.items ≡
+        roots.old.items ++ calls.roots_of (whole (seen typed.now))) }
     ensures err { IfErr result (λ stop. stop ≡ stops.NoMemory) }
 {
     match &typed.form {
@@ -71,7 +72,9 @@ fn push_flagged(
     value: &Typed,
     roots: &mut Vec<Slot>,
 ) -> Result<(), Stop>
-    ensures ok { OnOk result (roots.new.items ≡ roots.old.items ++ (if calls.is_flagged flags.now index then calls.roots_of (whole (seen value.now)) else [])) }
+    ensures ok { OnOk result (roots.new.items ≡
+        roots.old.items ++ (if calls.is_flagged flags.now index then calls.roots_of
+        (whole (seen value.now)) else [])) }
     ensures err { IfErr result (λ stop. stop ≡ stops.NoMemory) }
 {
     if is_flagged(flags, index) {
@@ -87,7 +90,8 @@ pub(crate) fn written_roots(
     flags: &[bool],
     values: &[Typed],
 ) -> Result<Vec<Slot>, Stop>
-    ensures { Makes (λ roots. roots.items) result (calls.written_roots 0 flags.now (map seen values.now)) }
+    ensures { Makes (λ roots. roots.items) result
+        (calls.written_roots 0 flags.now (map seen values.now)) }
 {
     let mut roots = Vec::new(alloc);
     let mut index = 0;
@@ -122,7 +126,8 @@ fn push_solvers_of(
     slot: &Slot,
     roots: &mut Vec<Slot>,
 ) -> Result<(), Stop>
-    ensures ok { OnOk result (roots.new.items ≡ roots.old.items ++ names.solvers_at checker.now.names (names.index_of scope slot.now)) }
+    ensures ok { OnOk result (roots.new.items ≡
+        roots.old.items ++ names.solvers_at checker.now.names (names.index_of scope slot.now)) }
     ensures err { IfErr result (λ stop. stop ≡ stops.NoMemory) }
 {
     roots.extend_from_slice(solvers_of_one(checker, scope, *slot))?;
@@ -136,7 +141,8 @@ pub(crate) fn push_solvers(
     slots: &[Slot],
     roots: &mut Vec<Slot>,
 ) -> Result<(), Stop>
-    ensures ok { OnOk result (roots.new.items ≡ roots.old.items ++ names.solvers_of scope checker.now.names slots.now) }
+    ensures ok { OnOk result (roots.new.items ≡
+        roots.old.items ++ names.solvers_of scope checker.now.names slots.now) }
     ensures err { IfErr result (λ stop. stop ≡ stops.NoMemory) }
 {
     for slot in slots {

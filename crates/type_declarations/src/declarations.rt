@@ -69,7 +69,8 @@ fn declare_scalar(
     start: Option<Typed>,
     scope: Scope,
 ) -> Result<Action, Stop>
-    ensures { Did deed_of result checker.new (declarations.scalar_declared name.now kind (option_map seen start) scope checker.old) }
+    ensures { Did deed_of result checker.new
+        (declarations.scalar_declared name.now kind (option_map seen start) scope checker.old) }
 {
     let slot = scope.slot_of(checker.count());
     let start = behind(checker.declare(name.text.as_slice(), kind), start)?;
@@ -86,7 +87,9 @@ fn check_scalar(
     kind: Kind,
     start: Option<&Expression>,
 ) -> Result<Action, Stop>
-    ensures { Did deed_of result checker.new (declarations.scalar_form place name.now kind (option_map (λ e. judge e.now) start.entry) scope checker.old) }
+    ensures { Did deed_of result checker.new
+        (declarations.scalar_form place name.now kind
+        (option_map (λ e. judge e.now) start.entry) scope checker.old) }
 {
     let start = check_start(checker, scope, start)?;
     let is_new = is_new(checker, name, scope);
@@ -102,7 +105,8 @@ fn declare_array(
     cells: Cells,
     scope: Scope,
 ) -> Result<Action, Stop>
-    ensures { Did deed_of result checker.new (declarations.array_declared name.now kind (cells_of cells) scope checker.old) }
+    ensures { Did deed_of result checker.new
+        (declarations.array_declared name.now kind (cells_of cells) scope checker.old) }
 {
     let slot = scope.slot_of(checker.count());
     let cells = behind(checker.declare(name.text.as_slice(), kind), cells)?;
@@ -119,7 +123,9 @@ fn check_array(
     dimensions: &Dimensions,
     source: Source<'_>,
 ) -> Result<Action, Stop>
-    ensures { Did deed_of result checker.new (declarations.array_form place name.now dimensions.now (source_of source.entry) scope checker.old) }
+    ensures { Did deed_of result checker.new
+        (declarations.array_form place name.now dimensions.now
+        (source_of source.entry) scope checker.old) }
 {
     let ranges = check_ranges(checker, scope, dimensions)?;
     let cells = check_cells(checker, scope, dimensions, ranges, source)?;
@@ -173,7 +179,8 @@ fn make_declared_variable(
     domain: Option<Typed>,
     cells: Cells,
 ) -> Result<Action, Stop>
-    ensures { Makes deed_of result (declarations.variable_deed name.now slot solver kind (option_map seen domain) (cells_of cells)) }
+    ensures { Makes deed_of result (declarations.variable_deed name.now slot solver kind
+        (option_map seen domain) (cells_of cells)) }
 {
     let text = Text::from_slice(alloc, name.text.as_slice());
     let (kept, text) = beside((domain, cells), text)?;
@@ -198,7 +205,9 @@ fn declare_variable(
     scope: Scope,
     found: Found,
 ) -> Result<Action, Stop>
-    ensures { Did deed_of result checker.new (declarations.variable_declared place name.now declared.kind (option_map seen declared.domain) (cells_of declared.cells) scope found checker.old) }
+    ensures { Did deed_of result checker.new
+        (declarations.variable_declared place name.now declared.kind
+        (option_map seen declared.domain) (cells_of declared.cells) scope found checker.old) }
 {
     let solver = scope.slot_of(found.index);
     let done = act_on(checker, place, scope, making_doing(), &[solver]);
@@ -227,7 +236,9 @@ fn declare_with(
     scope: Scope,
     solver: Option<Found>,
 ) -> Result<Action, Stop>
-    ensures { Did deed_of result checker.new (declarations.variable_with place name.now declared.kind fit (option_map seen declared.domain) (cells_of declared.cells) scope solver checker.old) }
+    ensures { Did deed_of result checker.new
+        (declarations.variable_with place name.now declared.kind fit
+        (option_map seen declared.domain) (cells_of declared.cells) scope solver checker.old) }
 {
     match solver {
         None => {
@@ -256,7 +267,9 @@ fn check_variables(
     domain: Option<&Expression>,
     source: Source<'_>,
 ) -> Result<Action, Stop>
-    ensures { Did deed_of result checker.new (declarations.variables_form place name.now kind dimensions.now solver.now (option_map (λ e. judge e.now) domain.entry) (source_of source.entry) scope checker.old) }
+    ensures { Did deed_of result checker.new
+        (declarations.variables_form place name.now kind dimensions.now solver.now
+        (option_map (λ e. judge e.now) domain.entry) (source_of source.entry) scope checker.old) }
 {
     let ranges = check_ranges(checker, scope, dimensions)?;
     let (ranges, domain) = beside(ranges, check_start(checker, scope, domain))?;
@@ -284,7 +297,9 @@ fn check_variable(
     domain: Option<&Expression>,
     source: Source<'_>,
 ) -> Result<Action, Stop>
-    ensures { Did deed_of result checker.new (declarations.variable_form place name.now kind solver.now (option_map (λ e. judge e.now) domain.entry) (source_of source.entry) scope checker.old) }
+    ensures { Did deed_of result checker.new
+        (declarations.variable_form place name.now kind solver.now
+        (option_map (λ e. judge e.now) domain.entry) (source_of source.entry) scope checker.old) }
 {
     let domain = check_start(checker, scope, domain)?;
     let (domain, start) = beside(domain, check_source(checker, scope, source))?;
@@ -326,7 +341,8 @@ pub fn check_declaration(
     scope: Scope,
     declaration: &Declaration,
 ) -> Result<Action, Stop>
-    ensures { Did deed_of result checker.new (declarations.declaration_form declaration.now scope checker.old) }
+    ensures { Did deed_of result checker.new
+        (declarations.declaration_form declaration.now scope checker.old) }
 {
     match declaration {
         Declaration::Int {

@@ -74,7 +74,8 @@ pub fn check_handed(
     kind: Kind,
     arguments: &[Argument],
 ) -> Result<Handing, Stop>
-    ensures { Did handing_of result checker.new (objects.handed_form kind arguments.now scope checker.old) }
+    ensures { Did handing_of result checker.new
+        (objects.handed_form kind arguments.now scope checker.old) }
 {
     let count = checker.term_count();
     let context = making_context(kind, scope.context);
@@ -96,7 +97,8 @@ fn first_roots(alloc: Global, arguments: &[Typed]) -> Result<Vec<Slot>, Stop>
 /// The cells of what the making writes: a system's and a sum's solver, a `FunctionExpr`'s variables. The error is
 /// `NoMemory` alone.
 pub fn making_roots(alloc: Global, kind: Kind, handed: &Handing) -> Result<Vec<Slot>, Stop>
-    ensures { Makes (λ roots. roots.items) result (objects.making_roots kind (handing_of handed.now)) }
+    ensures { Makes (λ roots. roots.items) result
+        (objects.making_roots kind (handing_of handed.now)) }
 {
     match kind {
         Kind::System => first_roots(alloc, &handed.arguments),
@@ -111,7 +113,8 @@ pub fn making_roots(alloc: Global, kind: Kind, handed: &Handing) -> Result<Vec<S
 
 /// The cells of the solver that a solution belongs to, and none of any other object. The error is `NoMemory` alone.
 pub fn kept_solvers(alloc: Global, kind: Kind, handed: &Handing) -> Result<Vec<Slot>, Stop>
-    ensures { Makes (λ roots. roots.items) result (objects.kept_solvers kind (handing_of handed.now)) }
+    ensures { Makes (λ roots. roots.items) result
+        (objects.kept_solvers kind (handing_of handed.now)) }
 {
     match kind {
         Kind::Solution => first_roots(alloc, &handed.arguments),
@@ -166,7 +169,8 @@ fn declare_object(
     handed: Handing,
     scope: Scope,
 ) -> Result<Action, Stop>
-    ensures { Did deed_of result checker.new (objects.object_declared name.now kind (handing_of handed) scope checker.old) }
+    ensures { Did deed_of result checker.new
+        (objects.object_declared name.now kind (handing_of handed) scope checker.old) }
 {
     let solvers = kept_solvers(checker.alloc(), kind, &handed);
     let (handed, solvers) = beside(handed, solvers)?;
@@ -198,7 +202,9 @@ fn make_new(
     handed: Handing,
     scope: Scope,
 ) -> Result<Action, Stop>
-    ensures { Did deed_of result checker.new (objects.object_made made.place made.is_ls name.now made.kind made.made (handing_of handed) scope checker.old) }
+    ensures { Did deed_of result checker.new
+        (objects.object_made made.place made.is_ls name.now made.kind made.made
+        (handing_of handed) scope checker.old) }
 {
     let is_new = is_new(checker, name, scope);
     let fault = object_fault(is_new, made.kind, made.made, &handed.arguments);
@@ -221,7 +227,8 @@ pub fn check_object(
     name: &Name,
     maker: &Maker,
 ) -> Result<Action, Stop>
-    ensures { Did deed_of result checker.new (objects.object_form class.now name.now maker.now scope checker.old) }
+    ensures { Did deed_of result checker.new
+        (objects.object_form class.now name.now maker.now scope checker.old) }
 {
     let kind = class_kind(&class.kind);
     let handed = check_handed(checker, scope, kind, maker_arguments(maker))?;

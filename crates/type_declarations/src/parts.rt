@@ -41,7 +41,8 @@ fn check_some(
     scope: Scope,
     start: &Expression,
 ) -> Result<Option<Typed>, Stop>
-    ensures { Did (option_map seen) result checker.new (expressions.some_form (judge start.now) scope checker.old) }
+    ensures { Did (option_map seen) result checker.new
+        (expressions.some_form (judge start.now) scope checker.old) }
 {
     let start = check_expression(checker, scope, start)?;
     Ok(Some(start))
@@ -54,7 +55,8 @@ pub fn check_start(
     scope: Scope,
     start: Option<&Expression>,
 ) -> Result<Option<Typed>, Stop>
-    ensures { Did (option_map seen) result checker.new (parts.start_form (option_map (λ e. judge e.now) start.entry) scope checker.old) }
+    ensures { Did (option_map seen) result checker.new
+        (parts.start_form (option_map (λ e. judge e.now) start.entry) scope checker.old) }
 {
     match start {
         None => Ok(None),
@@ -88,7 +90,8 @@ fn check_dimension(
     clash: bool,
     dimension: &Dimension,
 ) -> Result<Typed, Stop>
-    ensures { Did seen result checker.new (parts.dimension_form clash dimension.now scope checker.old) }
+    ensures { Did seen result checker.new
+        (parts.dimension_form clash dimension.now scope checker.old) }
 {
     let range = check_expression(checker, scope, &dimension.range)?;
     let ruled = rule(
@@ -122,7 +125,8 @@ fn check_second(
     first: &Option<Name>,
     second: &Option<Dimension>,
 ) -> Result<Option<Typed>, Stop>
-    ensures { Did (option_map seen) result checker.new (parts.second_form first.now second.now scope checker.old) }
+    ensures { Did (option_map seen) result checker.new
+        (parts.second_form first.now second.now scope checker.old) }
 {
     match second {
         None => Ok(None),
@@ -142,7 +146,8 @@ pub fn check_ranges(
     scope: Scope,
     dimensions: &Dimensions,
 ) -> Result<Ranges, Stop>
-    ensures { Did ranges_of result checker.new (parts.ranges_form dimensions.now scope checker.old) }
+    ensures { Did ranges_of result checker.new
+        (parts.ranges_form dimensions.now scope checker.old) }
 {
     let first = check_dimension(checker, scope, false, &dimensions.first)?;
     let second = check_second(checker, scope, &dimensions.first.name, &dimensions.second);
@@ -158,7 +163,8 @@ fn size(
     name: &Option<Name>,
     range: Typed,
 ) -> Result<Sized, Stop>
-    ensures { Did dimension_of result checker.new (parts.sized_form name.now (seen range) scope checker.old) }
+    ensures { Did dimension_of result checker.new
+        (parts.sized_form name.now (seen range) scope checker.old) }
 {
     match name {
         None => Ok(Sized { slot: None, range }),
@@ -180,7 +186,8 @@ fn size_second(
     second: &Option<Dimension>,
     range: Typed,
 ) -> Result<Sized, Stop>
-    ensures { Did dimension_of result checker.new (parts.sized_form (parts.second_name second.now) (seen range) scope checker.old) }
+    ensures { Did dimension_of result checker.new
+        (parts.sized_form (parts.second_name second.now) (seen range) scope checker.old) }
 {
     match second {
         None => size(checker, scope, &None, range),
@@ -195,7 +202,8 @@ fn sizes(
     dimensions: &Dimensions,
     ranges: Ranges,
 ) -> Result<Vec<Sized>, Stop>
-    ensures { Did sizes_of result checker.new (parts.sizes_form dimensions.now (ranges_of ranges) scope checker.old) }
+    ensures { Did sizes_of result checker.new
+        (parts.sizes_form dimensions.now (ranges_of ranges) scope checker.old) }
 {
     let sizes = Vec::new(checker.alloc());
     let first = size(checker, scope, &dimensions.first.name, ranges.first);
@@ -227,7 +235,8 @@ pub fn check_source(
     scope: Scope,
     source: Source<'_>,
 ) -> Result<Option<Start>, Stop>
-    ensures { Did (option_map start_of) result checker.new (parts.starting_form (source_of source.entry) scope checker.old) }
+    ensures { Did (option_map start_of) result checker.new
+        (parts.starting_form (source_of source.entry) scope checker.old) }
 {
     match source {
         Source::Nothing => Ok(None),
@@ -264,7 +273,8 @@ fn list_source(
     source: Source<'_>,
     start: Option<Start>,
 ) -> Result<Option<Start>, Stop>
-    ensures { Did (option_map start_of) result checker.new (parts.listed (source_of source.entry) scope (option_map start_of start) checker.old) }
+    ensures { Did (option_map start_of) result checker.new
+        (parts.listed (source_of source.entry) scope (option_map start_of start) checker.old) }
 {
     match source {
         Source::Nothing => Ok(start),
@@ -299,7 +309,9 @@ fn cells_within(
     ranges: Ranges,
     source: Source<'_>,
 ) -> Result<Cells, Stop>
-    ensures { Did cells_of result checker.new (parts.cells_within dimensions.now (ranges_of ranges) (source_of source.entry) scope checker.old) }
+    ensures { Did cells_of result checker.new
+        (parts.cells_within dimensions.now (ranges_of ranges)
+        (source_of source.entry) scope checker.old) }
 {
     let sizes = sizes(checker, scope, dimensions, ranges)?;
     let (sizes, start) = beside(sizes, check_source(checker, scope, source))?;
@@ -316,7 +328,9 @@ pub fn check_cells(
     ranges: Ranges,
     source: Source<'_>,
 ) -> Result<Cells, Stop>
-    ensures { Did cells_of result checker.new (parts.cells_form dimensions.now (ranges_of ranges) (source_of source.entry) scope checker.old) }
+    ensures { Did cells_of result checker.new
+        (parts.cells_form dimensions.now (ranges_of ranges)
+        (source_of source.entry) scope checker.old) }
 {
     let count = checker.count();
     let cells = cells_within(checker, scope.opened(count), dimensions, ranges, source)?;

@@ -190,7 +190,8 @@ fn check_unary(
     place: Place,
     operand: &Expression,
 ) -> Result<Typed, Stop>
-    ensures { Did seen result checker.new (expressions.unary_form operator place (judge operand.now) scope checker.old) }
+    ensures { Did seen result checker.new
+        (expressions.unary_form operator place (judge operand.now) scope checker.old) }
 {
     let context = operand_context(operator, scope.context);
     let operand = check_expression(checker, scope.within(context), operand)?;
@@ -214,7 +215,9 @@ fn check_comparison(
     place: Place,
     right: &Expression,
 ) -> Result<Typed, Stop>
-    ensures { Did seen result checker.new (expressions.comparison_form (judge left.now) comparison place (judge right.now) scope checker.old) }
+    ensures { Did seen result checker.new
+        (expressions.comparison_form (judge left.now) comparison place
+        (judge right.now) scope checker.old) }
 {
     let at = scope.within(inner(scope.context));
     let left = check_expression(checker, at, left)?;
@@ -234,7 +237,8 @@ fn check_range(
     place: Place,
     high: &Expression,
 ) -> Result<Typed, Stop>
-    ensures { Did seen result checker.new (expressions.range_form (judge low.now) place (judge high.now) scope checker.old) }
+    ensures { Did seen result checker.new
+        (expressions.range_form (judge low.now) place (judge high.now) scope checker.old) }
 {
     let at = scope.within(inner(scope.context));
     let low = check_expression(checker, at, low)?;
@@ -254,7 +258,9 @@ fn check_conditional(
     then: &Expression,
     otherwise: &Expression,
 ) -> Result<Typed, Stop>
-    ensures { Did seen result checker.new (expressions.conditional_form (judge test.now) (judge «then».now) (judge otherwise.now) scope checker.old) }
+    ensures { Did seen result checker.new
+        (expressions.conditional_form (judge test.now) (judge «then».now)
+        (judge otherwise.now) scope checker.old) }
 {
     let at = scope.within(inner(scope.context));
     let test = check_expression(checker, at, test)?;
@@ -275,7 +281,8 @@ fn check_parentheses(
     place: Place,
     inner: &Expression,
 ) -> Result<Typed, Stop>
-    ensures { Did seen result checker.new (expressions.parentheses_form place (judge inner.now) scope checker.old) }
+    ensures { Did seen result checker.new
+        (expressions.parentheses_form place (judge inner.now) scope checker.old) }
 {
     let inner = check_expression(checker, scope.within(inside(scope.context)), inner)?;
     let ruling = parentheses_rule(note_of(&inner));
@@ -302,7 +309,9 @@ fn check_extreme(
     left: &Expression,
     right: &Expression,
 ) -> Result<Typed, Stop>
-    ensures { Did seen result checker.new (expressions.extreme_form extreme place (judge left.now) (judge right.now) scope checker.old) }
+    ensures { Did seen result checker.new
+        (expressions.extreme_form extreme place (judge left.now)
+        (judge right.now) scope checker.old) }
 {
     let at = scope.within(inner(scope.context));
     let left = check_expression(checker, at, left)?;
@@ -346,7 +355,9 @@ fn linked(
     operand: Typed,
     ruling: Result<Note, Cause>,
 ) -> Result<ChainFront, Stop>
-    ensures { (s : acts.State) → Did front_of result s (expressions.linked place (front_of front) (shapes.link operator place (shapes.whole (seen operand))) ruling s) }
+    ensures { (s : acts.State) → Did front_of result s
+        (expressions.linked place (front_of front)
+        (shapes.link operator place (shapes.whole (seen operand))) ruling s) }
 {
     match ruling {
         Ok(note) => {
@@ -368,7 +379,8 @@ fn check_link(
     front: ChainFront,
     link: &Link,
 ) -> Result<ChainFront, Stop>
-    ensures { Did front_of result checker.new (expressions.link_form scope (front_of front) (judge_link link.now) checker.old) }
+    ensures { Did front_of result checker.new
+        (expressions.link_form scope (front_of front) (judge_link link.now) checker.old) }
 {
     let context = operator_context(link.operator, scope.context);
     let operand = check_expression(checker, scope.within(context), &link.operand);
@@ -384,7 +396,9 @@ fn check_links(
     note: Note,
     links: &[Link],
 ) -> Result<ChainFront, Stop>
-    ensures { Did front_of result checker.new (acts.each (expressions.link_form scope) (map judge_link links.now) (record { note = note; links = [] }) checker.old) }
+    ensures { Did front_of result checker.new
+        (acts.each (expressions.link_form scope) (map judge_link links.now)
+        (record { note = note; links = [] }) checker.old) }
 {
     let mut front = ChainFront {
         note,
@@ -404,7 +418,8 @@ fn check_chain(
     links: &[Link],
     first: &Expression,
 ) -> Result<Typed, Stop>
-    ensures { Did seen result checker.new (expressions.chain_form (judge first.now) (map judge_link links.now) scope checker.old) }
+    ensures { Did seen result checker.new
+        (expressions.chain_form (judge first.now) (map judge_link links.now) scope checker.old) }
 {
     let context = first_operator_context(links, scope.context);
     let first = check_expression(checker, scope.within(context), first)?;
@@ -461,7 +476,9 @@ fn check_next_argument(
     values: Vec<Typed>,
     argument: &Argument,
 ) -> Result<Vec<Typed>, Stop>
-    ensures { Did values_of result checker.new (expressions.argument_form first scope (map seen values.items) (judge_argument argument.now) checker.old) }
+    ensures { Did values_of result checker.new
+        (expressions.argument_form first scope (map seen values.items)
+        (judge_argument argument.now) checker.old) }
 {
     let context = argument_context(first, scope.context, &values);
     let value = check_argument(checker, scope.within(context), argument);
@@ -477,7 +494,8 @@ pub fn check_arguments(
     scope: Scope,
     arguments: &[Argument],
 ) -> Result<Vec<Typed>, Stop>
-    ensures { Did values_of result checker.new (expressions.arguments_form first (map judge_argument arguments.now) scope checker.old) }
+    ensures { Did values_of result checker.new
+        (expressions.arguments_form first (map judge_argument arguments.now) scope checker.old) }
 {
     let mut values = Vec::new(checker.alloc());
     for argument in arguments {
@@ -487,13 +505,15 @@ pub fn check_arguments(
 }
 
 fn list_ruling(values: &Vec<Typed>) -> Result<Note, Cause>
-    ensures { result ≡ rules.list_rule (calls.all_numbers (map seen values.now.items)) (calls.any_moving (map seen values.now.items)) }
+    ensures { result ≡ rules.list_rule (calls.all_numbers (map seen values.now.items))
+        (calls.any_moving (map seen values.now.items)) }
 {
     list_rule(all_numbers(values), any_moving(values))
 }
 
 fn set_ruling(values: &Vec<Typed>) -> Result<Note, Cause>
-    ensures { result ≡ rules.set_rule (calls.all_numbers (map seen values.now.items)) (calls.any_moving (map seen values.now.items)) }
+    ensures { result ≡ rules.set_rule (calls.all_numbers (map seen values.now.items))
+        (calls.any_moving (map seen values.now.items)) }
 {
     set_rule(all_numbers(values), any_moving(values))
 }
@@ -506,7 +526,8 @@ fn check_list(
     place: Place,
     arguments: &[Argument],
 ) -> Result<Typed, Stop>
-    ensures { Did seen result checker.new (expressions.list_form place (map judge_argument arguments.now) scope checker.old) }
+    ensures { Did seen result checker.new
+        (expressions.list_form place (map judge_argument arguments.now) scope checker.old) }
 {
     let context = inner(scope.context);
     let values = check_arguments(checker, context, scope.within(context), arguments)?;
@@ -522,7 +543,8 @@ fn check_set(
     place: Place,
     arguments: &[Argument],
 ) -> Result<Typed, Stop>
-    ensures { Did seen result checker.new (expressions.set_form place (map judge_argument arguments.now) scope checker.old) }
+    ensures { Did seen result checker.new
+        (expressions.set_form place (map judge_argument arguments.now) scope checker.old) }
 {
     let context = inner(scope.context);
     let values = check_arguments(checker, context, scope.within(context), arguments)?;
@@ -538,7 +560,8 @@ fn check_call(
     name: &Name,
     arguments: &[Argument],
 ) -> Result<Typed, Stop>
-    ensures { Did seen result checker.new (expressions.call_form name.now (map judge_argument arguments.now) scope checker.old) }
+    ensures { Did seen result checker.new
+        (expressions.call_form name.now (map judge_argument arguments.now) scope checker.old) }
 {
     let context = inner(scope.context);
     let values = check_arguments(checker, context, scope.within(context), arguments)?;
@@ -554,7 +577,8 @@ fn check_index(
     index: &Expression,
     front: Typed,
 ) -> Result<Typed, Stop>
-    ensures { Did seen result checker.new (expressions.index_form place (judge index.now) (seen front) scope checker.old) }
+    ensures { Did seen result checker.new
+        (expressions.index_form place (judge index.now) (seen front) scope checker.old) }
 {
     let (front, index) = beside(front, check_expression(checker, scope, index))?;
     let start = front.start;
@@ -573,7 +597,9 @@ fn check_cell(
     column: &Expression,
     front: Typed,
 ) -> Result<Typed, Stop>
-    ensures { Did seen result checker.new (expressions.cell_form place (judge row.now) (judge column.now) (seen front) scope checker.old) }
+    ensures { Did seen result checker.new
+        (expressions.cell_form place (judge row.now) (judge column.now)
+        (seen front) scope checker.old) }
 {
     let kept = beside(front, check_expression(checker, scope, row))?;
     let (kept, column) = beside(kept, check_expression(checker, scope, column))?;
@@ -593,7 +619,9 @@ fn check_method(
     arguments: &[Argument],
     front: Typed,
 ) -> Result<Typed, Stop>
-    ensures { Did seen result checker.new (expressions.method_form name.now (map judge_argument arguments.now) (seen front) scope checker.old) }
+    ensures { Did seen result checker.new
+        (expressions.method_form name.now (map judge_argument arguments.now)
+        (seen front) scope checker.old) }
 {
     let method = method_named(front.kind, name.text.as_slice());
     let context = first_context(method, scope.context);
@@ -610,7 +638,8 @@ fn check_suffix(
     suffix: &Suffix,
     front: Typed,
 ) -> Result<Typed, Stop>
-    ensures { Did seen result checker.new (expressions.suffix_form scope (seen front) (judge_suffix suffix.now) checker.old) }
+    ensures { Did seen result checker.new
+        (expressions.suffix_form scope (seen front) (judge_suffix suffix.now) checker.old) }
 {
     match suffix {
         Suffix::Index { place, index } => check_index(checker, scope, *place, index, front),
@@ -630,7 +659,9 @@ fn check_suffixes(
     suffixes: &[Suffix],
     primary: Typed,
 ) -> Result<Typed, Stop>
-    ensures { Did seen result checker.new (acts.each (expressions.suffix_form scope) (map judge_suffix suffixes.now) (seen primary) checker.old) }
+    ensures { Did seen result checker.new
+        (acts.each (expressions.suffix_form scope) (map judge_suffix suffixes.now)
+        (seen primary) checker.old) }
 {
     let mut front = primary;
     for suffix in suffixes {
@@ -647,7 +678,9 @@ fn check_postfix(
     suffixes: &[Suffix],
     primary: &Expression,
 ) -> Result<Typed, Stop>
-    ensures { Did seen result checker.new (expressions.postfix_form (judge primary.now) (map judge_suffix suffixes.now) scope checker.old) }
+    ensures { Did seen result checker.new
+        (expressions.postfix_form (judge primary.now)
+        (map judge_suffix suffixes.now) scope checker.old) }
 {
     let at = scope.within(inner(scope.context));
     let front = check_expression(checker, at, primary)?;
@@ -663,7 +696,9 @@ fn generator_made(
     domain: Typed,
     ruling: Result<Note, Cause>,
 ) -> Result<Vec<CheckedGenerator>, Stop>
-    ensures { Did generators_of result checker.new (expressions.generator_made scope name.now (map shape_of_generator generators.items) (seen domain) ruling checker.old) }
+    ensures { Did generators_of result checker.new
+        (expressions.generator_made scope name.now (map shape_of_generator generators.items)
+        (seen domain) ruling checker.old) }
 {
     match ruling {
         Err(cause) => {
@@ -688,7 +723,9 @@ fn check_generator(
     generator: &Generator,
     generators: Vec<CheckedGenerator>,
 ) -> Result<Vec<CheckedGenerator>, Stop>
-    ensures { Did generators_of result checker.new (expressions.generator_form scope (map shape_of_generator generators.items) (judge_generator generator.now) checker.old) }
+    ensures { Did generators_of result checker.new
+        (expressions.generator_form scope (map shape_of_generator generators.items)
+        (judge_generator generator.now) checker.old) }
 {
     let at = scope.within(made_pure(scope.context));
     let domain = check_expression(checker, at, &generator.domain);
@@ -704,7 +741,8 @@ fn check_generators(
     scope: Scope,
     generators: &[Generator],
 ) -> Result<Vec<CheckedGenerator>, Stop>
-    ensures { Did generators_of result checker.new (expressions.generators_form (map judge_generator generators.now) scope checker.old) }
+    ensures { Did generators_of result checker.new
+        (expressions.generators_form (map judge_generator generators.now) scope checker.old) }
 {
     let mut checked = Vec::new(checker.alloc());
     for generator in generators {
@@ -731,7 +769,8 @@ fn check_some(
     scope: Scope,
     condition: &Expression,
 ) -> Result<Option<Typed>, Stop>
-    ensures { Did (option_map seen) result checker.new (expressions.some_form (judge condition.now) scope checker.old) }
+    ensures { Did (option_map seen) result checker.new
+        (expressions.some_form (judge condition.now) scope checker.old) }
 {
     let condition = check_expression(checker, scope, condition)?;
     Ok(Some(condition))
@@ -743,7 +782,8 @@ pub fn check_condition(
     scope: Scope,
     generators: &Generators,
 ) -> Result<Option<Typed>, Stop>
-    ensures { Did (option_map seen) result checker.new (expressions.condition_form (judge_generators generators.now).condition scope checker.old) }
+    ensures { Did (option_map seen) result checker.new
+        (expressions.condition_form (judge_generators generators.now).condition scope checker.old) }
 {
     match &generators.condition {
         None => Ok(None),
@@ -789,7 +829,9 @@ fn aggregated(
     body: &Expression,
     scope: Scope,
 ) -> Result<Typed, Stop>
-    ensures { Did seen result checker.new (expressions.aggregated aggregate place (judge_generators generators.now) (judge body.now) scope checker.old) }
+    ensures { Did seen result checker.new
+        (expressions.aggregated aggregate place (judge_generators generators.now)
+        (judge body.now) scope checker.old) }
 {
     let at = scope.within(inner(scope.context));
     let checked = generated(checker, at, generators)?;
@@ -816,7 +858,9 @@ fn check_aggregate(
     generators: &Generators,
     body: &Expression,
 ) -> Result<Typed, Stop>
-    ensures { Did seen result checker.new (expressions.aggregate_form aggregate place (judge_generators generators.now) (judge body.now) scope checker.old) }
+    ensures { Did seen result checker.new
+        (expressions.aggregate_form aggregate place (judge_generators generators.now)
+        (judge body.now) scope checker.old) }
 {
     let count = checker.count();
     let typed = aggregated(

@@ -37,7 +37,8 @@ use type_simples::{Standing, check_return, check_simple, through_doing};
 /// A statement that does nothing.
 #[tactic(auto, unfolding(crate::specs::Heads::deed_form))]
 pub fn check_empty(place: Place) -> Task
-    ensures { (scope : Scope) (s : acts.State) → heads.deed_form place (λ at. acts.give deeds.nothing) scope s ≡ Went (work_of result) s }
+    ensures { (scope : Scope) (s : acts.State) →
+        heads.deed_form place (λ at. acts.give deeds.nothing) scope s ≡ Went (work_of result) s }
 {
     make_action(place, make_nothing())
 }
@@ -49,7 +50,9 @@ pub fn check_declared(
     scope: Scope,
     declaration: &Declaration,
 ) -> Result<Task, Stop>
-    ensures { Did work_of result checker.new (heads.deed_form (declarations.declaration_place declaration.now) (declarations.declaration_form declaration.now) scope checker.old) }
+    ensures { Did work_of result checker.new
+        (heads.deed_form (declarations.declaration_place declaration.now)
+        (declarations.declaration_form declaration.now) scope checker.old) }
 {
     let place = declaration_place(declaration);
     let action = check_declaration(checker, scope, declaration)?;
@@ -59,7 +62,8 @@ pub fn check_declared(
 /// Judges a simple statement that is no part of a `for`. Refused exactly as it is; `NoMemory` where memory runs out.
 #[tactic(auto, unfolding(crate::specs::Heads::acted_form))]
 pub fn check_acted(checker: &mut Checker, scope: Scope, simple: &Simple) -> Result<Task, Stop>
-    ensures { Did work_of result checker.new (heads.acted_form (simples.simple_form simple.now) scope checker.old) }
+    ensures { Did work_of result checker.new
+        (heads.acted_form (simples.simple_form simple.now) scope checker.old) }
 {
     let standing = Standing {
         at: None,
@@ -77,7 +81,9 @@ pub fn check_returned(
     place: Place,
     value: Option<&Expression>,
 ) -> Result<Task, Stop>
-    ensures { Did work_of result checker.new (heads.deed_form place (simples.return_form place (option_map (λ e. judge e.now) value.entry)) scope checker.old) }
+    ensures { Did work_of result checker.new
+        (heads.deed_form place (simples.return_form place
+        (option_map (λ e. judge e.now) value.entry)) scope checker.old) }
 {
     let action = check_return(checker, scope, place, value)?;
     Ok(make_action(place, action))
@@ -96,7 +102,8 @@ fn check_counter(
     scope: Scope,
     start: &Option<ForStart>,
 ) -> Result<Option<Counter>, Stop>
-    ensures { Did (option_map counter_of) result checker.new (heads.counter_form start.now scope checker.old) }
+    ensures { Did (option_map counter_of) result checker.new
+        (heads.counter_form start.now scope checker.old) }
 {
     match start {
         None => Ok(None),
@@ -136,7 +143,8 @@ fn check_step(
     holds: bool,
     step: &Option<Simple>,
 ) -> Result<Option<Action>, Stop>
-    ensures { Did (option_map deed_of) result checker.new (heads.step_part place holds step.now scope checker.old) }
+    ensures { Did (option_map deed_of) result checker.new
+        (heads.step_part place holds step.now scope checker.old) }
 {
     match step {
         None => Ok(None),
@@ -160,13 +168,16 @@ pub struct Head {
 }
 
 fn head_fits(counter: &Option<Counter>, test: &Option<Typed>) -> bool
-    ensures { result ≡ (heads.counter_fits (option_map counter_of counter.now) && heads.test_fits (option_map seen test.now)) }
+    ensures { result ≡ (heads.counter_fits (option_map counter_of counter.now) && heads.test_fits
+        (option_map seen test.now)) }
 {
     counter_fits(counter) && test_fits(test)
 }
 
 fn head_fault(counter: &Option<Counter>, test: &Option<Typed>) -> Option<Cause>
-    ensures { result ≡ parts.wrong_unless (heads.counter_fits (option_map counter_of counter.now) && heads.test_fits (option_map seen test.now)) }
+    ensures { result ≡ parts.wrong_unless
+        (heads.counter_fits (option_map counter_of counter.now) && heads.test_fits
+        (option_map seen test.now)) }
 {
     wrong_unless(head_fits(counter, test))
 }
@@ -227,7 +238,8 @@ pub fn check_choice(
     scope: Scope,
     generators: &Generators,
 ) -> Result<Choice, Stop>
-    ensures { Did choice_of result checker.new (heads.chosen_form (judge_generators generators.now) at scope checker.old) }
+    ensures { Did choice_of result checker.new
+        (heads.chosen_form (judge_generators generators.now) at scope checker.old) }
 {
     let checked = generated(checker, scope, generators)?;
     let (generators, condition) = beside(checked, check_condition(checker, at, generators))?;
@@ -259,7 +271,8 @@ fn write_found(
     scope: Scope,
     found: Option<Found>,
 ) -> Result<Slot, Stop>
-    ensures { Did (λ slot. slot) result checker.new (heads.written_found place kind fit scope found checker.old) }
+    ensures { Did (λ slot. slot) result checker.new
+        (heads.written_found place kind fit scope found checker.old) }
 {
     match found {
         None => Err(Stop::Fault(place, Cause::UnknownName)),
@@ -282,7 +295,8 @@ pub fn write_name(
     name: &Name,
     scope: Scope,
 ) -> Result<Slot, Stop>
-    ensures { Did (λ slot. slot) result checker.new (heads.written_name place kind fit name.now scope checker.old) }
+    ensures { Did (λ slot. slot) result checker.new
+        (heads.written_name place kind fit name.now scope checker.old) }
 {
     let found = checker.look(name.text.as_slice());
     write_found(checker, place, kind, fit, scope, found)
@@ -350,7 +364,8 @@ pub fn declare_events(
     scope: Scope,
     names: &Option<Events>,
 ) -> Result<Option<EventSlots>, Stop>
-    ensures { Did (λ slots. slots) result checker.new (heads.events_form names.now scope checker.old) }
+    ensures { Did (λ slots. slots) result checker.new
+        (heads.events_form names.now scope checker.old) }
 {
     match names {
         None => Ok(None),
@@ -391,7 +406,8 @@ pub fn check_shared(
     place: Place,
     domain: &Expression,
 ) -> Result<Typed, Stop>
-    ensures { Did seen result checker.new (heads.shared_form place (judge domain.now) scope checker.old) }
+    ensures { Did seen result checker.new
+        (heads.shared_form place (judge domain.now) scope checker.old) }
 {
     let domain = check_expression(checker, scope, domain)?;
     let domain = behind(rule(place, domain_fault(domain.kind)), domain)?;

@@ -86,7 +86,8 @@ impl Checker {
         function: usize,
         solvers: Slots,
     ) -> Result<(), Stop>
-        ensures { Did (λ _. tt) result self.new (names.declare_with name.now kind function solvers self.old) }
+        ensures { Did (λ _. tt) result self.new
+            (names.declare_with name.now kind function solvers self.old) }
     {
         let name = Text::from_slice(self.alloc, name)?;
         self.names.push(Binding {

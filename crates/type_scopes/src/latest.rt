@@ -34,7 +34,8 @@ impl Latest {
     pub fn put(&mut self, alloc: Global, name: &[u8], number: usize) -> Result<(), NoMemory>
         ensures held { OnOk result (is_held self.new name.now ≡ true) }
         ensures ok { OnOk result ((other : List ℕ) → latest_at self.new other ≡ (if bytes_eq name.now other then number else latest_at self.old other)) }
-        ensures err { OnErr result ((other : List ℕ) → latest_at self.new other ≡ latest_at self.old other) }
+        ensures err { OnErr result ((other : List ℕ) →
+            latest_at self.new other ≡ latest_at self.old other) }
     {
         let key = Vec::from_slice(alloc, name)?;
         self.by_name.insert(key, number)?;
@@ -44,7 +45,8 @@ impl Latest {
     /// Changes the number of a spelling that is held.
     pub fn set(&mut self, name: &[u8], number: usize)
         requires { is_held self.old name.now ≡ true }
-        ensures { (other : List ℕ) → latest_at self.new other ≡ (if bytes_eq name.now other then number else latest_at self.old other) }
+        ensures { (other : List ℕ) → latest_at self.new other ≡
+            (if bytes_eq name.now other then number else latest_at self.old other) }
     {
         if let Some(kept) = self.by_name.get_mut(name) {
             *kept = number;

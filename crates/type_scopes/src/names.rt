@@ -99,7 +99,8 @@ fn push_entry(
 ) -> Result<(), NoMemory>
     requires { IsIndexed entries.old.items latest.old }
     ensures indexed { IsIndexed entries.new.items latest.new }
-    ensures ok { OnOk result (bindings_of entries.new.items ≡ bindings_of entries.old.items ++ binding ∷ []) }
+    ensures ok { OnOk result (bindings_of entries.new.items ≡
+        bindings_of entries.old.items ++ binding ∷ []) }
     ensures err { OnErr result (bindings_of entries.new.items ≡ bindings_of entries.old.items) }
 {
     let hidden = latest.at(binding.name.as_slice());

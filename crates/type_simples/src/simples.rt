@@ -191,7 +191,9 @@ fn check_write(
     operator: WriteOperator,
     value: &Expression,
 ) -> Result<Acted, Stop>
-    ensures { Did acted_of result checker.new (simples.write_form (judge target.now) operator (judge value.now) standing scope checker.old) }
+    ensures { Did acted_of result checker.new
+        (simples.write_form (judge target.now) operator
+        (judge value.now) standing scope checker.old) }
 {
     let target = check_expression(checker, scope, target)?;
     let context = value_context(operator, scope.context);
@@ -221,7 +223,8 @@ fn swap_fault(left: Kind, right: Kind) -> Option<Cause>
 }
 
 fn roots_of_both(alloc: Global, left: &Typed, right: &Typed) -> Result<Vec<Slot>, Stop>
-    ensures { Makes (λ roots. roots.items) result (roots_in.roots_of (whole (seen left.now)) ++ roots_in.roots_of (whole (seen right.now))) }
+    ensures { Makes (λ roots. roots.items) result
+        (roots_in.roots_of (whole (seen left.now)) ++ roots_in.roots_of (whole (seen right.now))) }
 {
     let mut roots = roots_of(alloc, left)?;
     push_roots(right, &mut roots)?;
@@ -236,7 +239,8 @@ fn check_swap(
     left: &Expression,
     right: &Expression,
 ) -> Result<Acted, Stop>
-    ensures { Did acted_of result checker.new (simples.swap_form (judge left.now) (judge right.now) standing scope checker.old) }
+    ensures { Did acted_of result checker.new
+        (simples.swap_form (judge left.now) (judge right.now) standing scope checker.old) }
 {
     let left = check_expression(checker, scope, left)?;
     let kept = beside(left, check_expression(checker, scope, right))?;
@@ -259,7 +263,8 @@ fn check_step(
     target: &Expression,
     step: Step,
 ) -> Result<Acted, Stop>
-    ensures { Did acted_of result checker.new (simples.step_form (judge target.now) step standing scope checker.old) }
+    ensures { Did acted_of result checker.new
+        (simples.step_form (judge target.now) step standing scope checker.old) }
 {
     let target = check_expression(checker, scope, target)?;
     let place = place_at(standing.at, target.start);
@@ -281,7 +286,8 @@ fn check_alone(
     standing: Standing,
     expression: &Expression,
 ) -> Result<Acted, Stop>
-    ensures { Did acted_of result checker.new (simples.alone_form (judge expression.now) standing scope checker.old) }
+    ensures { Did acted_of result checker.new
+        (simples.alone_form (judge expression.now) standing scope checker.old) }
 {
     let value = check_expression(checker, scope, expression)?;
     let place = place_at(standing.at, value.start);
@@ -352,7 +358,8 @@ fn push_other(kept: &[Slot], slot: &Slot, roots: &mut Vec<Slot>) -> Result<(), S
 
 /// Adds those cells that are not among the kept ones.
 fn push_others(kept: &[Slot], slots: &[Slot], roots: &mut Vec<Slot>) -> Result<(), Stop>
-    ensures ok { OnOk result (roots.new.items ≡ roots.old.items ++ simples.others kept.now slots.now) }
+    ensures ok { OnOk result (roots.new.items ≡
+        roots.old.items ++ simples.others kept.now slots.now) }
     ensures err { IfErr result (λ stop. stop ≡ stops.NoMemory) }
 {
     for slot in slots {
@@ -377,7 +384,9 @@ fn renewing_roots(
     kind: Kind,
     handed: &Handing,
 ) -> Result<Vec<Slot>, Stop>
-    ensures { Makes (λ roots. roots.items) result (simples.renewing_roots (simples.solvers_found checker.now.names (names.look name.now.text checker.now.names)) kind (handing_of handed.now)) }
+    ensures { Makes (λ roots. roots.items) result
+        (simples.renewing_roots (simples.solvers_found checker.now.names
+        (names.look name.now.text checker.now.names)) kind (handing_of handed.now)) }
 {
     let kept = solvers_found(checker, checker.look(name.text.as_slice()));
     let mut roots = making_roots(checker.alloc(), kind, handed)?;
@@ -406,7 +415,9 @@ fn renew(
     handed: Handing,
     scope: Scope,
 ) -> Result<Action, Stop>
-    ensures { Did deed_of result checker.new (simples.renewed place name.now is_ls (seen target.now) kind (handing_of handed) scope checker.old) }
+    ensures { Did deed_of result checker.new
+        (simples.renewed place name.now is_ls (seen target.now) kind
+        (handing_of handed) scope checker.old) }
 {
     let fault = new_fault(target.kind, kind, &handed.arguments);
     let handed = behind(rule(place, fault), handed)?;
@@ -428,7 +439,8 @@ fn check_new(
     standing: Standing,
     object: &NewObject,
 ) -> Result<Acted, Stop>
-    ensures { Did acted_of result checker.new (simples.new_form object.now standing scope checker.old) }
+    ensures { Did acted_of result checker.new
+        (simples.new_form object.now standing scope checker.old) }
 {
     let target = check_name(checker, scope, &object.name)?;
     let kind = class_kind(&object.class.kind);
@@ -481,7 +493,9 @@ fn check_next_item(
     printed: Vec<Printed>,
     item: &Item,
 ) -> Result<Vec<Printed>, Stop>
-    ensures { Did printed_list result checker.new (simples.shown_form scope (map printed_of printed.items) (simples.item_form item.now) checker.old) }
+    ensures { Did printed_list result checker.new
+        (simples.shown_form scope (map printed_of printed.items)
+        (simples.item_form item.now) checker.old) }
 {
     let (printed, item) = beside(printed, check_item(checker, scope, item))?;
     let printed = pushed(printed, item)?;
@@ -489,7 +503,8 @@ fn check_next_item(
 }
 
 fn check_items(checker: &mut Checker, scope: Scope, items: &[Item]) -> Result<Vec<Printed>, Stop>
-    ensures { Did printed_list result checker.new (simples.items_form (map simples.item_form items.now) scope checker.old) }
+    ensures { Did printed_list result checker.new
+        (simples.items_form (map simples.item_form items.now) scope checker.old) }
 {
     let mut printed = Vec::new(checker.alloc());
     for item in items {
@@ -528,7 +543,8 @@ fn check_print(
     own: Place,
     items: &[Item],
 ) -> Result<Acted, Stop>
-    ensures { Did acted_of result checker.new (simples.print_form own items.now standing scope checker.old) }
+    ensures { Did acted_of result checker.new
+        (simples.print_form own items.now standing scope checker.old) }
 {
     let printed = check_items(checker, scope, items)?;
     let place = place_at(standing.at, own);
@@ -549,7 +565,8 @@ fn check_choice(
     own: Place,
     chosen: &Expression,
 ) -> Result<Acted, Stop>
-    ensures { Did acted_of result checker.new (simples.choice_form own (judge chosen.now) standing scope checker.old) }
+    ensures { Did acted_of result checker.new
+        (simples.choice_form own (judge chosen.now) standing scope checker.old) }
 {
     let chosen = check_expression(checker, scope, chosen)?;
     let place = place_at(standing.at, own);
@@ -573,7 +590,8 @@ pub fn check_simple(
     standing: Standing,
     simple: &Simple,
 ) -> Result<Acted, Stop>
-    ensures { Did acted_of result checker.new (simples.simple_form simple.now standing scope checker.old) }
+    ensures { Did acted_of result checker.new
+        (simples.simple_form simple.now standing scope checker.old) }
 {
     match simple {
         Simple::Write {
@@ -632,7 +650,8 @@ pub fn check_return(
     place: Place,
     value: Option<&Expression>,
 ) -> Result<Action, Stop>
-    ensures { Did deed_of result checker.new (simples.return_form place (option_map (λ e. judge e.now) value.entry) scope checker.old) }
+    ensures { Did deed_of result checker.new
+        (simples.return_form place (option_map (λ e. judge e.now) value.entry) scope checker.old) }
 {
     let value = check_start(checker, scope, value)?;
     let fault = return_fault(scope.function, scope.no_return, &value);

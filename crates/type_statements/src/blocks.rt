@@ -24,7 +24,9 @@ fn check_next<W: Within>(
     mut tasks: Vec<Task>,
 ) -> Result<Vec<Task>, Stop>
     requires { W.may_judge inside.now statement.now }
-    ensures { Did tasks_of result checker.new (statements.task_form scope (map work_of tasks.items) (statement_of statement.now) checker.old) }
+    ensures { Did tasks_of result checker.new
+        (statements.task_form scope (map work_of tasks.items)
+        (statement_of statement.now) checker.old) }
 {
     let task = inside.judge(checker, scope, statement)?;
     tasks.push(task)?;
@@ -39,7 +41,8 @@ fn check_tasks<W: Within>(
     all: &[Statement],
 ) -> Result<Vec<Task>, Stop>
     requires { All (W.may_judge inside.now) all.now }
-    ensures { Did tasks_of result checker.new (statements.tasks_form (map statement_of all.now) scope checker.old) }
+    ensures { Did tasks_of result checker.new
+        (statements.tasks_form (map statement_of all.now) scope checker.old) }
 {
     let mut tasks = Vec::new(checker.alloc());
     for statement in all {
@@ -56,8 +59,10 @@ pub(crate) fn check_own_block<W: Within>(
     inside: &W,
     block: &Block,
 ) -> Result<Task, Stop>
-    requires { (part : Statement) → size-Statement part < size-Block block.now → W.may_judge inside.now part }
-    ensures { Did work_of result checker.new (statements.within_own (block_of block.now) scope checker.old) }
+    requires { (part : Statement) → size-Statement part < size-Block block.now →
+        W.may_judge inside.now part }
+    ensures { Did work_of result checker.new
+        (statements.within_own (block_of block.now) scope checker.old) }
 {
     let count = checker.count();
     let tasks = check_tasks(checker, scope.opened(count), inside, &block.statements)?;

@@ -26,7 +26,8 @@ pub(crate) fn check_if<W: Within>(
     then: &Statement,
 ) -> Result<Task, Stop>
     requires { W.may_judge inside.now «then».now }
-    ensures { Did work_of result checker.new (statements.if_form place (judge test.now) (statement_of «then».now) scope checker.old) }
+    ensures { Did work_of result checker.new
+        (statements.if_form place (judge test.now) (statement_of «then».now) scope checker.old) }
 {
     let test = check_expression(checker, scope, test)?;
     let test = behind(rule(place, truth_fault(test.kind)), test)?;
@@ -46,7 +47,9 @@ pub(crate) fn check_if_else<W: Within>(
 ) -> Result<Task, Stop>
     requires first { W.may_judge inside.now «then».now }
     requires second { W.may_judge inside.now otherwise.now }
-    ensures { Did work_of result checker.new (statements.if_else_form place (judge test.now) (statement_of «then».now) (statement_of otherwise.now) scope checker.old) }
+    ensures { Did work_of result checker.new
+        (statements.if_else_form place (judge test.now) (statement_of «then».now)
+        (statement_of otherwise.now) scope checker.old) }
 {
     let test = check_expression(checker, scope, test)?;
     let test = behind(rule(place, truth_fault(test.kind)), test)?;
@@ -66,7 +69,8 @@ pub(crate) fn check_while<W: Within>(
     body: &Statement,
 ) -> Result<Task, Stop>
     requires { W.may_judge inside.now body.now }
-    ensures { Did work_of result checker.new (statements.while_form place (judge test.now) (statement_of body.now) scope checker.old) }
+    ensures { Did work_of result checker.new
+        (statements.while_form place (judge test.now) (statement_of body.now) scope checker.old) }
 {
     let test = check_expression(checker, scope, test)?;
     let test = behind(rule(place, truth_fault(test.kind)), test)?;

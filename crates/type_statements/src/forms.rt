@@ -24,7 +24,8 @@ pub(crate) fn check_form<W: Within>(
     inside: &W,
     statement: &Statement,
 ) -> Result<Task, Stop>
-    requires { (part : Statement) → size-Statement part < size-Statement statement.now → W.may_judge inside.now part }
+    requires { (part : Statement) → size-Statement part < size-Statement statement.now →
+        W.may_judge inside.now part }
     ensures { Did work_of result checker.new (statement_of statement.now scope checker.old) }
 {
     match statement {

@@ -60,7 +60,8 @@ pub(crate) fn check_own<W: Within>(
     statement: &Statement,
 ) -> Result<Box<Task>, Stop>
     requires { W.may_judge inside.now statement.now }
-    ensures { Did boxed_of result checker.new (within_own (statement_of statement.now) scope checker.old) }
+    ensures { Did boxed_of result checker.new
+        (within_own (statement_of statement.now) scope checker.old) }
 {
     let count = checker.count();
     let task = inside.judge(checker, scope.opened(count), statement)?;

@@ -32,7 +32,9 @@ pub(crate) fn check_neighbor<W: Within>(
     body: &Statement,
 ) -> Result<Task, Stop>
     requires { W.may_judge inside.now body.now }
-    ensures { Did work_of result checker.new (statements.neighbor_form place (judge key.now) selector.now (statement_of body.now) scope checker.old) }
+    ensures { Did work_of result checker.new
+        (statements.neighbor_form place (judge key.now) selector.now
+        (statement_of body.now) scope checker.old) }
 {
     let key = check_expression(checker, scope, key)?;
     let fit = is_number(key.kind);
@@ -52,8 +54,10 @@ pub(crate) fn check_with<W: Within>(
     solver: &Name,
     body: &Block,
 ) -> Result<Task, Stop>
-    requires { (part : Statement) → size-Statement part < size-Block body.now → W.may_judge inside.now part }
-    ensures { Did work_of result checker.new (statements.with_form place mode solver.now (block_of body.now) scope checker.old) }
+    requires { (part : Statement) → size-Statement part < size-Block body.now →
+        W.may_judge inside.now part }
+    ensures { Did work_of result checker.new
+        (statements.with_form place mode solver.now (block_of body.now) scope checker.old) }
 {
     let slot = write_name(checker, place, Kind::Solver, true, solver, scope)?;
     let body = check_own_block(checker, apart(scope), inside, body)?;
@@ -71,7 +75,8 @@ pub(crate) fn check_whenever<W: Within>(
     body: &Statement,
 ) -> Result<Task, Stop>
     requires { W.may_judge inside.now body.now }
-    ensures { Did work_of result checker.new (statements.whenever_form place watched.now (statement_of body.now) scope checker.old) }
+    ensures { Did work_of result checker.new
+        (statements.whenever_form place watched.now (statement_of body.now) scope checker.old) }
 {
     let variable = check_watched(checker, scope, place, watched)?;
     let count = checker.count();
@@ -93,7 +98,9 @@ pub(crate) fn check_parall<W: Within>(
     body: &Statement,
 ) -> Result<Task, Stop>
     requires { W.may_judge inside.now body.now }
-    ensures { Did work_of result checker.new (statements.parall_form place name.now (judge domain.now) (statement_of body.now) scope checker.old) }
+    ensures { Did work_of result checker.new
+        (statements.parall_form place name.now (judge domain.now)
+        (statement_of body.now) scope checker.old) }
 {
     let domain = check_shared(checker, scope, place, domain)?;
     let count = checker.count();

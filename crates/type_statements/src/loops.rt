@@ -25,7 +25,8 @@ pub(crate) fn check_for<W: Within>(
     body: &Statement,
 ) -> Result<Task, Stop>
     requires { W.may_judge inside.now body.now }
-    ensures { Did work_of result checker.new (statements.for_form place head.now (statement_of body.now) scope checker.old) }
+    ensures { Did work_of result checker.new
+        (statements.for_form place head.now (statement_of body.now) scope checker.old) }
 {
     let count = checker.count();
     let at = scope.opened(count);
@@ -45,7 +46,9 @@ pub(crate) fn check_for_all<W: Within>(
     body: &Statement,
 ) -> Result<Task, Stop>
     requires { W.may_judge inside.now body.now }
-    ensures { Did work_of result checker.new (statements.for_all_form place (judge_generators generators.now) (statement_of body.now) scope checker.old) }
+    ensures { Did work_of result checker.new
+        (statements.for_all_form place (judge_generators generators.now)
+        (statement_of body.now) scope checker.old) }
 {
     let count = checker.count();
     let at = scope.opened(count);

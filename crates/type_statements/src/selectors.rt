@@ -27,7 +27,9 @@ pub(crate) fn check_select<W: Within>(
     body: &Statement,
 ) -> Result<Task, Stop>
     requires { W.may_judge inside.now body.now }
-    ensures { Did work_of result checker.new (statements.select_form place (judge_generators generators.now) (statement_of body.now) scope checker.old) }
+    ensures { Did work_of result checker.new
+        (statements.select_form place (judge_generators generators.now)
+        (statement_of body.now) scope checker.old) }
 {
     let count = checker.count();
     let at = scope.opened(count);
@@ -51,7 +53,9 @@ pub(crate) fn check_select_by<W: Within>(
     body: &Statement,
 ) -> Result<Task, Stop>
     requires { W.may_judge inside.now body.now }
-    ensures { Did work_of result checker.new (statements.select_by_form place extreme (judge_generators generators.now) (judge key.now) (statement_of body.now) scope checker.old) }
+    ensures { Did work_of result checker.new
+        (statements.select_by_form place extreme (judge_generators generators.now) (judge key.now)
+        (statement_of body.now) scope checker.old) }
 {
     let count = checker.count();
     let at = scope.opened(count);

@@ -36,7 +36,8 @@ pub fn check_statement(
 
 /// Judges a block, in a scope of its own. Refused exactly as its statements are; `NoMemory` where memory runs out.
 pub fn check_block(checker: &mut Checker, scope: Scope, block: &Block) -> Result<Task, Stop>
-    ensures { Did work_of result checker.new (statements.within_own (block_of block.now) scope checker.old) }
+    ensures { Did work_of result checker.new
+        (statements.within_own (block_of block.now) scope checker.old) }
 {
     let inside = Inside {
         judge: check_statement,

@@ -24,42 +24,52 @@ ghost use Rattle.typing.specs.Statements.{StatementIsTyped};
 
 /// An accepted expression is well typed: what checking makes of it, and what is known then, follow by the rules.
 pub fn accepted_expressions_are_well_typed()
-    ensures { (scope : Scope) (before : State) (e : Expression) (x : Seen) (after : State) → judge e scope before ≡ Went x after → IsTyped scope before e x after }
+    ensures { (scope : Scope) (before : State) (e : Expression) (x : Seen) (after : State) →
+        judge e scope before ≡ Went x after → IsTyped scope before e x after }
 {}
 
 /// A well typed expression is accepted, with what the rules make of it and what they say is known then.
 pub fn well_typed_expressions_are_accepted()
-    ensures { (scope : Scope) (before : State) (e : Expression) (x : Seen) (after : State) → IsTyped scope before e x after → judge e scope before ≡ Went x after }
+    ensures { (scope : Scope) (before : State) (e : Expression) (x : Seen) (after : State) →
+        IsTyped scope before e x after → judge e scope before ≡ Went x after }
 {}
 
 /// An accepted declaration is well typed: what checking makes of it, and what is known then, follow by the rules.
 pub fn accepted_declarations_are_well_typed()
-    ensures { (scope : Scope) (before : State) (d : Declaration) (x : Deed) (after : State) → declaration_form d scope before ≡ Went x after → DeclarationIsTyped scope before d x after }
+    ensures { (scope : Scope) (before : State) (d : Declaration) (x : Deed) (after : State) →
+        declaration_form d scope before ≡ Went x after → DeclarationIsTyped scope before d x after }
 {}
 
 /// A well typed declaration is accepted, with what the rules make of it and what they say is known then.
 pub fn well_typed_declarations_are_accepted()
-    ensures { (scope : Scope) (before : State) (d : Declaration) (x : Deed) (after : State) → DeclarationIsTyped scope before d x after → declaration_form d scope before ≡ Went x after }
+    ensures { (scope : Scope) (before : State) (d : Declaration) (x : Deed) (after : State) →
+        DeclarationIsTyped scope before d x after → declaration_form d scope before ≡ Went x after }
 {}
 
 /// An accepted simple statement is well typed: what checking makes of it, and what is known then, follow by the rules.
 pub fn accepted_simples_are_well_typed()
-    ensures { (scope : Scope) (before : State) (standing : Standing) (x : Simple) (y : Acted) (after : State) → simple_form x standing scope before ≡ Went y after → SimpleIsTyped scope before standing x y after }
+    ensures { (scope : Scope) (before : State) (standing : Standing) (x : Simple) (y : Acted)
+        (after : State) → simple_form x standing scope before ≡ Went y after →
+        SimpleIsTyped scope before standing x y after }
 {}
 
 /// A well typed simple statement is accepted, with what the rules make of it and what they say is known then.
 pub fn well_typed_simples_are_accepted()
-    ensures { (scope : Scope) (before : State) (standing : Standing) (x : Simple) (y : Acted) (after : State) → SimpleIsTyped scope before standing x y after → simple_form x standing scope before ≡ Went y after }
+    ensures { (scope : Scope) (before : State) (standing : Standing) (x : Simple) (y : Acted)
+        (after : State) → SimpleIsTyped scope before standing x y after →
+        simple_form x standing scope before ≡ Went y after }
 {}
 
 /// An accepted statement is well typed: what checking makes of it, and what is known then, follow by the rules.
 pub fn accepted_statements_are_well_typed()
-    ensures { (scope : Scope) (before : State) (x : Statement) (w : Work) (after : State) → statement_of x scope before ≡ Went w after → StatementIsTyped scope before x w after }
+    ensures { (scope : Scope) (before : State) (x : Statement) (w : Work) (after : State) →
+        statement_of x scope before ≡ Went w after → StatementIsTyped scope before x w after }
 {}
 
 /// A well typed statement is accepted, with what the rules make of it and what they say is known then.
 pub fn well_typed_statements_are_accepted()
-    ensures { (scope : Scope) (before : State) (x : Statement) (w : Work) (after : State) → StatementIsTyped scope before x w after → statement_of x scope before ≡ Went w after }
+    ensures { (scope : Scope) (before : State) (x : Statement) (w : Work) (after : State) →
+        StatementIsTyped scope before x w after → statement_of x scope before ≡ Went w after }
 {}
 
 /// An accepted program is well typed: what checking makes of it follows by the rules.

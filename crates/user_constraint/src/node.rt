@@ -19,7 +19,8 @@ pub struct UserNode<U: UserConstraint> {
 impl<U: UserConstraint> UserNode<U> {
     /// The node of that constraint.
     pub fn new(alloc: Global, user: U) -> UserNode<U>
-        ensures rule { ⟦<UserNode<U> as NumberNode>⟧.number_rule result ≡ rule_of_user (U.user_rule user) }
+        ensures rule { ⟦<UserNode<U> as NumberNode>⟧.number_rule result ≡
+            rule_of_user (U.user_rule user) }
     {
         UserNode { user, alloc }
     }

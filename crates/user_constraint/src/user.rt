@@ -50,7 +50,9 @@ pub trait UserConstraint: Send + Sync + Drop {
     fn probe(&self, moves: &[(usize, i64)]) -> Result<i64, NoMemory>
         requires usable { usable self.now }
         requires moves { AreMoves (length (held self.now)) moves.now }
-        ensures { IfOk result (λ violations. violations ≡ pos ((user_rule self.now).viol_of (after_moves (held self.now) moves.now))) };
+        ensures { IfOk result (λ violations.
+            violations ≡ pos ((user_rule self.now).viol_of
+            (after_moves (held self.now) moves.now))) };
 
     /// The violations at a place, below the length, of the numbers that it holds.
     fn place_violation(&self, place: usize) -> i64

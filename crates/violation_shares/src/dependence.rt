@@ -15,7 +15,8 @@ use term_model::order_of;
 /// Whether a variable is `var`, or names one that has a mark.
 #[tactic(auto, using(model_values::proofs::VarLaws::names_of_var, model_values::proofs::VarLaws::lists_within))]
 fn next_mark<U: UserValues>(tables: &Tables<'_, U>, marks: &[bool], var: u32, index: usize) -> bool
-    requires tables { AreTables tables.now.model.now tables.now.definitions.items (map (λ names. names.items) tables.now.named.items) }
+    requires tables { AreTables tables.now.model.now tables.now.definitions.items
+        (map (λ names. names.items) tables.now.named.items) }
     requires within { index < length tables.now.model.now.vars.items }
     ensures { result ≡ mark_step tables.now.model.now marks.now var index }
 {
@@ -25,7 +26,8 @@ fn next_mark<U: UserValues>(tables: &Tables<'_, U>, marks: &[bool], var: u32, in
 /// Marks in an order in which each variable comes after those that it names. As the order is a hint, so are
 /// they.
 fn guessed_marks<U: UserValues>(tables: &Tables<'_, U>, var: u32) -> Result<Vec<bool>, NoMemory>
-    requires tables { AreTables tables.now.model.now tables.now.definitions.items (map (λ names. names.items) tables.now.named.items) }
+    requires tables { AreTables tables.now.model.now tables.now.definitions.items
+        (map (λ names. names.items) tables.now.named.items) }
 {
     let count = tables.model.vars.len();
     let mut marks = vec![in tables.alloc; false; count]?;
@@ -47,8 +49,10 @@ fn next_marks<U: UserValues>(
     marks: &[bool],
     var: u32,
 ) -> Result<Vec<bool>, NoMemory>
-    requires tables { AreTables tables.now.model.now tables.now.definitions.items (map (λ names. names.items) tables.now.named.items) }
-    ensures each { IfOk result (λ v. (i : ℕ) → i < length tables.now.model.now.vars.items → slice_get v.items i ≡ Some (mark_step tables.now.model.now marks.now var i)) }
+    requires tables { AreTables tables.now.model.now tables.now.definitions.items
+        (map (λ names. names.items) tables.now.named.items) }
+    ensures each { IfOk result (λ v. (i : ℕ) → i < length tables.now.model.now.vars.items →
+        slice_get v.items i ≡ Some (mark_step tables.now.model.now marks.now var i)) }
 {
     let mut next = Vec::new(tables.alloc);
     for index in 0..tables.model.vars.len() {
@@ -66,7 +70,8 @@ pub(crate) fn marks_of<U: UserValues>(
 ) -> Result<Vec<bool>, NoMemory>
     requires well_formed { IsWellFormed tables.now.model.now }
     requires acyclic { IsAcyclic tables.now.model.now }
-    requires tables { AreTables tables.now.model.now tables.now.definitions.items (map (λ names. names.items) tables.now.named.items) }
+    requires tables { AreTables tables.now.model.now tables.now.definitions.items
+        (map (λ names. names.items) tables.now.named.items) }
     ensures { IfOk result (λ v. AreMarks tables.now.model.now var v.items) }
 {
     let mut marks = guessed_marks(tables, var)?;

@@ -70,7 +70,8 @@ pub(crate) fn gather_violation(
     so_far: Result<Vec<i64>, RunFault>,
     violation: Result<i64, RunFault>,
 ) -> Result<Result<Vec<i64>, RunFault>, NoMemory>
-    ensures { IfOk result (λ r. listed_violations r ≡ gather_violation (listed_violations so_far) violation) }
+    ensures { IfOk result (λ r. listed_violations r ≡
+        gather_violation (listed_violations so_far) violation) }
 {
     match (so_far, violation) {
         (Ok(mut violations), Ok(violation)) => {
@@ -146,8 +147,10 @@ fn violations_where<U: UserValues>(
     inputs: &[Input],
     depends: &[bool],
 ) -> Result<Vec<i64>, NoMemory>
-    requires takes { IsTrue ((rule_of (user_rules (U.viol_of users.now) (U.viol_at users.now)) op.now).takes (kinds_of inputs.now)) }
-    requires valued { IsOk ((rule_of (user_rules (U.viol_of users.now) (U.viol_at users.now)) op.now).value inputs.now) }
+    requires takes { IsTrue ((rule_of (user_rules (U.viol_of users.now)
+        (U.viol_at users.now)) op.now).takes (kinds_of inputs.now)) }
+    requires valued { IsOk ((rule_of (user_rules (U.viol_of users.now)
+        (U.viol_at users.now)) op.now).value inputs.now) }
     ensures { IfOk result (λ v. v.items ≡ violations_where depends.now ((rule_of (user_rules (U.viol_of users.now) (U.viol_at users.now)) op.now).violation_at inputs.now) (length inputs.now)) }
 {
     let mut found = Vec::new(alloc);
@@ -205,9 +208,13 @@ fn violation_by<U: UserValues>(
     args: &ArgumentsHeld,
     value: &Input,
 ) -> Result<Result<i64, RunFault>, NoMemory>
-    requires takes { IsTrue ((rule_of (user_rules (U.viol_of setting.now.users.now) (U.viol_at setting.now.users.now)) op.now).takes (kinds_of inputs.now)) }
-    requires valued { IsOk ((rule_of (user_rules (U.viol_of setting.now.users.now) (U.viol_at setting.now.users.now)) op.now).value inputs.now) }
-    ensures { IfOk result (λ v. v ≡ violation_by (user_rules (U.viol_of setting.now.users.now) (U.viol_at setting.now.users.now)) op.now (combination_of op.now) (seen_arguments args.now) inputs.now value.now) }
+    requires takes { IsTrue ((rule_of (user_rules (U.viol_of setting.now.users.now)
+        (U.viol_at setting.now.users.now)) op.now).takes (kinds_of inputs.now)) }
+    requires valued { IsOk ((rule_of (user_rules (U.viol_of setting.now.users.now)
+        (U.viol_at setting.now.users.now)) op.now).value inputs.now) }
+    ensures { IfOk result (λ v. v ≡ violation_by
+        (user_rules (U.viol_of setting.now.users.now) (U.viol_at setting.now.users.now)) op.now
+        (combination_of op.now) (seen_arguments args.now) inputs.now value.now) }
 {
     match combination_of(op) {
         Combination::Every => Ok(total_violation(&args.violations)),
@@ -230,8 +237,11 @@ fn node_share<U: UserValues>(
     inputs: &[Input],
     args: &ArgumentsHeld,
 ) -> Result<Share, NoMemory>
-    requires takes { IsTrue ((rule_of (user_rules (U.viol_of setting.now.users.now) (U.viol_at setting.now.users.now)) op.now).takes (kinds_of inputs.now)) }
-    ensures { IfOk result (λ s. s ≡ node_share (user_rules (U.viol_of setting.now.users.now) (U.viol_at setting.now.users.now)) op.now (Some inputs.now) (seen_arguments args.now)) }
+    requires takes { IsTrue ((rule_of (user_rules (U.viol_of setting.now.users.now)
+        (U.viol_at setting.now.users.now)) op.now).takes (kinds_of inputs.now)) }
+    ensures { IfOk result (λ s. s ≡ node_share
+        (user_rules (U.viol_of setting.now.users.now) (U.viol_at setting.now.users.now)) op.now
+        (Some inputs.now) (seen_arguments args.now)) }
 {
     let depends = one_depends(&args.depends);
     match value_of(setting.alloc, setting.users, op, inputs)? {
@@ -265,10 +275,15 @@ pub(crate) fn term_share<U: UserValues>(
     marks: &[bool],
     term: &Term,
 ) -> Result<Share, NoMemory>
-    requires kinds { HasKinds (kinds_in setting.now.model.now.vars.items) (env_of setting.now.cells.now) }
-    requires well_kinded { IsSome (kind_of_term (kinds_in setting.now.model.now.vars.items) term.now) }
-    ensures share { IfOk result (λ s. s ≡ share_of (user_rules (U.viol_of setting.now.users.now) (U.viol_at setting.now.users.now)) (env_of setting.now.cells.now) (marked marks.now) term.now) }
-    ensures kind { IfOk result (λ s. IfSome s.outcome (λ x. kind_of_term (kinds_in setting.now.model.now.vars.items) term.now ≡ Some (kind_of x))) }
+    requires kinds { HasKinds (kinds_in setting.now.model.now.vars.items)
+        (env_of setting.now.cells.now) }
+    requires well_kinded { IsSome (kind_of_term
+        (kinds_in setting.now.model.now.vars.items) term.now) }
+    ensures share { IfOk result (λ s. s ≡
+        share_of (user_rules (U.viol_of setting.now.users.now) (U.viol_at setting.now.users.now))
+        (env_of setting.now.cells.now) (marked marks.now) term.now) }
+    ensures kind { IfOk result (λ s. IfSome s.outcome (λ x.
+        kind_of_term (kinds_in setting.now.model.now.vars.items) term.now ≡ Some (kind_of x))) }
 {
     match term {
         Term::Const(x) => Ok(leaf_share(Some(Input::Int(*x)), false)),

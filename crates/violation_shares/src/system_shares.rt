@@ -40,10 +40,12 @@ fn weigh_posted<U: UserValues>(
     posted: Posted,
 ) -> Result<WeighedHeld, NoMemory>
     requires well_formed { IsWellFormed setting.now.model.now }
-    requires kinds { HasKinds (kinds_in setting.now.model.now.vars.items) (env_of setting.now.cells.now) }
+    requires kinds { HasKinds (kinds_in setting.now.model.now.vars.items)
+        (env_of setting.now.cells.now) }
     requires weighed { HasWeightsOf (listed_violations weighed.violations) weighed.weights.items }
     ensures parts { IfOk result (λ w. seen_weighed w ≡ weigh_posted (user_rules (U.viol_of setting.now.users.now) (U.viol_at setting.now.users.now)) (env_of setting.now.cells.now) (marked marks.now) setting.now.model.now system (seen_weighed weighed) posted) }
-    ensures weighed { IfOk result (λ w. HasWeightsOf (listed_violations w.violations) w.weights.items) }
+    ensures weighed { IfOk result (λ w.
+        HasWeightsOf (listed_violations w.violations) w.weights.items) }
 {
     let Some(member) = member_in(setting.model, Whole::System(system), posted) else {
         return Ok(weighed);
@@ -66,9 +68,11 @@ fn weighed_in<U: UserValues>(
     system: usize,
 ) -> Result<WeighedHeld, NoMemory>
     requires well_formed { IsWellFormed setting.now.model.now }
-    requires kinds { HasKinds (kinds_in setting.now.model.now.vars.items) (env_of setting.now.cells.now) }
+    requires kinds { HasKinds (kinds_in setting.now.model.now.vars.items)
+        (env_of setting.now.cells.now) }
     ensures parts { IfOk result (λ w. seen_weighed w ≡ weighed_in (user_rules (U.viol_of setting.now.users.now) (U.viol_at setting.now.users.now)) (env_of setting.now.cells.now) (marked marks.now) setting.now.model.now system setting.now.model.now.posted.items) }
-    ensures weighed { IfOk result (λ w. HasWeightsOf (listed_violations w.violations) w.weights.items) }
+    ensures weighed { IfOk result (λ w.
+        HasWeightsOf (listed_violations w.violations) w.weights.items) }
 {
     let mut weighed = WeighedHeld {
         violations: Ok(Vec::new(setting.alloc)),
@@ -101,7 +105,8 @@ fn violation_in_system<U: UserValues>(
     system: usize,
 ) -> Result<Result<i64, RunFault>, NoMemory>
     requires well_formed { IsWellFormed setting.now.model.now }
-    requires kinds { HasKinds (kinds_in setting.now.model.now.vars.items) (env_of setting.now.cells.now) }
+    requires kinds { HasKinds (kinds_in setting.now.model.now.vars.items)
+        (env_of setting.now.cells.now) }
     ensures { IfOk result (λ v. v ≡ violation_in_system (user_rules (U.viol_of setting.now.users.now) (U.viol_at setting.now.users.now)) setting.now.model.now (env_of setting.now.cells.now) (marked marks.now) system) }
 {
     let WeighedHeld {
@@ -149,7 +154,9 @@ pub fn variable_violations<U: UserValues>(
     requires assigned { length assignment.now ≡ length model.now.vars.items }
     requires system { system < length model.now.systems.items }
     requires var { var < length model.now.vars.items }
-    ensures { IsAnswer (variable_violations_of (user_rules (U.viol_of users.now) (U.viol_at users.now)) model.now assignment.now system var) result }
+    ensures { IsAnswer (variable_violations_of
+        (user_rules (U.viol_of users.now)
+        (U.viol_at users.now)) model.now assignment.now system var) result }
 {
     let tables = tables_of(alloc, users, model, assignment)?;
     let cells = outcomes_of(&tables)?;
