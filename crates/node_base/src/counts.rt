@@ -85,7 +85,8 @@ impl Counts {
     /// One less of the number.
     pub fn take(&mut self, number: i64)
         requires { 0 < times_in self.old number }
-        ensures { (v : ℤ) → times_in self.new v ≡ (if int_eq number v then times_in self.old v - 1 else times_in self.old v) }
+        ensures { (v : ℤ) → times_in self.new v ≡
+            (if int_eq number v then times_in self.old v - 1 else times_in self.old v) }
     {
         match self.place_of(number) {
             Some(place) => self.window[place] -= 1,
@@ -95,7 +96,8 @@ impl Counts {
 
     /// The place of the number in the window. `None` exactly where it isn't there.
     fn place_of(&self, number: i64) -> Option<usize>
-        ensures place { result ≡ place_in_window self.now.low (length self.now.window.items) number }
+        ensures place { result ≡ place_in_window self.now.low
+            (length self.now.window.items) number }
         ensures within { IfSome result (λ place. place < length self.now.window.items) }
     {
         let place = usize::try_from(number.checked_sub(self.low)?).ok()?;

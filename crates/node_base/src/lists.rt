@@ -24,7 +24,8 @@ pub fn changes_between(alloc: Global, from: &[i64], to: &[i64]) -> Result<Vec<Ch
     requires lengths { length to.now ≡ length from.now }
     requires places { length from.now < 2 ^ 32 }
     ensures changes { IfOk result (λ changes. AreChanges (as_inputs from.now) changes.items) }
-    ensures after { IfOk result (λ changes. after_changes (as_inputs from.now) changes.items ≡ as_inputs to.now) }
+    ensures after { IfOk result (λ changes. after_changes (as_inputs from.now) changes.items ≡
+        as_inputs to.now) }
 {
     let mut changes = Vec::new(alloc);
     for (place, old) in from.iter().enumerate() {

@@ -30,7 +30,8 @@ pub trait NumberNode: Send + Sync + Drop {
         requires settled { settled self.old }
         requires change { IsNumberChange (held_numbers self.old) change }
         ensures settled { OnOk result (settled self.new) }
-        ensures numbers { OnOk result (held_numbers self.new ≡ after_number_change (held_numbers self.old) change) }
+        ensures numbers { OnOk result (held_numbers self.new ≡
+            after_number_change (held_numbers self.old) change) }
         ensures rule { number_rule self.new ≡ number_rule self.old };
 
     /// The value of the numbers as these changes would make them. `Run` with the rule's fault where
@@ -38,7 +39,8 @@ pub trait NumberNode: Send + Sync + Drop {
     fn probe(&self, changes: &[NumberChange]) -> Result<i64, NodeFault>
         requires settled { settled self.now }
         requires changes { AreNumberChanges (held_numbers self.now) changes.now }
-        ensures { IsNumberAnswer ((number_rule self.now).value (after_number_changes (held_numbers self.now) changes.now)) result };
+        ensures { IsNumberAnswer ((number_rule self.now).value
+            (after_number_changes (held_numbers self.now) changes.now)) result };
 
     /// The value of the numbers that it holds, or the rule's fault where they have none.
     fn value(&self) -> Result<i64, RunFault>

@@ -71,7 +71,8 @@ impl OrderedCounts {
     /// One less of the number.
     pub fn take(&mut self, number: i64)
         requires { 0 < times_kept self.old number }
-        ensures { (v : ℤ) → times_kept self.new v ≡ (if int_eq number v then times_kept self.old v - 1 else times_kept self.old v) }
+        ensures { (v : ℤ) → times_kept self.new v ≡
+            (if int_eq number v then times_kept self.old v - 1 else times_kept self.old v) }
     {
         let times = self.times(number);
         if times == 1 {

@@ -20,7 +20,8 @@ pub struct OverNumbers<N: NumberNode> {
 impl<N: NumberNode> OverNumbers<N> {
     /// That node as a `NodeRule`: its rule is that of the node, over inputs that are all numbers.
     pub fn new(alloc: Global, node: N) -> OverNumbers<N>
-        ensures rule { ⟦<OverNumbers<N> as NodeRule>⟧.rule result ≡ rule_of_numbers (N.number_rule node) }
+        ensures rule { ⟦<OverNumbers<N> as NodeRule>⟧.rule result ≡
+            rule_of_numbers (N.number_rule node) }
     {
         OverNumbers {
             node,
@@ -37,7 +38,8 @@ impl<N: NumberNode> NodeRule for OverNumbers<N> {
 
     ghost rule = { λ s. rule_of_numbers (N.number_rule s.node) };
 
-    ghost ready = { λ s. N.settled s.node × (s.value ≡ as_value ((N.number_rule s.node).value (N.held_numbers s.node))) };
+    ghost ready = { λ s. N.settled s.node ×
+        (s.value ≡ as_value ((N.number_rule s.node).value (N.held_numbers s.node))) };
 
     ghost held = { λ s. as_inputs (N.held_numbers s.node) };
 
