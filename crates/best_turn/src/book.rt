@@ -46,7 +46,13 @@ impl<S: Replays> Book<S, S::Request, S::Reply> {
         request: S::Request,
     ) -> Result<S::Reply, NoMemory>
         requires { S.takes self.old.0 request }
-        ensures { MatchResult result (λ r. (r ≡ S.answer self.old.0 request) × (self.new ≡ (S.after self.old.0 request, self.old.1 ++ (number, record { iteration = iteration; request = request; reply = r }) ∷ [])) × (length self.new.1 < 2 ^ 64)) (λ _. self.new ≡ self.old) }
+        ensures { MatchResult result (λ r. (r ≡ S.answer self.old.0 request) ×
+            (self.new ≡ (
+              S.after self.old.0 request,
+              self.old.1 ++
+                  (number, record { iteration = iteration; request = request; reply = r }) ∷ [],
+            )) ×
+            (length self.new.1 < 2 ^ 64)) (λ _. self.new ≡ self.old) }
     {
         let Ok(kept) = self.state.reply(&request) else {
             return Err(NoMemory);

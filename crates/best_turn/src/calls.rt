@@ -77,7 +77,10 @@ impl<S: Replays> Seat<S> {
         requires takes { S.takes (start_of turn.now) request }
         ensures seat { IsSeatOf turn.now self.new }
         ensures had { IfOk result (λ r. S.can_have request r.0) }
-        ensures call { MatchResult result (λ r. Called S.takes S.after S.answer (view_of self.old) iteration request r.0 r.1.0 (view_of self.new)) (λ _. Looked S.takes S.after S.answer (view_of self.old) (view_of self.new)) }
+        ensures call { MatchResult result (λ r.
+            Called S.takes S.after S.answer (view_of self.old) iteration request r.0 r.1.0
+            (view_of self.new)) (λ _. Looked S.takes S.after S.answer (view_of self.old)
+            (view_of self.new)) }
     {
         turn.take(rt, &mut self.token);
         let Ok(reply) = turn.ask(&mut self.token, self.number, iteration, request) else {

@@ -179,7 +179,10 @@ impl<S: Replays> Turn<S> {
         requires held { HoldsBook token.old.me (λ d. S.takes d.0 request) }
         ensures table { (token.new.table_id ≡ token.old.table_id) × (token.new.id ≡ token.old.id) ×
             (token.new.me.0 ≡ token.old.me.0) }
-        ensures asked { HoldsBook token.old.me (λ d. MatchResult result (λ r. (r ≡ S.answer d.0 request) × Pushed S.after d number iteration request r token.new.me) (λ _. token.new.me.1 ≡ (0, d) ∷ [])) }
+        ensures asked { HoldsBook token.old.me (λ d.
+            MatchResult result (λ r. (r ≡ S.answer d.0 request) ×
+            Pushed S.after d number iteration request r token.new.me) (λ _.
+            token.new.me.1 ≡ (0, d) ∷ [])) }
     {
         let book = token.slot_mut(&self.table.shared, 0);
         book.ask(number, iteration, request)

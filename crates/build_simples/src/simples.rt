@@ -86,7 +86,10 @@ fn make_call(alloc: Global, place: Place, chosen: Expression) -> Result<Simple, 
 /// `call(chosen)`
 pub fn undo_call(alloc: Global, stacks: &mut Stacks) -> Result<(), NoMemory>
     requires { Ready simple_call stacks.old }
-    ensures { IfOk result (λ _. Undone simple simple_call (λ v x. written_simple x ≡ (λ behind. form simple simple_call ∷ mark words.Call v.0 (word words.LeftParenthesis (whole_text v.1.1.0 (word words.RightParenthesis behind))))) stacks.old stacks.new) }
+    ensures { IfOk result (λ _. Undone simple simple_call (λ v x.
+        written_simple x ≡ (λ behind. form simple simple_call ∷ mark words.Call v.0
+        (word words.LeftParenthesis (whole_text v.1.1.0
+        (word words.RightParenthesis behind))))) stacks.old stacks.new) }
 {
     let place = take(&mut stacks.places);
     let chosen = take(&mut stacks.expressions);

@@ -44,26 +44,40 @@ pub fn pure_expressions_only_spend_fuel()
 /// A pure expression does the same whatever the data is, what each input has read of it, which words come, which solutions,
 /// handlers, events and users' constraints there are, and what was printed.
 pub fn pure_expressions_see_no_data()
-    ensures { (functions : List Coded) (room : ℕ) (e : Shape) (outside : Outside) (s : State) → is_pure (pure_functions functions) e ≡ true → (level (code_of functions) room).expr e (with_outside outside s) ≡ leaving outside ((level (code_of functions) room).expr e s) }
+    ensures { (functions : List Coded) (room : ℕ) (e : Shape) (outside : Outside) (s : State) →
+        is_pure (pure_functions functions) e ≡ true →
+        (level (code_of functions) room).expr e (with_outside outside s) ≡
+        leaving outside ((level (code_of functions) room).expr e s) }
 {}
 
 /// Where its generators, its condition and its key are pure, the scan of a selector's candidates changes nothing of the
 /// state but the fuel, and does the same whatever the data is, which words come, and what else no pure expression sees.
 pub fn pure_scans_only_spend_fuel()
-    ensures fuel { (functions : List Coded) (room : ℕ) (at : Place) (gs : List Shape) (condition key : Shape) (s : State) → list_all (is_pure (pure_functions functions)) gs ≡ true → is_pure (pure_functions functions) condition ≡ true → is_pure (pure_functions functions) key ≡ true → IsSpent s (scan_form (level (code_of functions) room) at gs condition key s) }
+    ensures fuel { (functions : List Coded) (room : ℕ) (at : Place) (gs : List Shape)
+        (condition key : Shape) (s : State) →
+        list_all (is_pure (pure_functions functions)) gs ≡ true →
+        is_pure (pure_functions functions) condition ≡ true →
+        is_pure (pure_functions functions) key ≡ true →
+        IsSpent s (scan_form (level (code_of functions) room) at gs condition key s) }
     ensures inside { (functions : List Coded) (room : ℕ) (at : Place) (gs : List Shape) (condition key : Shape) (outside : Outside) (s : State) → list_all (is_pure (pure_functions functions)) gs ≡ true → is_pure (pure_functions functions) condition ≡ true → is_pure (pure_functions functions) key ≡ true → scan_form (level (code_of functions) room) at gs condition key (with_outside outside s) ≡ leaving outside (scan_form (level (code_of functions) room) at gs condition key s) }
 {}
 
 /// A `while` is its first turn and then, where that doesn't end it, the same `while` again: that its turns are counted
 /// against the fuel cuts none off.
 pub fn a_loop_is_a_turn_and_the_loop_again()
-    ensures { (functions : List Coded) (room : ℕ) (at : Place) (test : Seen) (body : Work) (s : State) → while_form (level (code_of functions) room) at test body s ≡ then_do (turn_form (level (code_of functions) room) at (whole test) (give tt) body s) (end_or (while_form (level (code_of functions) room) at test body)) }
+    ensures { (functions : List Coded) (room : ℕ) (at : Place) (test : Seen) (body : Work)
+        (s : State) → while_form (level (code_of functions) room) at test body s ≡
+        then_do (turn_form (level (code_of functions) room) at (whole test) (give tt) body s)
+        (end_or (while_form (level (code_of functions) room) at test body)) }
 {}
 
 /// The run of a queue is its first event and then the run of what is queued: that events are counted against the fuel
 /// cuts none off.
 pub fn a_queue_is_its_first_event_and_the_queue_again()
-    ensures { (functions : List Coded) (room : ℕ) (at : Place) (s : State) → repeated at (next_event (level (code_of functions) room)) s ≡ then_do (next_event (level (code_of functions) room) s) (end_or (repeated at (next_event (level (code_of functions) room)))) }
+    ensures { (functions : List Coded) (room : ℕ) (at : Place) (s : State) →
+        repeated at (next_event (level (code_of functions) room)) s ≡
+        then_do (next_event (level (code_of functions) room) s)
+        (end_or (repeated at (next_event (level (code_of functions) room)))) }
 {}
 
 /// Division goes toward zero, and the remainder has the dividend's sign.
@@ -195,7 +209,10 @@ pub fn users_are_taken_by_name()
         Stopped (SpentAt (examples.column 91)) }
     ensures spent { (meaning (posted.posting_of (codes "allequal")) 0 100 []
         (with_taken posted.both 0)).end ≡ Stopped (Faulted (examples.column 91) UserSpent) }
-    ensures twice { (at : Place) → then_do (take_user at (codes "increasing") (first_state 0 0 [] posted.both)) (λ n. take_user at (codes "increasing")) ≡ Halted (Faulted at UserSpent) (record { fuel = 0; printed = [] }) }
+    ensures twice { (at : Place) → then_do
+        (take_user at (codes "increasing") (first_state 0 0 [] posted.both)) (λ n.
+        take_user at (codes "increasing")) ≡
+        Halted (Faulted at UserSpent) (record { fuel = 0; printed = [] }) }
     ensures second { first_free (codes "allequal") (with_taken (posted.both ++ posted.both) 0) ≡
         Some 2 }
 {}

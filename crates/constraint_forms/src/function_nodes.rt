@@ -114,7 +114,10 @@ fn bounded_of(
     other: Place,
     cells: TermCells,
 ) -> Result<Built, Stop>
-    ensures did { (told : Told) → Does (λ t. t) result (state_seen s.new told) (bounded_node at function place (cells_seen bounds.now) other (term_cells_seen cells) (state_seen s.old told)) }
+    ensures did { (told : Told) → Does (λ t.
+        t) result (state_seen s.new told)
+        (bounded_node at function place (cells_seen bounds.now) other (term_cells_seen cells)
+        (state_seen s.old told)) }
 {
     s.charge(1, at)?;
     let bound_count = bounds.len();
@@ -178,7 +181,10 @@ fn knapsack_of(
     cells: TermCells,
     capacity: i64,
 ) -> Result<Built, Stop>
-    ensures did { (told : Told) → Does (λ t. t) result (state_seen s.new told) (knapsack_node at place (cells_seen weights.now) other (term_cells_seen cells) capacity (state_seen s.old told)) }
+    ensures did { (told : Told) → Does (λ t.
+        t) result (state_seen s.new told)
+        (knapsack_node at place (cells_seen weights.now) other (term_cells_seen cells) capacity
+        (state_seen s.old told)) }
 {
     s.charge(1, at)?;
     let weight_count = weights.len();
@@ -238,7 +244,10 @@ fn multi_knapsack_of(
     last: Place,
     capacities: &Cells,
 ) -> Result<Built, Stop>
-    ensures did { (told : Told) → Does (λ t. t) result (state_seen s.new told) (multi_knapsack_node at place (term_cells_seen cells) other (cells_seen sizes.now) last (cells_seen capacities.now) (state_seen s.old told)) }
+    ensures did { (told : Told) → Does (λ t.
+        t) result (state_seen s.new told)
+        (multi_knapsack_node at place (term_cells_seen cells) other (cells_seen sizes.now) last
+        (cells_seen capacities.now) (state_seen s.old told)) }
 {
     s.charge(1, at)?;
     let count = cells.terms.len();
@@ -314,7 +323,10 @@ fn sequence_of(
     most: i64,
     window: i64,
 ) -> Result<Built, Stop>
-    ensures did { (told : Told) → Does (λ t. t) result (state_seen s.new told) (sequence_node at place (term_cells_seen cells) members most window (state_seen s.old told)) }
+    ensures did { (told : Told) → Does (λ t.
+        t) result (state_seen s.new told)
+        (sequence_node at place (term_cells_seen cells) members most window
+        (state_seen s.old told)) }
 {
     s.charge(1, at)?;
     let count = cells.terms.len();

@@ -120,7 +120,10 @@ pub(crate) fn multi_knapsack_term<O: Outside, W: Defining<O>>(
 ) -> Result<Built, Stop>
     requires ready { W.is_ready inside.now }
     requires defines { W.can_define inside.now }
-    ensures did { Does (λ t. t) result (state_seen s.new (O.told out.new)) (forms.multi_knapsack_form (level (W.code inside.now) (W.depth inside.now)) at (part places.now) (part sizes.now) (part capacities.now) (state_seen s.old (O.told out.old))) }
+    ensures did { Does (λ t. t) result (state_seen s.new (O.told out.new))
+        (forms.multi_knapsack_form (level (W.code inside.now) (W.depth inside.now)) at
+        (part places.now) (part sizes.now) (part capacities.now)
+        (state_seen s.old (O.told out.old))) }
 {
     let place = places.place;
     let other = sizes.place;

@@ -29,7 +29,10 @@ pub(crate) fn joining_term<O: Outside, W: Defining<O>>(
 ) -> Result<Built, Stop>
     requires ready { W.is_ready inside.now }
     requires defines { W.can_define inside.now }
-    ensures did { Does (λ t. t) result (state_seen s.new (O.told out.new)) (forms.joining_form (level (W.code inside.now) (W.depth inside.now)) at aggregate (generators_seen generators.now) (part_or_none condition.now) (part body.now) (state_seen s.old (O.told out.old))) }
+    ensures did { Does (λ t. t) result (state_seen s.new (O.told out.new))
+        (forms.joining_form (level (W.code inside.now) (W.depth inside.now)) at aggregate
+        (generators_seen generators.now) (part_or_none condition.now) (part body.now)
+        (state_seen s.old (O.told out.old))) }
 {
     let frame = s.copied_frame()?;
     let bodies = bodies_of(s, out, inside, at, aggregate, generators, condition, body)?;

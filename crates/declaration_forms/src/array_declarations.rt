@@ -39,7 +39,10 @@ pub fn declare_array<O: Outside, W: Within<O>>(
     start: &Option<Start>,
 ) -> Result<(), Stop>
     requires ready { W.is_ready inside.now }
-    ensures did { Does (λ _. tt) result (state_seen s.new (O.told out.new)) (array_form (level (W.code inside.now) (W.depth inside.now)) at slot (map dimension_of dimensions.now) (option_map start_of start.now) (state_seen s.old (O.told out.old))) }
+    ensures did { Does (λ _. tt) result (state_seen s.new (O.told out.new))
+        (array_form (level (W.code inside.now) (W.depth inside.now)) at slot
+        (map dimension_of dimensions.now) (option_map start_of start.now)
+        (state_seen s.old (O.told out.old))) }
 {
     let extents = extents_of(s, out, inside, dimensions)?;
     let sides = extents.as_slice();
@@ -56,7 +59,10 @@ pub(crate) fn extents_of<O: Outside, W: Within<O>>(
     dimensions: &[Dimension],
 ) -> Result<Vec<Extent>, Stop>
     requires ready { W.is_ready inside.now }
-    ensures did { Does (λ extents. map extent_seen extents.items) result (state_seen s.new (O.told out.new)) (dimensions_form (level (W.code inside.now) (W.depth inside.now)) (map dimension_of dimensions.now) [] (state_seen s.old (O.told out.old))) }
+    ensures did { Does (λ extents. map extent_seen extents.items) result
+        (state_seen s.new (O.told out.new))
+        (dimensions_form (level (W.code inside.now) (W.depth inside.now))
+        (map dimension_of dimensions.now) [] (state_seen s.old (O.told out.old))) }
 {
     let mut extents = Vec::new(s.alloc);
     for dimension in dimensions {
@@ -82,7 +88,10 @@ fn first_numbers<O: Outside, W: Within<O>>(
 ) -> Result<Vec<i64>, Stop>
     requires ready { W.is_ready inside.now }
     requires known { count ≡ meaning.cell_count (map extent_seen extents.now) }
-    ensures did { Does (λ numbers. numbers.items) result (state_seen s.new (O.told out.new)) (numbers_form (level (W.code inside.now) (W.depth inside.now)) at (map extent_seen extents.now) (option_map start_of start.now) (state_seen s.old (O.told out.old))) }
+    ensures did { Does (λ numbers. numbers.items) result (state_seen s.new (O.told out.new))
+        (numbers_form (level (W.code inside.now) (W.depth inside.now)) at
+        (map extent_seen extents.now) (option_map start_of start.now)
+        (state_seen s.old (O.told out.old))) }
 {
     match start {
         None => fill_all(s, out, inside, at, count, None, extents),
@@ -107,7 +116,10 @@ fn fill_all<O: Outside, W: Within<O>>(
 ) -> Result<Vec<i64>, Stop>
     requires ready { W.is_ready inside.now }
     requires known { count ≡ meaning.cell_count (map extent_seen extents.now) }
-    ensures did { Does (λ numbers. numbers.items) result (state_seen s.new (O.told out.new)) (every_cell (next_cell (level (W.code inside.now) (W.depth inside.now)) at (option_map seen (option_copied value.entry))) (map extent_seen extents.now) (state_seen s.old (O.told out.old))) }
+    ensures did { Does (λ numbers. numbers.items) result (state_seen s.new (O.told out.new))
+        (every_cell (next_cell (level (W.code inside.now) (W.depth inside.now)) at
+        (option_map seen (option_copied value.entry))) (map extent_seen extents.now)
+        (state_seen s.old (O.told out.old))) }
 {
     let none = Vec::new(s.alloc);
     if count == 0 {
@@ -148,7 +160,11 @@ fn fill<O: Outside, W: Within<O>>(
     numbers: Vec<i64>,
 ) -> Result<Vec<i64>, Stop>
     requires ready { W.is_ready inside.now }
-    ensures did { (is : List ℤ) → Does (λ numbers. numbers.items) result (state_seen s.new (O.told out.new)) (each_cell (next_cell (level (W.code inside.now) (W.depth inside.now)) at (option_map seen (option_copied value.entry))) (map extent_seen extents.now) is numbers.items (state_seen s.old (O.told out.old))) }
+    ensures did { (is : List ℤ) → Does (λ numbers.
+        numbers.items) result (state_seen s.new (O.told out.new))
+        (each_cell (next_cell (level (W.code inside.now) (W.depth inside.now)) at
+        (option_map seen (option_copied value.entry)))
+        (map extent_seen extents.now) is numbers.items (state_seen s.old (O.told out.old))) }
 {
     match extents.first() {
         None => push_cell(s, out, inside, at, value, numbers),
@@ -169,7 +185,11 @@ fn fill_along<O: Outside, W: Within<O>>(
     numbers: Vec<i64>,
 ) -> Result<Vec<i64>, Stop>
     requires ready { W.is_ready inside.now }
-    ensures did { (is : List ℤ) → Does (λ numbers. numbers.items) result (state_seen s.new (O.told out.new)) (along (next_cell (level (W.code inside.now) (W.depth inside.now)) at (option_map seen (option_copied value.entry))) (extent_seen extent) (map extent_seen later.now) is numbers.items (state_seen s.old (O.told out.old))) }
+    ensures did { (is : List ℤ) → Does (λ numbers.
+        numbers.items) result (state_seen s.new (O.told out.new))
+        (along (next_cell (level (W.code inside.now) (W.depth inside.now)) at
+        (option_map seen (option_copied value.entry))) (extent_seen extent)
+        (map extent_seen later.now) is numbers.items (state_seen s.old (O.told out.old))) }
 {
     let is_empty = extent.bounds.up < extent.bounds.low;
     if is_empty {
@@ -202,7 +222,11 @@ fn fill_at<O: Outside, W: Within<O>>(
     numbers: Vec<i64>,
 ) -> Result<Vec<i64>, Stop>
     requires ready { W.is_ready inside.now }
-    ensures did { (is : List ℤ) → Does (λ numbers. numbers.items) result (state_seen s.new (O.told out.new)) (at_index (next_cell (level (W.code inside.now) (W.depth inside.now)) at (option_map seen (option_copied value.entry))) slot (map extent_seen later.now) is index numbers.items (state_seen s.old (O.told out.old))) }
+    ensures did { (is : List ℤ) → Does (λ numbers.
+        numbers.items) result (state_seen s.new (O.told out.new))
+        (at_index (next_cell (level (W.code inside.now) (W.depth inside.now)) at
+        (option_map seen (option_copied value.entry))) slot
+        (map extent_seen later.now) is index numbers.items (state_seen s.old (O.told out.old))) }
 {
     put_named(s, slot, index)?;
     fill(s, out, inside, at, value, later, numbers)
@@ -219,7 +243,11 @@ fn push_cell<O: Outside, W: Within<O>>(
     numbers: Vec<i64>,
 ) -> Result<Vec<i64>, Stop>
     requires ready { W.is_ready inside.now }
-    ensures did { (is : List ℤ) → Does (λ numbers. numbers.items) result (state_seen s.new (O.told out.new)) (next_cell (level (W.code inside.now) (W.depth inside.now)) at (option_map seen (option_copied value.entry)) is numbers.items (state_seen s.old (O.told out.old))) }
+    ensures did { (is : List ℤ) → Does (λ numbers.
+        numbers.items) result (state_seen s.new (O.told out.new))
+        (next_cell (level (W.code inside.now) (W.depth inside.now)) at
+        (option_map seen (option_copied value.entry)) is numbers.items
+        (state_seen s.old (O.told out.old))) }
 {
     s.charge(1, at)?;
     push_number(numbers, start_number(s, out, inside, value))

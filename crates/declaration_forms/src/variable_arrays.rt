@@ -72,7 +72,10 @@ fn cells_of<O: Outside, W: Defining<O>>(
     requires ready { W.is_ready inside.now }
     requires defines { W.can_define inside.now }
     requires known { count ≡ meaning.cell_count (map extent_seen extents.now) }
-    ensures did { Does (λ cells. cells.items) result (state_seen s.new (O.told out.new)) (cells_form (level (W.code inside.now) (W.depth inside.now)) at (variable_of variable.now) decl (map extent_seen extents.now) (option_map start_of variable.now.start) (state_seen s.old (O.told out.old))) }
+    ensures did { Does (λ cells. cells.items) result (state_seen s.new (O.told out.new))
+        (cells_form (level (W.code inside.now) (W.depth inside.now)) at
+        (variable_of variable.now) decl (map extent_seen extents.now)
+        (option_map start_of variable.now.start) (state_seen s.old (O.told out.old))) }
 {
     match &variable.start {
         None => started_cells(s, out, inside, at, variable, decl, count, extents),
@@ -110,7 +113,10 @@ fn started_cells<O: Outside, W: Defining<O>>(
     requires ready { W.is_ready inside.now }
     requires defines { W.can_define inside.now }
     requires known { count ≡ meaning.cell_count (map extent_seen extents.now) }
-    ensures did { Does (λ cells. cells.items) result (state_seen s.new (O.told out.new)) (every_cell (next_cell (level (W.code inside.now) (W.depth inside.now)) at (variable_of variable.now) decl) (map extent_seen extents.now) (state_seen s.old (O.told out.old))) }
+    ensures did { Does (λ cells. cells.items) result (state_seen s.new (O.told out.new))
+        (every_cell (next_cell (level (W.code inside.now) (W.depth inside.now)) at
+        (variable_of variable.now) decl) (map extent_seen extents.now)
+        (state_seen s.old (O.told out.old))) }
 {
     let making = Making {
         at,
@@ -136,7 +142,10 @@ fn listed_cells<O: Outside, W: Defining<O>>(
     requires ready { W.is_ready inside.now }
     requires defines { W.can_define inside.now }
     requires known { count ≡ meaning.cell_count (map extent_seen extents.now) }
-    ensures did { Does (λ cells. cells.items) result (state_seen s.new (O.told out.new)) (listed_cells (level (W.code inside.now) (W.depth inside.now)) at (variable_of variable.now) decl (map extent_seen extents.now) (seen list.now) (state_seen s.old (O.told out.old))) }
+    ensures did { Does (λ cells. cells.items) result (state_seen s.new (O.told out.new))
+        (listed_cells (level (W.code inside.now) (W.depth inside.now)) at
+        (variable_of variable.now) decl (map extent_seen extents.now) (seen list.now)
+        (state_seen s.old (O.told out.old))) }
 {
     let numbers = numbers_of_list(s, out, inside, at, count, list)?;
     let making = Making {
@@ -180,7 +189,11 @@ fn make_all<O: Outside, W: Defining<O>>(
     requires ready { W.is_ready inside.now }
     requires defines { W.can_define inside.now }
     requires known { count ≡ meaning.cell_count (map extent_seen extents.now) }
-    ensures did { Does (λ cells. cells.items) result (state_seen s.new (O.told out.new)) (every_cell (variable_cell (level (W.code inside.now) (W.depth inside.now)) making.now.at (variable_of variable.now) making.now.decl (option_map (λ numbers. numbers.items) making.now.list)) (map extent_seen extents.now) (state_seen s.old (O.told out.old))) }
+    ensures did { Does (λ cells. cells.items) result (state_seen s.new (O.told out.new))
+        (every_cell (variable_cell (level (W.code inside.now) (W.depth inside.now)) making.now.at
+        (variable_of variable.now) making.now.decl
+        (option_map (λ numbers. numbers.items) making.now.list)) (map extent_seen extents.now)
+        (state_seen s.old (O.told out.old))) }
 {
     let none = Vec::new(s.alloc);
     if count == 0 {
@@ -203,7 +216,11 @@ fn make<O: Outside, W: Defining<O>>(
 ) -> Result<Vec<VarId>, Stop>
     requires ready { W.is_ready inside.now }
     requires defines { W.can_define inside.now }
-    ensures did { Does (λ cells. cells.items) result (state_seen s.new (O.told out.new)) (each_cell (variable_cell (level (W.code inside.now) (W.depth inside.now)) making.now.at (variable_of variable.now) making.now.decl (option_map (λ numbers. numbers.items) making.now.list)) (map extent_seen extents.now) indices.now cells.items (state_seen s.old (O.told out.old))) }
+    ensures did { Does (λ cells. cells.items) result (state_seen s.new (O.told out.new))
+        (each_cell (variable_cell (level (W.code inside.now) (W.depth inside.now)) making.now.at
+        (variable_of variable.now) making.now.decl
+        (option_map (λ numbers. numbers.items) making.now.list))
+        (map extent_seen extents.now) indices.now cells.items (state_seen s.old (O.told out.old))) }
 {
     match extents.first() {
         None => push_cell(s, out, inside, variable, making, indices, cells),
@@ -238,7 +255,11 @@ fn make_along<O: Outside, W: Defining<O>>(
 ) -> Result<Vec<VarId>, Stop>
     requires ready { W.is_ready inside.now }
     requires defines { W.can_define inside.now }
-    ensures did { Does (λ cells. cells.items) result (state_seen s.new (O.told out.new)) (along (variable_cell (level (W.code inside.now) (W.depth inside.now)) making.now.at (variable_of variable.now) making.now.decl (option_map (λ numbers. numbers.items) making.now.list)) (extent_seen extent) (map extent_seen later.now) indices.now cells.items (state_seen s.old (O.told out.old))) }
+    ensures did { Does (λ cells. cells.items) result (state_seen s.new (O.told out.new))
+        (along (variable_cell (level (W.code inside.now) (W.depth inside.now)) making.now.at
+        (variable_of variable.now) making.now.decl
+        (option_map (λ numbers. numbers.items) making.now.list)) (extent_seen extent)
+        (map extent_seen later.now) indices.now cells.items (state_seen s.old (O.told out.old))) }
 {
     let is_empty = extent.bounds.up < extent.bounds.low;
     if is_empty {
@@ -284,7 +305,12 @@ fn make_at<O: Outside, W: Defining<O>>(
 ) -> Result<Vec<VarId>, Stop>
     requires ready { W.is_ready inside.now }
     requires defines { W.can_define inside.now }
-    ensures did { Does (λ cells. cells.items) result (state_seen s.new (O.told out.new)) (at_index (variable_cell (level (W.code inside.now) (W.depth inside.now)) making.now.at (variable_of variable.now) making.now.decl (option_map (λ numbers. numbers.items) making.now.list)) slot (map extent_seen later.now) indices.now index cells.items (state_seen s.old (O.told out.old))) }
+    ensures did { Does (λ cells. cells.items) result (state_seen s.new (O.told out.new))
+        (at_index (variable_cell (level (W.code inside.now) (W.depth inside.now)) making.now.at
+        (variable_of variable.now) making.now.decl
+        (option_map (λ numbers. numbers.items) making.now.list)) slot
+        (map extent_seen later.now) indices.now index cells.items
+        (state_seen s.old (O.told out.old))) }
 {
     put_named(s, slot, index)?;
     let inner = with_index(s.alloc, indices, index)?;
@@ -303,7 +329,11 @@ fn push_cell<O: Outside, W: Defining<O>>(
 ) -> Result<Vec<VarId>, Stop>
     requires ready { W.is_ready inside.now }
     requires defines { W.can_define inside.now }
-    ensures did { Does (λ cells. cells.items) result (state_seen s.new (O.told out.new)) (variable_cell (level (W.code inside.now) (W.depth inside.now)) making.now.at (variable_of variable.now) making.now.decl (option_map (λ numbers. numbers.items) making.now.list) indices.now cells.items (state_seen s.old (O.told out.old))) }
+    ensures did { Does (λ cells. cells.items) result (state_seen s.new (O.told out.new))
+        (variable_cell (level (W.code inside.now) (W.depth inside.now)) making.now.at
+        (variable_of variable.now) making.now.decl
+        (option_map (λ numbers. numbers.items) making.now.list) indices.now cells.items
+        (state_seen s.old (O.told out.old))) }
 {
     match &making.list {
         None => push_started(
@@ -345,7 +375,10 @@ fn push_started<O: Outside, W: Defining<O>>(
 ) -> Result<Vec<VarId>, Stop>
     requires ready { W.is_ready inside.now }
     requires defines { W.can_define inside.now }
-    ensures did { Does (λ cells. cells.items) result (state_seen s.new (O.told out.new)) (next_cell (level (W.code inside.now) (W.depth inside.now)) at (variable_of variable.now) decl indices.now cells.items (state_seen s.old (O.told out.old))) }
+    ensures did { Does (λ cells. cells.items) result (state_seen s.new (O.told out.new))
+        (next_cell (level (W.code inside.now) (W.depth inside.now)) at
+        (variable_of variable.now) decl indices.now cells.items
+        (state_seen s.old (O.told out.old))) }
 {
     s.charge(1, at)?;
     let kind = variable_kind(variable.kind);

@@ -105,7 +105,10 @@ impl Cardinality {
     fn changed(&self, totals: Totals, change: NumberChange, elsewhere: Elsewhere) -> Totals
         requires bounds { AreBounds self.now.bounds }
         requires list { HaveList self.now.demand self.now.low self.now.bounds change elsewhere totals }
-        ensures { (xs : List ℤ) → IsNumberChange xs change → IsElsewhere xs change elsewhere → AreTotals self.now.demand self.now.low self.now.bounds xs totals → AreTotals self.now.demand self.now.low self.now.bounds (after_number_change xs change) result }
+        ensures { (xs : List ℤ) → IsNumberChange xs change → IsElsewhere xs change elsewhere →
+            AreTotals self.now.demand self.now.low self.now.bounds xs totals →
+            AreTotals self.now.demand self.now.low self.now.bounds
+            (after_number_change xs change) result }
     {
         let without = self.shifted(totals, change.old, elsewhere.old + 1, elsewhere.old);
         self.shifted(without, change.new, elsewhere.new, elsewhere.new + 1)

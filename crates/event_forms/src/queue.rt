@@ -88,7 +88,10 @@ fn react<O: Outside, W: Within<O>>(
     event: Event,
 ) -> Result<(), Stop>
     requires ready { W.is_ready inside.now }
-    ensures did { Does (λ _. tt) result (state_seen s.new (O.told out.new)) (events.react (level (W.code inside.now) (W.depth inside.now)) (event_seen event) (slice_index_or (search_seen s.old.search).reactions event.closure no_reaction) (state_seen s.old (O.told out.old))) }
+    ensures did { Does (λ _. tt) result (state_seen s.new (O.told out.new))
+        (events.react (level (W.code inside.now) (W.depth inside.now)) (event_seen event)
+        (slice_index_or (search_seen s.old.search).reactions event.closure no_reaction)
+        (state_seen s.old (O.told out.old))) }
 {
     let reaction = s.search.reaction(s.alloc, event.closure)?;
     let binding = binding_of(reaction.names, event);
@@ -119,7 +122,10 @@ pub fn behind_commit<O: Outside, W: Within<O>>(
     done: Result<(), Stop>,
 ) -> Result<(), Stop>
     requires ready { W.is_ready inside.now }
-    ensures did { Follows (λ _. tt) (λ _. tt) done result (state_seen s.old (O.told out.old)) (state_seen s.new (O.told out.new)) (λ (u : Unit {0}). events.behind_commit (level (W.code inside.now) (W.depth inside.now)) at (target_seen target.now)) }
+    ensures did { Follows (λ _. tt) (λ _. tt) done result (state_seen s.old (O.told out.old))
+        (state_seen s.new (O.told out.new))
+        (λ (u : Unit {0}). events.behind_commit (level (W.code inside.now) (W.depth inside.now)) at
+        (target_seen target.now)) }
 {
     match done {
         Err(stop) => Err(stop),
@@ -155,7 +161,10 @@ pub fn behind_block<O: Outside, W: Within<O>>(
     flow: Result<Flow, Stop>,
 ) -> Result<Flow, Stop>
     requires ready { W.is_ready inside.now }
-    ensures did { Follows flow_seen flow_seen flow result (state_seen s.old (O.told out.old)) (state_seen s.new (O.told out.new)) (λ flow t. then_do (events.run_queue (level (W.code inside.now) (W.depth inside.now)) at t) (λ _. give flow)) }
+    ensures did { Follows flow_seen flow_seen flow result (state_seen s.old (O.told out.old))
+        (state_seen s.new (O.told out.new)) (λ flow t.
+        then_do (events.run_queue (level (W.code inside.now) (W.depth inside.now)) at t) (λ _.
+        give flow)) }
 {
     match flow {
         Err(stop) => Err(stop),
@@ -191,7 +200,10 @@ pub fn behind_restore<O: Outside, W: Within<O>>(
     value: Result<Value, Stop>,
 ) -> Result<Value, Stop>
     requires ready { W.is_ready inside.now }
-    ensures did { Follows value_seen value_seen value result (state_seen s.old (O.told out.old)) (state_seen s.new (O.told out.new)) (λ value t. then_do (events.run_queue (level (W.code inside.now) (W.depth inside.now)) at t) (λ _. give value)) }
+    ensures did { Follows value_seen value_seen value result (state_seen s.old (O.told out.old))
+        (state_seen s.new (O.told out.new)) (λ value t.
+        then_do (events.run_queue (level (W.code inside.now) (W.depth inside.now)) at t) (λ _.
+        give value)) }
 {
     match value {
         Err(stop) => Err(stop),

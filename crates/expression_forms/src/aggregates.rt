@@ -32,7 +32,10 @@ pub fn evaluate_aggregate<O: Outside, W: Within<O>>(
     body: &Typed,
 ) -> Result<Value, Stop>
     requires ready { W.is_ready inside.now }
-    ensures did { Does value_seen result (state_seen s.new (O.told out.new)) (aggregates.aggregate_form (level (W.code inside.now) (W.depth inside.now)) at aggregate (generators_seen generators.now) (part_or_none condition.now) (part body.now) (state_seen s.old (O.told out.old))) }
+    ensures did { Does value_seen result (state_seen s.new (O.told out.new))
+        (aggregates.aggregate_form (level (W.code inside.now) (W.depth inside.now)) at aggregate
+        (generators_seen generators.now) (part_or_none condition.now) (part body.now)
+        (state_seen s.old (O.told out.old))) }
 {
     let frame = s.copied_frame()?;
     let elements = elements_of(s, out, inside, at, aggregate, generators, condition, body)?;
@@ -52,7 +55,12 @@ fn elements_of<O: Outside, W: Within<O>>(
     body: &Typed,
 ) -> Result<Vec<Element>, Stop>
     requires ready { W.is_ready inside.now }
-    ensures did { Does (λ elements. map element_seen elements.items) result (state_seen s.new (O.told out.new)) (each_tuple (level (W.code inside.now) (W.depth inside.now)) at always (aggregates.element_form (level (W.code inside.now) (W.depth inside.now)) at aggregate (part_or_none condition.now) (part body.now)) [] (generators_seen generators.now) [] (state_seen s.old (O.told out.old))) }
+    ensures did { Does (λ elements. map element_seen elements.items) result
+        (state_seen s.new (O.told out.new))
+        (each_tuple (level (W.code inside.now) (W.depth inside.now)) at always
+        (aggregates.element_form (level (W.code inside.now) (W.depth inside.now)) at aggregate
+        (part_or_none condition.now) (part body.now)) [] (generators_seen generators.now) []
+        (state_seen s.old (O.told out.old))) }
 {
     let mut elements = Vec::new(s.alloc);
     if generators.len() == 0 {
@@ -94,7 +102,11 @@ fn add_element<O: Outside, W: Within<O>>(
     elements: &mut Vec<Element>,
 ) -> Result<(), Stop>
     requires ready { W.is_ready inside.now }
-    ensures did { Does (λ _. map element_seen elements.new.items) result (state_seen s.new (O.told out.new)) (aggregates.element_form (level (W.code inside.now) (W.depth inside.now)) at aggregate (part_or_none condition.now) (part body.now) key (map element_seen elements.old.items) (state_seen s.old (O.told out.old))) }
+    ensures did { Does (λ _. map element_seen elements.new.items) result
+        (state_seen s.new (O.told out.new))
+        (aggregates.element_form (level (W.code inside.now) (W.depth inside.now)) at aggregate
+        (part_or_none condition.now) (part body.now) key (map element_seen elements.old.items)
+        (state_seen s.old (O.told out.old))) }
 {
     if !passes(s, out, inside, condition)? {
         return Ok(());

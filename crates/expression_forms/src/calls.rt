@@ -31,7 +31,10 @@ pub fn evaluate_call<O: Outside, W: Within<O>>(
 ) -> Result<Value, Stop>
     requires ready { W.is_ready inside.now }
     requires same_code { W.code inside.now ≡ code_seen code.now }
-    ensures did { Does value_seen result (state_seen s.new (O.told out.new)) (calls.call_form (W.code inside.now) (level (W.code inside.now) (W.depth inside.now)) at function (row arguments.now) (state_seen s.old (O.told out.old))) }
+    ensures did { Does value_seen result (state_seen s.new (O.told out.new))
+        (calls.call_form (W.code inside.now)
+        (level (W.code inside.now) (W.depth inside.now)) at function (row arguments.now)
+        (state_seen s.old (O.told out.old))) }
 {
     match function_at(code, function) {
         Some(callee) => {
@@ -72,7 +75,10 @@ fn arguments_of<O: Outside, W: Within<O>>(
     arguments: &[Typed],
 ) -> Result<Vec<Value>, Stop>
     requires ready { W.is_ready inside.now }
-    ensures did { Does (λ values. map value_seen values.items) result (state_seen s.new (O.told out.new)) (calls.arguments_form (level (W.code inside.now) (W.depth inside.now)) parameters.now (row arguments.now) [] (state_seen s.old (O.told out.old))) }
+    ensures did { Does (λ values. map value_seen values.items) result
+        (state_seen s.new (O.told out.new))
+        (calls.arguments_form (level (W.code inside.now) (W.depth inside.now)) parameters.now
+        (row arguments.now) [] (state_seen s.old (O.told out.old))) }
 {
     let mut values = Vec::new(s.alloc);
     for argument in arguments {

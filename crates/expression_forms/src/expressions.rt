@@ -260,7 +260,10 @@ pub fn values_of<O: Outside, W: Within<O>>(
     es: &[Typed],
 ) -> Result<Vec<Value>, Stop>
     requires ready { W.is_ready inside.now }
-    ensures did { Does (λ values. map value_seen values.items) result (state_seen s.new (O.told out.new)) (parts.values (level (W.code inside.now) (W.depth inside.now)) (row es.now) [] (state_seen s.old (O.told out.old))) }
+    ensures did { Does (λ values. map value_seen values.items) result
+        (state_seen s.new (O.told out.new))
+        (parts.values (level (W.code inside.now) (W.depth inside.now)) (row es.now) []
+        (state_seen s.old (O.told out.old))) }
 {
     let mut values = Vec::new(s.alloc);
     for e in es {

@@ -86,7 +86,10 @@ pub fn evaluate_conditional<O: Outside, W: Within<O>>(
     otherwise: &Typed,
 ) -> Result<Value, Stop>
     requires ready { W.is_ready inside.now }
-    ensures did { Does value_seen result (state_seen s.new (O.told out.new)) (operators.conditional_form (level (W.code inside.now) (W.depth inside.now)) kind (part test.now) (part «then».now) (part otherwise.now) (state_seen s.old (O.told out.old))) }
+    ensures did { Does value_seen result (state_seen s.new (O.told out.new))
+        (operators.conditional_form (level (W.code inside.now) (W.depth inside.now)) kind
+        (part test.now) (part «then».now) (part otherwise.now)
+        (state_seen s.old (O.told out.old))) }
 {
     if truth_of(s, out, inside, test)? {
         value_as(s, out, inside, kind, then)
@@ -143,7 +146,10 @@ fn evaluate_link<O: Outside, W: Within<O>>(
     value: Value,
 ) -> Result<Value, Stop>
     requires ready { W.is_ready inside.now }
-    ensures did { Does value_seen result (state_seen s.new (O.told out.new)) (operators.link_form (level (W.code inside.now) (W.depth inside.now)) link.now.place link.now.operator (part link.now.operand) (value_seen value) (state_seen s.old (O.told out.old))) }
+    ensures did { Does value_seen result (state_seen s.new (O.told out.new))
+        (operators.link_form (level (W.code inside.now)
+        (W.depth inside.now)) link.now.place link.now.operator (part link.now.operand)
+        (value_seen value) (state_seen s.old (O.told out.old))) }
 {
     if decides(link.operator, &value) {
         return Ok(value);

@@ -49,7 +49,10 @@ fn add_constraint<O: Outside, W: Defining<O>>(
 ) -> Result<Value, Stop>
     requires ready { W.is_ready inside.now }
     requires defines { W.can_define inside.now }
-    ensures did { Does value_seen result (state_seen s.new (O.told out.new)) (posting.post_constraint (level (W.code inside.now) (W.depth inside.now)) at (part object.now) (part constraint.now ∷ row weights.now) (state_seen s.old (O.told out.old))) }
+    ensures did { Does value_seen result (state_seen s.new (O.told out.new))
+        (posting.post_constraint (level (W.code inside.now) (W.depth inside.now)) at
+        (part object.now) (part constraint.now ∷ row weights.now)
+        (state_seen s.old (O.told out.old))) }
 {
     match user_name(constraint) {
         None => add_one(s, out, inside, at, object, constraint, weights),

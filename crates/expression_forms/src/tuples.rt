@@ -69,7 +69,12 @@ pub fn next_tuple<O: Outside, W: Within<O>>(
 ) -> Result<Option<i64>, Stop>
     requires ready { W.is_ready inside.now }
     requires known { length tuples.old.below.items < length generators.now }
-    ensures did { (V : Visits) → Remains (level (W.code inside.now) (W.depth inside.now)) at V generators.now (bounds_of tuples.old) (stack_seen tuples.old) (state_seen s.old (O.told out.old)) → Advances (level (W.code inside.now) (W.depth inside.now)) at V generators.now result tuples.new (state_seen s.new (O.told out.new)) }
+    ensures did { (V : Visits) → Remains
+        (level (W.code inside.now) (W.depth inside.now)) at V generators.now (bounds_of tuples.old)
+        (stack_seen tuples.old) (state_seen s.old (O.told out.old)) →
+        Advances (level (W.code inside.now)
+        (W.depth inside.now)) at V generators.now result tuples.new
+        (state_seen s.new (O.told out.new)) }
     ensures inside { OnOk result (length tuples.new.below.items < length generators.now) }
     ensures falls { IfOk result (λ r. IfSome r (λ _. s.new.fuel < s.old.fuel)) }
 {

@@ -135,7 +135,10 @@ fn take_and_post<O: Outside, W: Defining<O>>(
     places: Vec<Built>,
 ) -> Result<Value, Stop>
     requires ready { W.is_ready inside.now }
-    ensures did { Does value_seen result (state_seen s.new (O.told out.new)) (user_behind (level (W.code inside.now) (W.depth inside.now)) at place name.now (row weights.now) (value_seen object.now) places.items (state_seen s.old (O.told out.old))) }
+    ensures did { Does value_seen result (state_seen s.new (O.told out.new))
+        (user_behind (level (W.code inside.now) (W.depth inside.now)) at place name.now
+        (row weights.now) (value_seen object.now) places.items
+        (state_seen s.old (O.told out.old))) }
 {
     let taken = take_named(s, out, place, name)?;
     user_fits(place, &places)?;

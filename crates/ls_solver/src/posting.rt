@@ -62,7 +62,10 @@ impl<U: LocalConstraint> Solver<U> {
         weight: i64,
     ) -> Result<(), (SolverFault, U)>
         requires usable { self.old.usable ≡ true }
-        requires kinds { is_own_member self.old (of_system s) (user_term (length self.old.rules) places) ≡ true → All (λ t. kind_of_term (kinds_in self.old.model.vars.items) t ≡ Some number_kind) places.items }
+        requires kinds { is_own_member self.old (of_system s)
+            (user_term (length self.old.rules) places) ≡ true →
+            All (λ t. kind_of_term (kinds_in self.old.model.vars.items) t ≡
+            Some number_kind) places.items }
         requires users { All (λ t. users_of t ≡ []) places.items }
         ensures answer { AnswersBack (member_refusal self.old (of_system s)
             (user_term (length self.old.rules) places) weight) result }

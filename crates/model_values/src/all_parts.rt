@@ -81,7 +81,10 @@ fn all_parts<U: UserValues>(
     requires well_formed { IsWellFormed setting.now.model.now }
     requires kinds { HasKinds (kinds_in setting.now.model.now.vars.items)
         (env_of setting.now.cells.now) }
-    ensures parts { IfOk result (λ v. AreParts (user_rules (U.viol_of setting.now.users.now) (U.viol_at setting.now.users.now)) (env_of setting.now.cells.now) setting.now.model.now side setting.now.model.now.posted.items (all_seen v.items)) }
+    ensures parts { IfOk result (λ v. AreParts
+        (user_rules (U.viol_of setting.now.users.now) (U.viol_at setting.now.users.now))
+        (env_of setting.now.cells.now) setting.now.model.now side setting.now.model.now.posted.items
+        (all_seen v.items)) }
     ensures weighed { IfOk result (λ v. AreWeighed v.items) }
 {
     let mut parts = none_held(setting.alloc, totals_by(setting.model, side).len())?;
@@ -133,10 +136,16 @@ fn add_sum<U: UserValues>(
     number: usize,
     total: &Total,
 ) -> Result<Sums, NoMemory>
-    requires parts { AreParts (user_rules (U.viol_of setting.now.users.now) (U.viol_at setting.now.users.now)) (env_of setting.now.cells.now) setting.now.model.now side setting.now.model.now.posted.items (all_seen parts.now) }
+    requires parts { AreParts (user_rules (U.viol_of setting.now.users.now)
+        (U.viol_at setting.now.users.now))
+        (env_of setting.now.cells.now) setting.now.model.now side setting.now.model.now.posted.items
+        (all_seen parts.now) }
     requires weighed { AreWeighed parts.now }
     requires within { number < length parts.now }
-    ensures { IfOk result (λ r. listed_sums r ≡ add_sum (user_rules (U.viol_of setting.now.users.now) (U.viol_at setting.now.users.now)) setting.now.model.now (env_of setting.now.cells.now) side (listed_sums so_far) (number, total.now)) }
+    ensures { IfOk result (λ r. listed_sums r ≡
+        add_sum (user_rules (U.viol_of setting.now.users.now)
+        (U.viol_at setting.now.users.now)) setting.now.model.now (env_of setting.now.cells.now) side
+        (listed_sums so_far) (number, total.now)) }
 {
     let sum = sum_of(setting.alloc, total.place, &parts[number])?;
     gather_sum(so_far, sum)
@@ -149,7 +158,10 @@ pub(crate) fn sums_in<U: UserValues>(setting: &Setting<'_, U>, side: Side) -> Re
     requires well_formed { IsWellFormed setting.now.model.now }
     requires kinds { HasKinds (kinds_in setting.now.model.now.vars.items)
         (env_of setting.now.cells.now) }
-    ensures { IfOk result (λ r. listed_sums r ≡ fresh_sums (user_rules (U.viol_of setting.now.users.now) (U.viol_at setting.now.users.now)) setting.now.model.now (env_of setting.now.cells.now) side) }
+    ensures { IfOk result (λ r. listed_sums r ≡
+        fresh_sums (user_rules (U.viol_of setting.now.users.now)
+        (U.viol_at setting.now.users.now)) setting.now.model.now
+        (env_of setting.now.cells.now) side) }
 {
     let totals = totals_by(setting.model, side);
     let parts = all_parts(setting, side)?;

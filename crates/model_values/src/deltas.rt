@@ -44,7 +44,10 @@ pub fn whole_outcome<U: UserValues>(
         (map (λ names. names.items) tables.now.named.items) }
     requires kinds { HasKinds (kinds_in setting.now.model.now.vars.items)
         (env_of setting.now.cells.now) }
-    ensures { IfOk result (λ o. o ≡ outcome_of_whole (user_rules (U.viol_of setting.now.users.now) (U.viol_at setting.now.users.now)) setting.now.model.now (env_of setting.now.cells.now) whole place) }
+    ensures { IfOk result (λ o. o ≡ outcome_of_whole
+        (user_rules (U.viol_of setting.now.users.now)
+        (U.viol_at setting.now.users.now)) setting.now.model.now
+        (env_of setting.now.cells.now) whole place) }
 {
     match sum_in(setting, whole, place)? {
         Some(sum) => Ok(sum),
@@ -68,7 +71,10 @@ pub fn outcome_in<U: UserValues>(
     requires sets { HasDefinedSets model.now }
     requires acyclic { IsAcyclic model.now }
     requires assigned { length assignment.now ≡ length model.now.vars.items }
-    ensures { IfOk result (λ o. o ≡ outcome_of_whole (user_rules (U.viol_of users.now) (U.viol_at users.now)) model.now (outcome_of_var (user_rules (U.viol_of users.now) (U.viol_at users.now)) model.now assignment.now) whole place) }
+    ensures { IfOk result (λ o. o ≡ outcome_of_whole
+        (user_rules (U.viol_of users.now) (U.viol_at users.now)) model.now
+        (outcome_of_var (user_rules (U.viol_of users.now)
+        (U.viol_at users.now)) model.now assignment.now) whole place) }
 {
     let tables = tables_of(alloc, users, model, assignment)?;
     let cells = outcomes_of(&tables)?;

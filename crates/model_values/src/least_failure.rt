@@ -52,7 +52,12 @@ fn all_failing<'a, U: UserValues>(setting: &Setting<'a, U>) -> Result<Vec<Failin
     requires well_formed { IsWellFormed setting.now.model.now }
     requires kinds { HasKinds (kinds_in setting.now.model.now.vars.items)
         (env_of setting.now.cells.now) }
-    ensures { IfOk result (λ v. AreFailing (user_rules (U.viol_of setting.now.users.now) (U.viol_at setting.now.users.now)) (env_of setting.now.cells.now) v.items (filter (fails (user_rules (U.viol_of setting.now.users.now) (U.viol_at setting.now.users.now)) (env_of setting.now.cells.now)) (subterms_posted setting.now.model.now setting.now.model.now.posted.items))) }
+    ensures { IfOk result (λ v. AreFailing
+        (user_rules (U.viol_of setting.now.users.now) (U.viol_at setting.now.users.now))
+        (env_of setting.now.cells.now) v.items
+        (filter (fails (user_rules (U.viol_of setting.now.users.now)
+        (U.viol_at setting.now.users.now)) (env_of setting.now.cells.now))
+        (subterms_posted setting.now.model.now setting.now.model.now.posted.items))) }
 {
     let mut failing = Vec::new(setting.alloc);
     for turn in 0..setting.model.posted.len() {
@@ -188,7 +193,10 @@ pub(crate) fn least_failure<U: UserValues>(setting: &Setting<'_, U>) -> Result<F
     requires well_formed { IsWellFormed setting.now.model.now }
     requires kinds { HasKinds (kinds_in setting.now.model.now.vars.items)
         (env_of setting.now.cells.now) }
-    ensures { IfOk result (λ f. f ≡ unwrap_or (first_failure (user_rules (U.viol_of setting.now.users.now) (U.viol_at setting.now.users.now)) (env_of setting.now.cells.now) (distinct_subterms setting.now.model.now)) no_failure) }
+    ensures { IfOk result (λ f. f ≡ unwrap_or
+        (first_failure (user_rules (U.viol_of setting.now.users.now)
+        (U.viol_at setting.now.users.now)) (env_of setting.now.cells.now)
+        (distinct_subterms setting.now.model.now)) no_failure) }
 {
     let failing = all_failing(setting)?;
     Ok(first_of(&failing).unwrap_or(Failure::none()))
@@ -208,7 +216,10 @@ pub(crate) fn least_failure_below<U: UserValues>(
         (map (λ names. names.items) tables.now.named.items) }
     requires kinds { HasKinds (kinds_in setting.now.model.now.vars.items)
         (env_of setting.now.cells.now) }
-    ensures { IfOk result (λ f. f ≡ unwrap_or (failure_below (user_rules (U.viol_of setting.now.users.now) (U.viol_at setting.now.users.now)) setting.now.model.now (env_of setting.now.cells.now) whole) no_failure) }
+    ensures { IfOk result (λ f. f ≡ unwrap_or
+        (failure_below (user_rules (U.viol_of setting.now.users.now)
+        (U.viol_at setting.now.users.now)) setting.now.model.now
+        (env_of setting.now.cells.now) whole) no_failure) }
 {
     let roots = roots_of(tables, whole)?;
     let marks = reached(tables, &roots)?;

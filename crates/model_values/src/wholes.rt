@@ -154,7 +154,10 @@ pub fn sum_in<U: UserValues>(
     requires well_formed { IsWellFormed setting.now.model.now }
     requires kinds { HasKinds (kinds_in setting.now.model.now.vars.items)
         (env_of setting.now.cells.now) }
-    ensures { IfOk result (λ o. o ≡ sum_in (user_rules (U.viol_of setting.now.users.now) (U.viol_at setting.now.users.now)) setting.now.model.now (env_of setting.now.cells.now) whole place) }
+    ensures { IfOk result (λ o. o ≡ sum_in
+        (user_rules (U.viol_of setting.now.users.now)
+        (U.viol_at setting.now.users.now)) setting.now.model.now
+        (env_of setting.now.cells.now) whole place) }
 {
     let parts = parts_of(setting, whole)?;
     sum_of(setting.alloc, place, &parts)

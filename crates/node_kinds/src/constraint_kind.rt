@@ -26,11 +26,47 @@ pub enum ConstraintKind<U: UserConstraint> {
 impl<U: UserConstraint> NumberNode for ConstraintKind<U> {
     ghost use Rattle.node_kinds.specs.declared.constraint_kind.ConstraintKind.TheVariants.{AllDifferent, Cardinality, Knapsack, MultiKnapsack, Sequence, Relation, AllOf, AnyOf, OfOne, Total, User};
 
-    ghost number_rule = { elim [ AllDifferent s ↦ ⟦<AllDifferent as NumberNode>⟧.number_rule s | Cardinality s ↦ ⟦<Cardinality as NumberNode>⟧.number_rule s | Knapsack s ↦ ⟦<Knapsack as NumberNode>⟧.number_rule s | MultiKnapsack s ↦ ⟦<MultiKnapsack as NumberNode>⟧.number_rule s | Sequence s ↦ ⟦<Sequence as NumberNode>⟧.number_rule s | Relation s ↦ ⟦<Relation as NumberNode>⟧.number_rule s | AllOf s ↦ ⟦<AllOf as NumberNode>⟧.number_rule s | AnyOf s ↦ ⟦<AnyOf as NumberNode>⟧.number_rule s | OfOne s ↦ ⟦<OfOne as NumberNode>⟧.number_rule s | Total s ↦ ⟦<WeightedTotal as NumberNode>⟧.number_rule s | User s ↦ ⟦<UserNode<U> as NumberNode>⟧.number_rule s ] };
+    ghost number_rule = { elim [
+      | AllDifferent s ↦ ⟦<AllDifferent as NumberNode>⟧.number_rule s
+      | Cardinality s ↦ ⟦<Cardinality as NumberNode>⟧.number_rule s
+      | Knapsack s ↦ ⟦<Knapsack as NumberNode>⟧.number_rule s
+      | MultiKnapsack s ↦ ⟦<MultiKnapsack as NumberNode>⟧.number_rule s
+      | Sequence s ↦ ⟦<Sequence as NumberNode>⟧.number_rule s
+      | Relation s ↦ ⟦<Relation as NumberNode>⟧.number_rule s
+      | AllOf s ↦ ⟦<AllOf as NumberNode>⟧.number_rule s
+      | AnyOf s ↦ ⟦<AnyOf as NumberNode>⟧.number_rule s
+      | OfOne s ↦ ⟦<OfOne as NumberNode>⟧.number_rule s
+      | Total s ↦ ⟦<WeightedTotal as NumberNode>⟧.number_rule s
+      | User s ↦ ⟦<UserNode<U> as NumberNode>⟧.number_rule s
+    ] };
 
-    ghost settled = { elim [ AllDifferent s ↦ ⟦<AllDifferent as NumberNode>⟧.settled s | Cardinality s ↦ ⟦<Cardinality as NumberNode>⟧.settled s | Knapsack s ↦ ⟦<Knapsack as NumberNode>⟧.settled s | MultiKnapsack s ↦ ⟦<MultiKnapsack as NumberNode>⟧.settled s | Sequence s ↦ ⟦<Sequence as NumberNode>⟧.settled s | Relation s ↦ ⟦<Relation as NumberNode>⟧.settled s | AllOf s ↦ ⟦<AllOf as NumberNode>⟧.settled s | AnyOf s ↦ ⟦<AnyOf as NumberNode>⟧.settled s | OfOne s ↦ ⟦<OfOne as NumberNode>⟧.settled s | Total s ↦ ⟦<WeightedTotal as NumberNode>⟧.settled s | User s ↦ ⟦<UserNode<U> as NumberNode>⟧.settled s ] };
+    ghost settled = { elim [
+      | AllDifferent s ↦ ⟦<AllDifferent as NumberNode>⟧.settled s
+      | Cardinality s ↦ ⟦<Cardinality as NumberNode>⟧.settled s
+      | Knapsack s ↦ ⟦<Knapsack as NumberNode>⟧.settled s
+      | MultiKnapsack s ↦ ⟦<MultiKnapsack as NumberNode>⟧.settled s
+      | Sequence s ↦ ⟦<Sequence as NumberNode>⟧.settled s
+      | Relation s ↦ ⟦<Relation as NumberNode>⟧.settled s
+      | AllOf s ↦ ⟦<AllOf as NumberNode>⟧.settled s
+      | AnyOf s ↦ ⟦<AnyOf as NumberNode>⟧.settled s
+      | OfOne s ↦ ⟦<OfOne as NumberNode>⟧.settled s
+      | Total s ↦ ⟦<WeightedTotal as NumberNode>⟧.settled s
+      | User s ↦ ⟦<UserNode<U> as NumberNode>⟧.settled s
+    ] };
 
-    ghost held_numbers = { elim [ AllDifferent s ↦ ⟦<AllDifferent as NumberNode>⟧.held_numbers s | Cardinality s ↦ ⟦<Cardinality as NumberNode>⟧.held_numbers s | Knapsack s ↦ ⟦<Knapsack as NumberNode>⟧.held_numbers s | MultiKnapsack s ↦ ⟦<MultiKnapsack as NumberNode>⟧.held_numbers s | Sequence s ↦ ⟦<Sequence as NumberNode>⟧.held_numbers s | Relation s ↦ ⟦<Relation as NumberNode>⟧.held_numbers s | AllOf s ↦ ⟦<AllOf as NumberNode>⟧.held_numbers s | AnyOf s ↦ ⟦<AnyOf as NumberNode>⟧.held_numbers s | OfOne s ↦ ⟦<OfOne as NumberNode>⟧.held_numbers s | Total s ↦ ⟦<WeightedTotal as NumberNode>⟧.held_numbers s | User s ↦ ⟦<UserNode<U> as NumberNode>⟧.held_numbers s ] };
+    ghost held_numbers = { elim [
+      | AllDifferent s ↦ ⟦<AllDifferent as NumberNode>⟧.held_numbers s
+      | Cardinality s ↦ ⟦<Cardinality as NumberNode>⟧.held_numbers s
+      | Knapsack s ↦ ⟦<Knapsack as NumberNode>⟧.held_numbers s
+      | MultiKnapsack s ↦ ⟦<MultiKnapsack as NumberNode>⟧.held_numbers s
+      | Sequence s ↦ ⟦<Sequence as NumberNode>⟧.held_numbers s
+      | Relation s ↦ ⟦<Relation as NumberNode>⟧.held_numbers s
+      | AllOf s ↦ ⟦<AllOf as NumberNode>⟧.held_numbers s
+      | AnyOf s ↦ ⟦<AnyOf as NumberNode>⟧.held_numbers s
+      | OfOne s ↦ ⟦<OfOne as NumberNode>⟧.held_numbers s
+      | Total s ↦ ⟦<WeightedTotal as NumberNode>⟧.held_numbers s
+      | User s ↦ ⟦<UserNode<U> as NumberNode>⟧.held_numbers s
+    ] };
 
     fn reset(&mut self, numbers: &[i64]) -> Result<(), NoMemory> {
         match self {

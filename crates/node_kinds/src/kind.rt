@@ -29,11 +29,38 @@ impl<U: UserConstraint> NodeRule for KindOf<U> {
     ghost use Rattle.node_kinds.specs.ConstantRule.{rule_of_constant};
     ghost use Rattle.node_kinds.specs.declared.kind.KindOf.TheVariants.{Constant, Operation, Constraint, SetOf, ArgExtreme, TwoSets, Card, Member};
 
-    ghost rule = { elim [ Constant s ↦ rule_of_constant s.value | Operation s ↦ ⟦<OverNumbers<OperationKind> as NodeRule>⟧.rule s | Constraint s ↦ ⟦<OverNumbers<ConstraintKind<U>> as NodeRule>⟧.rule s | SetOf s ↦ ⟦<SetOf as NodeRule>⟧.rule s | ArgExtreme s ↦ ⟦<ArgExtreme as NodeRule>⟧.rule s | TwoSets s ↦ ⟦<TwoSets as NodeRule>⟧.rule s | Card s ↦ ⟦<Card as NodeRule>⟧.rule s | Member s ↦ ⟦<Member as NodeRule>⟧.rule s ] };
+    ghost rule = { elim [
+      | Constant s ↦ rule_of_constant s.value
+      | Operation s ↦ ⟦<OverNumbers<OperationKind> as NodeRule>⟧.rule s
+      | Constraint s ↦ ⟦<OverNumbers<ConstraintKind<U>> as NodeRule>⟧.rule s
+      | SetOf s ↦ ⟦<SetOf as NodeRule>⟧.rule s
+      | ArgExtreme s ↦ ⟦<ArgExtreme as NodeRule>⟧.rule s
+      | TwoSets s ↦ ⟦<TwoSets as NodeRule>⟧.rule s
+      | Card s ↦ ⟦<Card as NodeRule>⟧.rule s
+      | Member s ↦ ⟦<Member as NodeRule>⟧.rule s
+    ] };
 
-    ghost ready = { elim [ Constant _ ↦ Unit {0} | Operation s ↦ ⟦<OverNumbers<OperationKind> as NodeRule>⟧.ready s | Constraint s ↦ ⟦<OverNumbers<ConstraintKind<U>> as NodeRule>⟧.ready s | SetOf s ↦ ⟦<SetOf as NodeRule>⟧.ready s | ArgExtreme s ↦ ⟦<ArgExtreme as NodeRule>⟧.ready s | TwoSets s ↦ ⟦<TwoSets as NodeRule>⟧.ready s | Card s ↦ ⟦<Card as NodeRule>⟧.ready s | Member s ↦ ⟦<Member as NodeRule>⟧.ready s ] };
+    ghost ready = { elim [
+      | Constant _ ↦ Unit {0}
+      | Operation s ↦ ⟦<OverNumbers<OperationKind> as NodeRule>⟧.ready s
+      | Constraint s ↦ ⟦<OverNumbers<ConstraintKind<U>> as NodeRule>⟧.ready s
+      | SetOf s ↦ ⟦<SetOf as NodeRule>⟧.ready s
+      | ArgExtreme s ↦ ⟦<ArgExtreme as NodeRule>⟧.ready s
+      | TwoSets s ↦ ⟦<TwoSets as NodeRule>⟧.ready s
+      | Card s ↦ ⟦<Card as NodeRule>⟧.ready s
+      | Member s ↦ ⟦<Member as NodeRule>⟧.ready s
+    ] };
 
-    ghost held = { elim [ Constant _ ↦ [] | Operation s ↦ ⟦<OverNumbers<OperationKind> as NodeRule>⟧.held s | Constraint s ↦ ⟦<OverNumbers<ConstraintKind<U>> as NodeRule>⟧.held s | SetOf s ↦ ⟦<SetOf as NodeRule>⟧.held s | ArgExtreme s ↦ ⟦<ArgExtreme as NodeRule>⟧.held s | TwoSets s ↦ ⟦<TwoSets as NodeRule>⟧.held s | Card s ↦ ⟦<Card as NodeRule>⟧.held s | Member s ↦ ⟦<Member as NodeRule>⟧.held s ] };
+    ghost held = { elim [
+      | Constant _ ↦ []
+      | Operation s ↦ ⟦<OverNumbers<OperationKind> as NodeRule>⟧.held s
+      | Constraint s ↦ ⟦<OverNumbers<ConstraintKind<U>> as NodeRule>⟧.held s
+      | SetOf s ↦ ⟦<SetOf as NodeRule>⟧.held s
+      | ArgExtreme s ↦ ⟦<ArgExtreme as NodeRule>⟧.held s
+      | TwoSets s ↦ ⟦<TwoSets as NodeRule>⟧.held s
+      | Card s ↦ ⟦<Card as NodeRule>⟧.held s
+      | Member s ↦ ⟦<Member as NodeRule>⟧.held s
+    ] };
 
     ghost use Rattle.cbl_base.specs.Sets.{set_of};
     ghost use Rattle.cbl_base.specs.NumberRule.{one_kind_of_numbers};
@@ -45,7 +72,16 @@ impl<U: UserConstraint> NodeRule for KindOf<U> {
     ghost use Rattle.node_set.specs.Combining.{combined};
     ghost use Rattle.node_kinds.specs.ConstantRule.{one_kind_of_constant};
 
-    ghost one_kind = { elim [ Constant s ↦ one_kind_of_constant s.value | Operation s ↦ one_kind_of_numbers (⟦<OperationKind as NumberNode>⟧.number_rule s.node) | Constraint s ↦ one_kind_of_numbers (⟦<ConstraintKind<U> as NumberNode>⟧.number_rule s.node) | SetOf s ↦ one_kind_of_keys s.keys (λ xs. set_of (keys_where is_one s.keys xs)) | ArgExtreme s ↦ one_kind_of_keys s.least.keys (extreme_keys s.extreme s.least.keys) | TwoSets s ↦ one_kind_of_two_sets (combined s.combining) | Card _ ↦ one_kind_of_card | Member _ ↦ one_kind_of_member ] };
+    ghost one_kind = { elim [
+      | Constant s ↦ one_kind_of_constant s.value
+      | Operation s ↦ one_kind_of_numbers (⟦<OperationKind as NumberNode>⟧.number_rule s.node)
+      | Constraint s ↦ one_kind_of_numbers (⟦<ConstraintKind<U> as NumberNode>⟧.number_rule s.node)
+      | SetOf s ↦ one_kind_of_keys s.keys (λ xs. set_of (keys_where is_one s.keys xs))
+      | ArgExtreme s ↦ one_kind_of_keys s.least.keys (extreme_keys s.extreme s.least.keys)
+      | TwoSets s ↦ one_kind_of_two_sets (combined s.combining)
+      | Card _ ↦ one_kind_of_card
+      | Member _ ↦ one_kind_of_member
+    ] };
 
     fn reset(&mut self, inputs: &[Input]) -> Result<(), NoMemory> {
         match self {

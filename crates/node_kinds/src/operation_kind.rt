@@ -23,11 +23,41 @@ pub enum OperationKind {
 impl NumberNode for OperationKind {
     ghost use Rattle.node_kinds.specs.declared.operation_kind.OperationKind.TheVariants.{Sum, Junction, Binary, Unary, Count, Element, Element2, Least, Greatest};
 
-    ghost number_rule = { elim [ Sum s ↦ ⟦<Sum as NumberNode>⟧.number_rule s | Junction s ↦ ⟦<Junction as NumberNode>⟧.number_rule s | Binary s ↦ ⟦<Binary as NumberNode>⟧.number_rule s | Unary s ↦ ⟦<Unary as NumberNode>⟧.number_rule s | Count s ↦ ⟦<Count as NumberNode>⟧.number_rule s | Element s ↦ ⟦<Element as NumberNode>⟧.number_rule s | Element2 s ↦ ⟦<Element2 as NumberNode>⟧.number_rule s | Least s ↦ ⟦<Least as NumberNode>⟧.number_rule s | Greatest s ↦ ⟦<Greatest as NumberNode>⟧.number_rule s ] };
+    ghost number_rule = { elim [
+      | Sum s ↦ ⟦<Sum as NumberNode>⟧.number_rule s
+      | Junction s ↦ ⟦<Junction as NumberNode>⟧.number_rule s
+      | Binary s ↦ ⟦<Binary as NumberNode>⟧.number_rule s
+      | Unary s ↦ ⟦<Unary as NumberNode>⟧.number_rule s
+      | Count s ↦ ⟦<Count as NumberNode>⟧.number_rule s
+      | Element s ↦ ⟦<Element as NumberNode>⟧.number_rule s
+      | Element2 s ↦ ⟦<Element2 as NumberNode>⟧.number_rule s
+      | Least s ↦ ⟦<Least as NumberNode>⟧.number_rule s
+      | Greatest s ↦ ⟦<Greatest as NumberNode>⟧.number_rule s
+    ] };
 
-    ghost settled = { elim [ Sum s ↦ ⟦<Sum as NumberNode>⟧.settled s | Junction s ↦ ⟦<Junction as NumberNode>⟧.settled s | Binary s ↦ ⟦<Binary as NumberNode>⟧.settled s | Unary s ↦ ⟦<Unary as NumberNode>⟧.settled s | Count s ↦ ⟦<Count as NumberNode>⟧.settled s | Element s ↦ ⟦<Element as NumberNode>⟧.settled s | Element2 s ↦ ⟦<Element2 as NumberNode>⟧.settled s | Least s ↦ ⟦<Least as NumberNode>⟧.settled s | Greatest s ↦ ⟦<Greatest as NumberNode>⟧.settled s ] };
+    ghost settled = { elim [
+      | Sum s ↦ ⟦<Sum as NumberNode>⟧.settled s
+      | Junction s ↦ ⟦<Junction as NumberNode>⟧.settled s
+      | Binary s ↦ ⟦<Binary as NumberNode>⟧.settled s
+      | Unary s ↦ ⟦<Unary as NumberNode>⟧.settled s
+      | Count s ↦ ⟦<Count as NumberNode>⟧.settled s
+      | Element s ↦ ⟦<Element as NumberNode>⟧.settled s
+      | Element2 s ↦ ⟦<Element2 as NumberNode>⟧.settled s
+      | Least s ↦ ⟦<Least as NumberNode>⟧.settled s
+      | Greatest s ↦ ⟦<Greatest as NumberNode>⟧.settled s
+    ] };
 
-    ghost held_numbers = { elim [ Sum s ↦ ⟦<Sum as NumberNode>⟧.held_numbers s | Junction s ↦ ⟦<Junction as NumberNode>⟧.held_numbers s | Binary s ↦ ⟦<Binary as NumberNode>⟧.held_numbers s | Unary s ↦ ⟦<Unary as NumberNode>⟧.held_numbers s | Count s ↦ ⟦<Count as NumberNode>⟧.held_numbers s | Element s ↦ ⟦<Element as NumberNode>⟧.held_numbers s | Element2 s ↦ ⟦<Element2 as NumberNode>⟧.held_numbers s | Least s ↦ ⟦<Least as NumberNode>⟧.held_numbers s | Greatest s ↦ ⟦<Greatest as NumberNode>⟧.held_numbers s ] };
+    ghost held_numbers = { elim [
+      | Sum s ↦ ⟦<Sum as NumberNode>⟧.held_numbers s
+      | Junction s ↦ ⟦<Junction as NumberNode>⟧.held_numbers s
+      | Binary s ↦ ⟦<Binary as NumberNode>⟧.held_numbers s
+      | Unary s ↦ ⟦<Unary as NumberNode>⟧.held_numbers s
+      | Count s ↦ ⟦<Count as NumberNode>⟧.held_numbers s
+      | Element s ↦ ⟦<Element as NumberNode>⟧.held_numbers s
+      | Element2 s ↦ ⟦<Element2 as NumberNode>⟧.held_numbers s
+      | Least s ↦ ⟦<Least as NumberNode>⟧.held_numbers s
+      | Greatest s ↦ ⟦<Greatest as NumberNode>⟧.held_numbers s
+    ] };
 
     fn reset(&mut self, numbers: &[i64]) -> Result<(), NoMemory> {
         match self {

@@ -63,7 +63,10 @@ where
     ensures ran { IfOk result (λ r. (k : ℕ) (t : B.Outcome) →
         slice_get r.outcomes.items k ≡ Some t →
         Runs (B.asks body.now k) (B.is_cut t) (asked_by k r.history.items) t) }
-    ensures fits { IfOk result (λ r. (d : B.Outcome) → AllByRecursion (λ t. B.is_cut t ≡ false) r.outcomes.items → Fits S.takes S.after S.answer state (B.asks body.now) n (λ k. slice_index_or r.outcomes.items k d) r.history.items) }
+    ensures fits { IfOk result (λ r. (d : B.Outcome) →
+        AllByRecursion (λ t. B.is_cut t ≡ false) r.outcomes.items →
+        Fits S.takes S.after S.answer state (B.asks body.now) n (λ k.
+        slice_index_or r.outcomes.items k d) r.history.items) }
     ensures order { IfOk result (λ r. workers ≡ 1 →
         r.history.items ≡ one_by_one r.history.items 0 n) }
 {
@@ -165,7 +168,10 @@ fn take_in<S: Replays, T: Drop>(
     requires places { AllLess (length places.old.items) (map (λ x. x.0) worked.outcomes.items) }
     ensures seat { IsSeatOf turn.now first.new.seat ×
         (view_of first.new.seat ≡ both (view_of first.old.seat) (view_of worked.seat)) }
-    ensures claimer { IsClaimerOf claims.now first.new.claimer × (seats_from first.new.claimer ≡ seats_from first.old.claimer + seats_from worked.claimer) × (drawn_by first.new.claimer ≡ drawn_by first.old.claimer ++ drawn_by worked.claimer) × (is_done first.new.claimer ≡ (is_done first.old.claimer || is_done worked.claimer)) }
+    ensures claimer { IsClaimerOf claims.now first.new.claimer ×
+        (seats_from first.new.claimer ≡ seats_from first.old.claimer + seats_from worked.claimer) ×
+        (drawn_by first.new.claimer ≡ drawn_by first.old.claimer ++ drawn_by worked.claimer) ×
+        (is_done first.new.claimer ≡ (is_done first.old.claimer || is_done worked.claimer)) }
     ensures places { places.new.items ≡ put_into places.old.items worked.outcomes.items }
 {
     let Worked {

@@ -56,7 +56,10 @@ pub fn violations<O: Outside>(
     whole: &Value,
     arguments: &[Value],
 ) -> Result<Value, Stop>
-    ensures did { (s : states.State) → Did value_seen result (beside (O.told out.now) s) (systems.violations at (value_seen whole.now) (map value_seen arguments.now) (beside (O.told out.now) s)) }
+    ensures did { (s : states.State) →
+        Did value_seen result (beside (O.told out.now) s)
+        (systems.violations at (value_seen whole.now) (map value_seen arguments.now)
+        (beside (O.told out.now) s)) }
     ensures stop { IfErr result IsFaultOrMemory }
 {
     match arguments {
@@ -73,7 +76,10 @@ fn violations_in<O: Outside>(
     whole: &Value,
     asked: &Value,
 ) -> Result<Value, Stop>
-    ensures did { (s : states.State) → Did value_seen result (beside (O.told out.now) s) (systems.violations at (value_seen whole.now) (value_seen asked.now ∷ []) (beside (O.told out.now) s)) }
+    ensures did { (s : states.State) →
+        Did value_seen result (beside (O.told out.now) s)
+        (systems.violations at (value_seen whole.now) (value_seen asked.now ∷ [])
+        (beside (O.told out.now) s)) }
     ensures stop { IfErr result IsFaultOrMemory }
 {
     match asked {
@@ -89,7 +95,10 @@ fn violations_of<O: Outside>(
     whole: &Value,
     variable: VarId,
 ) -> Result<Value, Stop>
-    ensures did { (s : states.State) → Did value_seen result (beside (O.told out.now) s) (of_whole (systems.variable_violations at variable) (value_seen whole.now) (beside (O.told out.now) s)) }
+    ensures did { (s : states.State) →
+        Did value_seen result (beside (O.told out.now) s)
+        (of_whole (systems.variable_violations at variable) (value_seen whole.now)
+        (beside (O.told out.now) s)) }
     ensures stop { IfErr result IsFaultOrMemory }
 {
     out.violations_of(at, whole, variable)
@@ -103,7 +112,10 @@ pub fn assign_delta<O: Outside>(
     whole: &Value,
     arguments: &[Value],
 ) -> Result<Value, Stop>
-    ensures did { (s : states.State) → Did value_seen result (beside (O.told out.now) s) (systems.assign_delta at (value_seen whole.now) (map value_seen arguments.now) (beside (O.told out.now) s)) }
+    ensures did { (s : states.State) →
+        Did value_seen result (beside (O.told out.now) s)
+        (systems.assign_delta at (value_seen whole.now) (map value_seen arguments.now)
+        (beside (O.told out.now) s)) }
     ensures stop { IfErr result IsFaultOrMemory }
 {
     match arguments {
@@ -120,7 +132,10 @@ fn delta_of_number<O: Outside>(
     moved: &Value,
     number: &Value,
 ) -> Result<Value, Stop>
-    ensures did { (s : states.State) → Did value_seen result (beside (O.told out.now) s) (systems.assign_delta at (value_seen whole.now) (value_seen moved.now ∷ value_seen number.now ∷ []) (beside (O.told out.now) s)) }
+    ensures did { (s : states.State) →
+        Did value_seen result (beside (O.told out.now) s)
+        (systems.assign_delta at (value_seen whole.now)
+        (value_seen moved.now ∷ value_seen number.now ∷ []) (beside (O.told out.now) s)) }
     ensures stop { IfErr result IsFaultOrMemory }
 {
     match moved {
@@ -137,7 +152,10 @@ fn delta_of_assigned<O: Outside>(
     variable: VarId,
     number: &Value,
 ) -> Result<Value, Stop>
-    ensures did { (s : states.State) → Did value_seen result (beside (O.told out.now) s) (systems.assign_delta at (value_seen whole.now) (values.Variable variable ∷ value_seen number.now ∷ []) (beside (O.told out.now) s)) }
+    ensures did { (s : states.State) →
+        Did value_seen result (beside (O.told out.now) s)
+        (systems.assign_delta at (value_seen whole.now)
+        (values.Variable variable ∷ value_seen number.now ∷ []) (beside (O.told out.now) s)) }
     ensures stop { IfErr result IsFaultOrMemory }
 {
     out.assign_delta(at, whole, variable, number.number())
@@ -151,7 +169,10 @@ pub fn swap_delta<O: Outside>(
     whole: &Value,
     arguments: &[Value],
 ) -> Result<Value, Stop>
-    ensures did { (s : states.State) → Did value_seen result (beside (O.told out.now) s) (systems.swap_delta at (value_seen whole.now) (map value_seen arguments.now) (beside (O.told out.now) s)) }
+    ensures did { (s : states.State) →
+        Did value_seen result (beside (O.told out.now) s)
+        (systems.swap_delta at (value_seen whole.now) (map value_seen arguments.now)
+        (beside (O.told out.now) s)) }
     ensures stop { IfErr result IsFaultOrMemory }
 {
     match arguments {
@@ -168,7 +189,10 @@ fn delta_of_swapped<O: Outside>(
     left: &Value,
     right: &Value,
 ) -> Result<Value, Stop>
-    ensures did { (s : states.State) → Did value_seen result (beside (O.told out.now) s) (systems.swap_delta at (value_seen whole.now) (value_seen left.now ∷ value_seen right.now ∷ []) (beside (O.told out.now) s)) }
+    ensures did { (s : states.State) →
+        Did value_seen result (beside (O.told out.now) s)
+        (systems.swap_delta at (value_seen whole.now)
+        (value_seen left.now ∷ value_seen right.now ∷ []) (beside (O.told out.now) s)) }
     ensures stop { IfErr result IsFaultOrMemory }
 {
     match left {
@@ -185,7 +209,10 @@ fn delta_of_swap_with<O: Outside>(
     left: VarId,
     right: &Value,
 ) -> Result<Value, Stop>
-    ensures did { (s : states.State) → Did value_seen result (beside (O.told out.now) s) (systems.swap_delta at (value_seen whole.now) (values.Variable left ∷ value_seen right.now ∷ []) (beside (O.told out.now) s)) }
+    ensures did { (s : states.State) →
+        Did value_seen result (beside (O.told out.now) s)
+        (systems.swap_delta at (value_seen whole.now)
+        (values.Variable left ∷ value_seen right.now ∷ []) (beside (O.told out.now) s)) }
     ensures stop { IfErr result IsFaultOrMemory }
 {
     match right {
@@ -202,7 +229,10 @@ fn delta_of_swap<O: Outside>(
     left: VarId,
     right: VarId,
 ) -> Result<Value, Stop>
-    ensures did { (s : states.State) → Did value_seen result (beside (O.told out.now) s) (systems.swap_delta at (value_seen whole.now) (values.Variable left ∷ values.Variable right ∷ []) (beside (O.told out.now) s)) }
+    ensures did { (s : states.State) →
+        Did value_seen result (beside (O.told out.now) s)
+        (systems.swap_delta at (value_seen whole.now)
+        (values.Variable left ∷ values.Variable right ∷ []) (beside (O.told out.now) s)) }
     ensures stop { IfErr result IsFaultOrMemory }
 {
     out.swap_delta(at, whole, left, right)

@@ -109,7 +109,10 @@ pub fn new_variable<O: Outside>(
     name: Text,
     beginning: Beginning,
 ) -> Result<VarId, Stop>
-    ensures did { (s : states.State) → Did (λ x. x) result (beside (O.told out.new) s) (variables.new_variable at (solver_of (value_seen solver.now)) decl name (beginning_seen beginning) (beside (O.told out.old) s)) }
+    ensures did { (s : states.State) →
+        Did (λ x. x) result (beside (O.told out.new) s)
+        (variables.new_variable at (solver_of (value_seen solver.now)) decl name
+        (beginning_seen beginning) (beside (O.told out.old) s)) }
     ensures printed { (O.told out.new).printed ≡ (O.told out.old).printed }
     ensures stop { IfErr result IsFaultOrMemory }
 {
@@ -184,7 +187,10 @@ pub fn open_with<O: Outside>(out: &mut O, at: Place, solver: &Value) -> Result<b
 /// Commits what waits in a solver, at the end of the outermost `with`, and queues the events of what changes. The stop is
 /// the first fault of the solver's variables, where it was met.
 pub fn commit_waiting<O: Outside>(s: &mut State, out: &mut O, solver: &Value) -> Result<(), Stop>
-    ensures did { Did (λ _. tt) result (state_seen s.new (O.told out.new)) (noticed (solver_of (value_seen solver.now)) (blocks.commit_waiting (solver_of (value_seen solver.now))) (state_seen s.old (O.told out.old))) }
+    ensures did { Did (λ _. tt) result (state_seen s.new (O.told out.new))
+        (noticed (solver_of (value_seen solver.now))
+        (blocks.commit_waiting (solver_of (value_seen solver.now)))
+        (state_seen s.old (O.told out.old))) }
     ensures printed { (O.told out.new).printed ≡ (O.told out.old).printed }
     ensures stop { IfErr result IsFaultOrMemory }
     ensures fuel { s.new.fuel ≡ s.old.fuel }

@@ -25,7 +25,11 @@ pub(crate) fn read_beside<U: LocalConstraint>(
     at: Place,
     variable: VarId,
 ) -> Result<Value, Stop>
-    ensures did { (printed : List ℕ) (users : List User) (s : State) → Did value_seen result (beside (told_of printed solvers.now users) s) (variable_value at variable.index (solver_at (beside (told_of printed solvers.now users) s) variable.solver) (beside (told_of printed solvers.now users) s)) }
+    ensures did { (printed : List ℕ) (users : List User) (s : State) →
+        Did value_seen result (beside (told_of printed solvers.now users) s)
+        (variable_value at variable.index
+        (solver_at (beside (told_of printed solvers.now users) s) variable.solver)
+        (beside (told_of printed solvers.now users) s)) }
     ensures stop { IfErr result IsFaultOrMemory }
 {
     solvers.read(at, variable)
@@ -37,7 +41,12 @@ pub(crate) fn domain_beside<U: LocalConstraint>(
     at: Place,
     variable: VarId,
 ) -> Result<Bounds, Stop>
-    ensures did { (printed : List ℕ) (users : List User) (s : State) → Did (λ d. values.Range (bounds_seen d)) result (beside (told_of printed solvers.now users) s) (domain_at at variable (solver_at (beside (told_of printed solvers.now users) s) variable.solver) (beside (told_of printed solvers.now users) s)) }
+    ensures did { (printed : List ℕ) (users : List User) (s : State) →
+        Did (λ d. values.Range (bounds_seen d)) result
+        (beside (told_of printed solvers.now users) s)
+        (domain_at at variable (solver_at
+        (beside (told_of printed solvers.now users) s) variable.solver)
+        (beside (told_of printed solvers.now users) s)) }
     ensures stop { IfErr result IsFaultOrMemory }
 {
     solvers.domain(at, variable)
@@ -63,7 +72,10 @@ pub(crate) fn snapshot_beside<U: LocalConstraint>(
     at: Place,
     number: usize,
 ) -> Result<Solution, Stop>
-    ensures did { (printed : List ℕ) (users : List User) (s : State) → Did (λ x. x.values) result (beside (told_of printed solvers.now users) s) (kept_numbers at (solver_at (beside (told_of printed solvers.now users) s) number) (beside (told_of printed solvers.now users) s)) }
+    ensures did { (printed : List ℕ) (users : List User) (s : State) →
+        Did (λ x. x.values) result (beside (told_of printed solvers.now users) s)
+        (kept_numbers at (solver_at (beside (told_of printed solvers.now users) s) number)
+        (beside (told_of printed solvers.now users) s)) }
     ensures number { IfOk result (λ x. x.solver ≡ number) }
     ensures stop { IfErr result IsFaultOrMemory }
 {
@@ -76,7 +88,11 @@ pub(crate) fn restore_beside<U: LocalConstraint>(
     at: Place,
     solution: &Solution,
 ) -> Result<Vec<VarChange>, Stop>
-    ensures did { (printed : List ℕ) (users : List User) (s : State) → Did (λ _. tt) result (beside (told_of printed solvers.new users) s) (restoring at solution.now.solver solution.now.values (solver_at (beside (told_of printed solvers.old users) s) solution.now.solver) (beside (told_of printed solvers.old users) s)) }
+    ensures did { (printed : List ℕ) (users : List User) (s : State) →
+        Did (λ _. tt) result (beside (told_of printed solvers.new users) s)
+        (restoring at solution.now.solver solution.now.values
+        (solver_at (beside (told_of printed solvers.old users) s) solution.now.solver)
+        (beside (told_of printed solvers.old users) s)) }
     ensures told { TellsIn solution.now.solver solvers.old solvers.new result }
     ensures stop { IfErr result IsFaultOrMemory }
 {

@@ -83,7 +83,10 @@ pub trait Outside {
 
     /// The domain of a variable that is asked at a place. `WrongSolver` there exactly where its solver has no such variable.
     fn domain(&self, at: Place, variable: VarId) -> Result<Bounds, Stop>
-        ensures did { (s : State) → Did (λ d. values.Range (bounds_seen d)) result (beside (told self.now) s) (domain_at at variable (solver_at (beside (told self.now) s) variable.solver) (beside (told self.now) s)) }
+        ensures did { (s : State) → Did (λ d.
+            values.Range (bounds_seen d)) result (beside (told self.now) s)
+            (domain_at at variable (solver_at (beside (told self.now) s) variable.solver)
+            (beside (told self.now) s)) }
         ensures stop { IfErr result IsFaultOrMemory };
 
     /// Closes the solver with a number, and evaluates its variables. `AlreadyClosed` at this place exactly where it is
@@ -140,7 +143,10 @@ pub trait Outside {
         name: Text,
         beginning: Beginning,
     ) -> Result<VarId, Stop>
-        ensures did { (s : State) → Did (λ x. x) result (beside (told self.new) s) ((new_variable at number decl name (beginning_seen beginning)) (beside (told self.old) s)) }
+        ensures did { (s : State) → Did (λ x.
+            x) result (beside (told self.new) s)
+            ((new_variable at number decl name (beginning_seen beginning))
+            (beside (told self.old) s)) }
         ensures stop { IfErr result IsFaultOrMemory }
         ensures printed { (told self.new).printed ≡ (told self.old).printed }
         ensures output { (share self.new ≡ share self.old) × (faults self.new ≡ faults self.old) };
@@ -268,7 +274,10 @@ pub trait Outside {
     /// changed. At this place `NotClosed` where the solver is open, and then `WrongSolver` where the solution hasn't as many
     /// numbers as there are free variables; and else the fault of the variables where it was met.
     fn restore(&mut self, at: Place, solution: &Solution) -> Result<Vec<VarChange>, Stop>
-        ensures did { (s : State) → Did (λ _. tt) result (beside (told self.new) s) (restoring at solution.now.solver solution.now.values (solver_at (beside (told self.old) s) solution.now.solver) (beside (told self.old) s)) }
+        ensures did { (s : State) → Did (λ _.
+            tt) result (beside (told self.new) s)
+            (restoring at solution.now.solver solution.now.values
+            (solver_at (beside (told self.old) s) solution.now.solver) (beside (told self.old) s)) }
         ensures told { TellsIn solution.now.solver (told self.old).solvers
             (told self.new).solvers result }
         ensures stop { IfErr result IsFaultOrMemory }

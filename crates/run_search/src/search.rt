@@ -174,7 +174,10 @@ impl Search {
 
     /// Queues the events of changes behind those that wait. `NoMemory` where there is none for them; there is no other stop.
     pub fn queue(&mut self, changes: &[VarChange]) -> Result<(), Stop>
-        ensures queued { (k : ℕ) (cs : List Change) → changes.now ≡ map (told k) cs → OnOk result (search_seen self.new ≡ with_events (queued_events k (search_seen self.old).handlers cs) (search_seen self.old)) }
+        ensures queued { (k : ℕ) (cs : List Change) → changes.now ≡ map (told k) cs →
+            OnOk result (search_seen self.new ≡
+            with_events (queued_events k (search_seen self.old).handlers cs)
+            (search_seen self.old)) }
         ensures memory { IfErr result (λ stop. stop ≡ NoMemory) }
     {
         self.handlers.queue(changes, &mut self.queue)?;

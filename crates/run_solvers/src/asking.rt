@@ -85,7 +85,10 @@ impl<U: LocalConstraint> Held<U> {
     ) -> Result<Value, Stop>
         requires kept { IsKept self.now }
         requires own { total.solver ≡ self.now.number }
-        ensures did { (s : State) → Did value_seen result s (asking at total.solver (whole_of total) (x ∷ []) (delta_answer (held_seen self.now) (whole_of total) (Assign x.index number)) (held_seen self.now) s) }
+        ensures did { (s : State) → Did value_seen result s
+            (asking at total.solver (whole_of total) (x ∷ [])
+            (delta_answer (held_seen self.now) (whole_of total) (Assign x.index number))
+            (held_seen self.now) s) }
         ensures stop { IfErr result IsFaultOrMemory }
     {
         answer_of(at, self.solver.assign_delta_in(total, x, number))
@@ -102,7 +105,10 @@ impl<U: LocalConstraint> Held<U> {
     ) -> Result<Value, Stop>
         requires kept { IsKept self.now }
         requires own { total.solver ≡ self.now.number }
-        ensures did { (s : State) → Did value_seen result s (asking at total.solver (whole_of total) (x ∷ y ∷ []) (delta_answer (held_seen self.now) (whole_of total) (Swap x.index y.index)) (held_seen self.now) s) }
+        ensures did { (s : State) → Did value_seen result s
+            (asking at total.solver (whole_of total) (x ∷ y ∷ [])
+            (delta_answer (held_seen self.now) (whole_of total) (Swap x.index y.index))
+            (held_seen self.now) s) }
         ensures stop { IfErr result IsFaultOrMemory }
     {
         answer_of(at, self.solver.swap_delta_in(total, x, y))

@@ -107,7 +107,10 @@ impl<U: LocalConstraint> Held<U> {
         requires own { (is_own self.old.solver x ≡ true) × (is_own self.old.solver y ≡ true) }
         requires free { (has_definition self.old.solver.model x.index ≡ false) ×
             (has_definition self.old.solver.model y.index ≡ false) }
-        ensures { TriesToMove self.old self.new result (moved_one ((x.index, number_now (held_seen self.old) y.index) ∷ (y.index, number_now (held_seen self.old) x.index) ∷ []) (held_seen self.old) (held_seen self.old).waiting) }
+        ensures { TriesToMove self.old self.new result
+            (moved_one ((x.index, number_now (held_seen self.old) y.index) ∷
+            (y.index, number_now (held_seen self.old) x.index) ∷ []) (held_seen self.old)
+            (held_seen self.old).waiting) }
     {
         match self.number_of(x) {
             Err(stop) => Err(stop),

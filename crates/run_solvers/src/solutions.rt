@@ -133,7 +133,10 @@ impl<U: LocalConstraint> Solvers<U> {
     /// changed. At this place `NotClosed` where the solver is open, and then `WrongSolver` where the solution hasn't as
     /// many numbers as there are free variables; and else the fault of the variables where it was met.
     pub fn restore(&mut self, at: Place, solution: &Solution) -> Result<Vec<VarChange>, Stop>
-        ensures did { (s : State) → s.solvers ≡ self.old → Did (λ _. tt) result (record s { solvers = self.new }) (meaning.restoring at solution.now.solver solution.now.values (solver_at s solution.now.solver) s) }
+        ensures did { (s : State) → s.solvers ≡ self.old →
+            Did (λ _. tt) result (record s { solvers = self.new })
+            (meaning.restoring at solution.now.solver solution.now.values
+            (solver_at s solution.now.solver) s) }
         ensures told { TellsIn solution.now.solver self.old self.new result }
         ensures stop { IfErr result IsFaultOrMemory }
     {

@@ -203,7 +203,10 @@ impl<U: LocalConstraint> Solvers<U> {
         places: Vec<Built>,
         weight: i64,
     ) -> Result<(), Stop>
-        ensures did { (s : State) → s.solvers ≡ self.old → Did (λ _. values.Nothing) result (record s { solvers = self.new }) (post_user_to at (kept (U.user_rule user)) places.items weight total.solver (whole_of total) s) }
+        ensures did { (s : State) → s.solvers ≡ self.old →
+            Did (λ _. values.Nothing) result (record s { solvers = self.new })
+            (post_user_to at (kept (U.user_rule user)) places.items weight total.solver
+            (whole_of total) s) }
         ensures stop { IfErr result IsFaultOrMemory }
     {
         let number = total.solver as usize;

@@ -53,7 +53,10 @@ impl State {
 
     /// The number of the first word that an input hasn't read yet.
     fn first_word(&mut self, at: Place, input: usize) -> Result<Value, Stop>
-        ensures did { (told : Told) → Did value_seen result (state_seen self.new told) (meaning.first_word at (values.Input input) (meaning.behind_blanks (meaning.unread (state_seen self.old told) (values.Input input))) (state_seen self.old told)) }
+        ensures did { (told : Told) → Did value_seen result (state_seen self.new told)
+            (meaning.first_word at (values.Input input)
+            (meaning.behind_blanks (meaning.unread (state_seen self.old told) (values.Input input)))
+            (state_seen self.old told)) }
         ensures stop { IfErr result IsFault }
         ensures fuel { self.new.fuel ≡ self.old.fuel }
     {

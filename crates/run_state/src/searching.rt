@@ -99,7 +99,10 @@ impl State {
     /// selector keeps nothing.
     #[tactic(auto, unfolding(comet_meaning::specs::Events::closed_over))]
     pub fn submit(&mut self, delta: i64, selector: &Value, body: &Later) -> Result<(), Stop>
-        ensures did { (told : Told) → Did (λ _. tt) result (state_seen self.new told) (submitted delta (value_seen selector.now) (work_of body.now.value.value) (state_seen self.old told)) }
+        ensures did { (told : Told) → Did (λ _.
+            tt) result (state_seen self.new told)
+            (submitted delta (value_seen selector.now) (work_of body.now.value.value)
+            (state_seen self.old told)) }
         ensures memory { IfErr result (λ stop. stop ≡ NoMemory) }
         ensures fuel { self.new.fuel ≡ self.old.fuel }
     {
@@ -112,7 +115,10 @@ impl State {
     /// The same of the selector with a number.
     #[tactic(auto, unfolding(comet_meaning::specs::Events::closed_over, run_search::specs::Searches::moves_seen))]
     fn submit_to(&mut self, delta: i64, number: usize, body: &Later) -> Result<(), Stop>
-        ensures did { (told : Told) → Did (λ _. tt) result (state_seen self.new told) (submitted delta (values.Selector number) (work_of body.now.value.value) (state_seen self.old told)) }
+        ensures did { (told : Told) → Did (λ _.
+            tt) result (state_seen self.new told)
+            (submitted delta (values.Selector number) (work_of body.now.value.value)
+            (state_seen self.old told)) }
         ensures memory { IfErr result (λ stop. stop ≡ NoMemory) }
         ensures fuel { self.new.fuel ≡ self.old.fuel }
     {
@@ -226,7 +232,10 @@ impl State {
         names: Option<EventSlots>,
         body: &Later,
     ) -> Result<(), Stop>
-        ensures did { (told : Told) → Did (λ _. tt) result (state_seen self.new told) (watched (value_seen variable.now) names (work_of body.now.value.value) (state_seen self.old told)) }
+        ensures did { (told : Told) → Did (λ _.
+            tt) result (state_seen self.new told)
+            (watched (value_seen variable.now) names (work_of body.now.value.value)
+            (state_seen self.old told)) }
         ensures memory { IfErr result (λ stop. stop ≡ NoMemory) }
         ensures fuel { self.new.fuel ≡ self.old.fuel }
     {

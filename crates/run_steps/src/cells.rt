@@ -37,7 +37,10 @@ pub struct Extent {
 /// How many cells an array has. `TooMany` cells at this place exactly where they are more than 16,777,216; there is no
 /// other stop.
 pub fn cell_count(at: Place, extents: &[Extent]) -> Result<u128, Stop>
-    ensures did { (s : states.State) → Did (λ _. tt) result s (unless (nat_le (meaning.cell_count (map extent_seen extents.now)) most_cells) at (TooMany limits.Cells) s) }
+    ensures did { (s : states.State) →
+        Did (λ _. tt) result s (unless (nat_le
+        (meaning.cell_count (map extent_seen extents.now)) most_cells) at
+        (TooMany limits.Cells) s) }
     ensures count { IfOk result (λ count.
         count ≡ meaning.cell_count (map extent_seen extents.now)) }
 {

@@ -158,7 +158,10 @@ pub fn push_variable<O: Outside>(
     cells: Vec<VarId>,
     beginning: Result<Beginning, Stop>,
 ) -> Result<Vec<VarId>, Stop>
-    ensures did { Follows beginning_seen (λ cells. cells.items) beginning result (state_seen s.old (O.told out.old)) (state_seen s.new (O.told out.new)) (added_cell at (variable_of variable.now) decl indices.now cells.items) }
+    ensures did { Follows beginning_seen (λ cells.
+        cells.items) beginning result (state_seen s.old (O.told out.old))
+        (state_seen s.new (O.told out.new))
+        (added_cell at (variable_of variable.now) decl indices.now cells.items) }
 {
     match beginning {
         Err(stop) => Err(stop),
@@ -212,7 +215,10 @@ fn put_variables(
     extents: &[Extent],
     variables: Vec<VarId>,
 ) -> Result<(), Stop>
-    ensures did { (told : Told) → Does (λ _. tt) result (state_seen s.new told) (made_variables slot (map extent_seen extents.now) variables.items (state_seen s.old told)) }
+    ensures did { (told : Told) → Does (λ _.
+        tt) result (state_seen s.new told)
+        (made_variables slot (map extent_seen extents.now) variables.items
+        (state_seen s.old told)) }
 {
     let array = s.new_variables(variables_of(extents, variables))?;
     s.put(slot, array)

@@ -109,7 +109,10 @@ impl<
 
     ghost depth = { λ i. i.room };
 
-    ghost is_ready = { λ i. (V.IsAlwaysCallable i.evaluate × Evaluates O.told (V.post i.evaluate) (code_seen i.code.now) i.room) × (X.IsAlwaysCallable i.execute × Executes O.told (X.post i.execute) (code_seen i.code.now) i.room) };
+    ghost is_ready = { λ i. (V.IsAlwaysCallable i.evaluate ×
+        Evaluates O.told (V.post i.evaluate) (code_seen i.code.now) i.room) ×
+        (X.IsAlwaysCallable i.execute × Executes O.told (X.post i.execute)
+        (code_seen i.code.now) i.room) };
 
     fn room(&self) -> u32 {
         self.room

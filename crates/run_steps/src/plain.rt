@@ -190,7 +190,10 @@ fn cell_within(
     array: &Typed,
     index: &Typed,
 ) -> Option<i64>
-    ensures given { (code : levels.Code) (told : Told) → GivesNumber result (state_seen s.now told) (index_form (level code room) at (part array.now) (part index.now) (state_seen s.now told)) }
+    ensures given { (code : levels.Code) (told : Told) →
+        GivesNumber result (state_seen s.now told)
+        (index_form (level code room) at (part array.now) (part index.now)
+        (state_seen s.now told)) }
 {
     if chains == 0 {
         return None;
@@ -214,7 +217,10 @@ fn number_in(s: &State, at: Place, array: &Value, index: i64) -> Option<i64>
 /// The number of a chain of plain numbers.
 #[cycle(plain)]
 fn chain_within(s: &State, room: u32, chains: u32, first: &Typed, links: &[Link]) -> Option<i64>
-    ensures given { (code : levels.Code) (told : Told) → GivesNumber result (state_seen s.now told) (operators.chain_form (level code room) (part first.now) (links_seen links.now) (state_seen s.now told)) }
+    ensures given { (code : levels.Code) (told : Told) →
+        GivesNumber result (state_seen s.now told)
+        (operators.chain_form (level code room) (part first.now) (links_seen links.now)
+        (state_seen s.now told)) }
 {
     if chains == 0 {
         return None;

@@ -118,7 +118,10 @@ fn call_spending(
     function: usize,
     arguments: &[Typed],
 ) -> Option<i64>
-    ensures given { (at : Place) (told : Told) → Spends result (state_seen s.old told) (state_seen s.new told) (calls.call_form (code_seen code.now) (level (code_seen code.now) room) at function (row arguments.now) (state_seen s.old told)) }
+    ensures given { (at : Place) (told : Told) →
+        Spends result (state_seen s.old told) (state_seen s.new told)
+        (calls.call_form (code_seen code.now) (level (code_seen code.now) room) at function
+        (row arguments.now) (state_seen s.old told)) }
 {
     let callee = function_at(code, function)?;
     let value = returned_alone(&callee.body)?;
@@ -149,7 +152,10 @@ fn may_be_plain(e: &Typed) -> bool {
 
 /// The arguments for these parameters, where they are plain numbers.
 fn numbers_for(s: &State, room: u32, parameters: &[Kind], arguments: &[Typed]) -> Option<Vec<Value>>
-    ensures given { (code : levels.Code) (told : Told) → GivesNumbers result (state_seen s.now told) (calls.arguments_form (level code room) parameters.now (row arguments.now) [] (state_seen s.now told)) }
+    ensures given { (code : levels.Code) (told : Told) →
+        GivesNumbers result (state_seen s.now told)
+        (calls.arguments_form (level code room) parameters.now (row arguments.now) []
+        (state_seen s.now told)) }
 {
     let Ok(mut values) = Vec::with_capacity(s.alloc, arguments.len()) else {
         return None;

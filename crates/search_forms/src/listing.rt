@@ -65,7 +65,10 @@ fn list_behind<O: Outside, W: Within<O>>(
     requires ready { W.is_ready inside.now }
     requires some { 0 < length front.now }
     requires rows { AreRows found.old (length front.now + 1) }
-    ensures did { Does (λ _. candidates_seen found.new) result (state_seen s.new (O.told out.new)) (behind_front (level (W.code inside.now) (W.depth inside.now)) at (map shape_of_generator front.now) (shape_of_generator last.now) (candidates_seen found.old) (state_seen s.old (O.told out.old))) }
+    ensures did { Does (λ _. candidates_seen found.new) result (state_seen s.new (O.told out.new))
+        (behind_front (level (W.code inside.now) (W.depth inside.now)) at
+        (map shape_of_generator front.now) (shape_of_generator last.now) (candidates_seen found.old)
+        (state_seen s.old (O.told out.old))) }
     ensures rows { OnOk result (AreRows found.new (length front.now + 1)) }
 {
     let first = &front[0];
@@ -96,7 +99,10 @@ fn list_last<O: Outside, W: Within<O>>(
 ) -> Result<(), Stop>
     requires ready { W.is_ready inside.now }
     requires rows { AreRows found.old (length front.now + 1) }
-    ensures did { Does (λ _. candidates_seen found.new) result (state_seen s.new (O.told out.new)) (last_form (level (W.code inside.now) (W.depth inside.now)) at (map shape_of_generator front.now) (shape_of_generator last.now) (candidates_seen found.old) (state_seen s.old (O.told out.old))) }
+    ensures did { Does (λ _. candidates_seen found.new) result (state_seen s.new (O.told out.new))
+        (last_form (level (W.code inside.now) (W.depth inside.now)) at
+        (map shape_of_generator front.now) (shape_of_generator last.now) (candidates_seen found.old)
+        (state_seen s.old (O.told out.old))) }
     ensures rows { OnOk result (AreRows found.new (length front.now + 1)) }
 {
     let domain = value_of(s, out, inside, &last.domain)?;

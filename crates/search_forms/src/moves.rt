@@ -28,7 +28,10 @@ pub fn execute_neighbor<O: Outside, W: Within<O>>(
     body: &Later,
 ) -> Result<Flow, Stop>
     requires ready { W.is_ready inside.now }
-    ensures did { Does flow_seen result (state_seen s.new (O.told out.new)) (moves.neighbor_form (level (W.code inside.now) (W.depth inside.now)) (seen delta.now) selector (work_of body.now.value.value) (state_seen s.old (O.told out.old))) }
+    ensures did { Does flow_seen result (state_seen s.new (O.told out.new))
+        (moves.neighbor_form (level (W.code inside.now) (W.depth inside.now))
+        (seen delta.now) selector (work_of body.now.value.value)
+        (state_seen s.old (O.told out.old))) }
 {
     let delta = number_of(s, out, inside, delta)?;
     let selector = s.look(selector)?;
@@ -79,7 +82,10 @@ fn run_kept<O: Outside, W: Within<O>>(
     number: usize,
 ) -> Result<(), Stop>
     requires ready { W.is_ready inside.now }
-    ensures did { Does (λ _. tt) result (state_seen s.new (O.told out.new)) (moves.run_move (level (W.code inside.now) (W.depth inside.now)) (moves.kept_in (state_seen s.old (O.told out.old)) number) (state_seen s.old (O.told out.old))) }
+    ensures did { Does (λ _. tt) result (state_seen s.new (O.told out.new))
+        (moves.run_move (level (W.code inside.now) (W.depth inside.now))
+        (moves.kept_in (state_seen s.old (O.told out.old)) number)
+        (state_seen s.old (O.told out.old))) }
 {
     let kept = s.kept_closure(number)?;
     match kept {

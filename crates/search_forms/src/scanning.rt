@@ -53,7 +53,10 @@ pub(crate) fn scan<O: Outside, W: Within<O>>(
 ) -> Result<Part, Stop>
     requires ready { W.is_ready inside.now }
     requires rows { AreRows candidates.now candidates.now.width }
-    ensures did { ScansTo asked.entry.extreme result (state_seen s.new (O.told out.new)) (scanned (level (W.code inside.now) (W.depth inside.now)) at (map shape_of_generator generators.now) (condition_of asked.entry) (key_of asked.entry) 0 (candidates_seen candidates.now) [] (state_seen s.old (O.told out.old))) }
+    ensures did { ScansTo asked.entry.extreme result (state_seen s.new (O.told out.new))
+        (scanned (level (W.code inside.now) (W.depth inside.now)) at
+        (map shape_of_generator generators.now) (condition_of asked.entry) (key_of asked.entry) 0
+        (candidates_seen candidates.now) [] (state_seen s.old (O.told out.old))) }
 {
     let _start = s.fuel;
     let want = wanted(asked.extreme);
@@ -88,7 +91,11 @@ fn score<O: Outside, W: Within<O>>(
     asked: Asked<'_>,
 ) -> Result<Scored, Stop>
     requires ready { W.is_ready inside.now }
-    ensures did { (n : ℕ) (xs : List Rated) → Does (λ x. rated_by n x.end xs) result (state_seen s.new (O.told out.new)) (generated at (named (map shape_of_generator generators.now) values.now) (rated_form (level (W.code inside.now) (W.depth inside.now)) (condition_of asked.entry) (key_of asked.entry) n xs) (state_seen s.old (O.told out.old))) }
+    ensures did { (n : ℕ) (xs : List Rated) →
+        Does (λ x. rated_by n x.end xs) result (state_seen s.new (O.told out.new))
+        (generated at (named (map shape_of_generator generators.now) values.now)
+        (rated_form (level (W.code inside.now) (W.depth inside.now)) (condition_of asked.entry)
+        (key_of asked.entry) n xs) (state_seen s.old (O.told out.old))) }
     ensures cost { IfOk result (λ x. x.cost + s.new.fuel ≡ s.old.fuel) }
     ensures goes_on { IfOk result (λ x. stop_in x.end ≡ None) }
 {
@@ -110,7 +117,10 @@ fn rate<O: Outside, W: Within<O>>(
     asked: Asked<'_>,
 ) -> Result<End, Stop>
     requires ready { W.is_ready inside.now }
-    ensures did { (n : ℕ) (xs : List Rated) → Does (λ end. rated_by n end xs) result (state_seen s.new (O.told out.new)) (rated_form (level (W.code inside.now) (W.depth inside.now)) (condition_of asked.entry) (key_of asked.entry) n xs (state_seen s.old (O.told out.old))) }
+    ensures did { (n : ℕ) (xs : List Rated) →
+        Does (λ end. rated_by n end xs) result (state_seen s.new (O.told out.new))
+        (rated_form (level (W.code inside.now) (W.depth inside.now)) (condition_of asked.entry)
+        (key_of asked.entry) n xs (state_seen s.old (O.told out.old))) }
     ensures goes_on { IfOk result (λ end. stop_in end ≡ None) }
 {
     let passes = condition(s, out, inside, asked.condition)?;

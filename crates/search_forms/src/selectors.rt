@@ -36,7 +36,10 @@ pub fn execute_select<O: Outside, W: Within<O>>(
     body: &Task,
 ) -> Result<Flow, Stop>
     requires ready { W.is_ready inside.now }
-    ensures did { Does flow_seen result (state_seen s.new (O.told out.new)) (selection.select_form (level (W.code inside.now) (W.depth inside.now)) at (map shape_of_generator generators.now) (option_map seen condition.now) (work_of body.now) (state_seen s.old (O.told out.old))) }
+    ensures did { Does flow_seen result (state_seen s.new (O.told out.new))
+        (selection.select_form (level (W.code inside.now) (W.depth inside.now)) at
+        (map shape_of_generator generators.now) (option_map seen condition.now) (work_of body.now)
+        (state_seen s.old (O.told out.old))) }
 {
     let asked = Asked {
         extreme: None,
@@ -61,7 +64,10 @@ pub fn execute_select_by<O: Outside, W: Within<O>>(
     body: &Task,
 ) -> Result<Flow, Stop>
     requires ready { W.is_ready inside.now }
-    ensures did { Does flow_seen result (state_seen s.new (O.told out.new)) (selection.select_by_form (level (W.code inside.now) (W.depth inside.now)) at extreme (map shape_of_generator generators.now) (option_map seen condition.now) (seen key.now) (work_of body.now) (state_seen s.old (O.told out.old))) }
+    ensures did { Does flow_seen result (state_seen s.new (O.told out.new))
+        (selection.select_by_form (level (W.code inside.now) (W.depth inside.now)) at extreme
+        (map shape_of_generator generators.now) (option_map seen condition.now) (seen key.now)
+        (work_of body.now) (state_seen s.old (O.told out.old))) }
 {
     let asked = Asked {
         extreme: Some(extreme),
@@ -82,7 +88,10 @@ fn choose<O: Outside, W: Within<O>>(
     asked: Asked<'_>,
 ) -> Result<Option<Vec<i64>>, Stop>
     requires ready { W.is_ready inside.now }
-    ensures did { Does (option_map (λ v. v.items)) result (state_seen s.new (O.told out.new)) (selection.choice_form (level (W.code inside.now) (W.depth inside.now)) at asked.entry.extreme (map shape_of_generator generators.now) (condition_of asked.entry) (key_of asked.entry) (state_seen s.old (O.told out.old))) }
+    ensures did { Does (option_map (λ v. v.items)) result (state_seen s.new (O.told out.new))
+        (selection.choice_form (level (W.code inside.now)
+        (W.depth inside.now)) at asked.entry.extreme (map shape_of_generator generators.now)
+        (condition_of asked.entry) (key_of asked.entry) (state_seen s.old (O.told out.old))) }
 {
     let scan = scan_all(s, out, inside, at, generators, asked)?;
     let number = s.pick(&scan.part.ties);
@@ -116,7 +125,10 @@ fn scan_all<O: Outside, W: Within<O>>(
     asked: Asked<'_>,
 ) -> Result<Scanned, Stop>
     requires ready { W.is_ready inside.now }
-    ensures did { ScansAs asked.entry.extreme result (state_seen s.new (O.told out.new)) (selection.scan_form (level (W.code inside.now) (W.depth inside.now)) at (map shape_of_generator generators.now) (condition_of asked.entry) (key_of asked.entry) (state_seen s.old (O.told out.old))) }
+    ensures did { ScansAs asked.entry.extreme result (state_seen s.new (O.told out.new))
+        (selection.scan_form (level (W.code inside.now) (W.depth inside.now)) at
+        (map shape_of_generator generators.now) (condition_of asked.entry) (key_of asked.entry)
+        (state_seen s.old (O.told out.old))) }
     ensures rows { IfOk result (λ scan. AreRows scan.candidates scan.candidates.width) }
 {
     let frame = s.copied_frame()?;
@@ -136,7 +148,10 @@ fn execute_chosen<O: Outside, W: Within<O>>(
     body: &Task,
 ) -> Result<Flow, Stop>
     requires ready { W.is_ready inside.now }
-    ensures did { Does flow_seen result (state_seen s.new (O.told out.new)) (selection.with_chosen (level (W.code inside.now) (W.depth inside.now)) (map shape_of_generator generators.now) (work_of body.now) (option_map (λ v. v.items) chosen) (state_seen s.old (O.told out.old))) }
+    ensures did { Does flow_seen result (state_seen s.new (O.told out.new))
+        (selection.with_chosen (level (W.code inside.now) (W.depth inside.now))
+        (map shape_of_generator generators.now) (work_of body.now)
+        (option_map (λ v. v.items) chosen) (state_seen s.old (O.told out.old))) }
 {
     match chosen {
         None => Ok(Flow::Next),

@@ -24,7 +24,10 @@ pub fn execute_whenever<O: Outside, W: Within<O>>(
     body: &Later,
 ) -> Result<Flow, Stop>
     requires ready { W.is_ready inside.now }
-    ensures did { Does flow_seen result (state_seen s.new (O.told out.new)) (events.whenever_form (level (W.code inside.now) (W.depth inside.now)) (seen variable.now) names (work_of body.now.value.value) (state_seen s.old (O.told out.old))) }
+    ensures did { Does flow_seen result (state_seen s.new (O.told out.new))
+        (events.whenever_form (level (W.code inside.now) (W.depth inside.now))
+        (seen variable.now) names (work_of body.now.value.value)
+        (state_seen s.old (O.told out.old))) }
 {
     let variable = inside.evaluate(s, out, variable)?;
     s.attach(&variable, names, body)?;

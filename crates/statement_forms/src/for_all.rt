@@ -27,7 +27,10 @@ pub(crate) fn execute_for_all<O: Outside, W: Within<O>>(
     body: &Task,
 ) -> Result<Flow, Stop>
     requires ready { W.is_ready inside.now }
-    ensures did { Does flow_seen result (state_seen s.new (O.told out.new)) (for_all_form (level (W.code inside.now) (W.depth inside.now)) at (map shape_of_generator generators.now) (option_map seen condition.now) (work_of body.now) (state_seen s.old (O.told out.old))) }
+    ensures did { Does flow_seen result (state_seen s.new (O.told out.new))
+        (for_all_form (level (W.code inside.now) (W.depth inside.now)) at
+        (map shape_of_generator generators.now) (option_map seen condition.now) (work_of body.now)
+        (state_seen s.old (O.told out.old))) }
 {
     match generators.first() {
         None => Ok(Flow::Next),
@@ -48,7 +51,10 @@ fn visit_all<O: Outside, W: Within<O>>(
 ) -> Result<Flow, Stop>
     requires ready { W.is_ready inside.now }
     requires known { Some first.now ≡ slice_get generators.now 0 }
-    ensures did { Does flow_seen result (state_seen s.new (O.told out.new)) (for_all_form (level (W.code inside.now) (W.depth inside.now)) at (map shape_of_generator generators.now) (option_map seen condition.now) (work_of body.now) (state_seen s.old (O.told out.old))) }
+    ensures did { Does flow_seen result (state_seen s.new (O.told out.new))
+        (for_all_form (level (W.code inside.now) (W.depth inside.now)) at
+        (map shape_of_generator generators.now) (option_map seen condition.now) (work_of body.now)
+        (state_seen s.old (O.told out.old))) }
 {
     let domain = value_of(s, out, inside, &first.domain)?;
     let mut tuples = Tuples {
@@ -80,7 +86,11 @@ fn visit<O: Outside, W: Within<O>>(
     body: &Task,
 ) -> Result<Flow, Stop>
     requires ready { W.is_ready inside.now }
-    ensures did { (value : ℤ) (flow : levels.Flow) → Does flow_seen result (state_seen s.new (O.told out.new)) (visited (level (W.code inside.now) (W.depth inside.now)) (optional whole (option_map seen test.now)) (work_of body.now) value flow (state_seen s.old (O.told out.old))) }
+    ensures did { (value : ℤ) (flow : levels.Flow) →
+        Does flow_seen result (state_seen s.new (O.told out.new))
+        (visited (level (W.code inside.now) (W.depth inside.now))
+        (optional whole (option_map seen test.now)) (work_of body.now) value flow
+        (state_seen s.old (O.told out.old))) }
 {
     let holds = condition(s, out, inside, test.as_ref())?;
     if holds {

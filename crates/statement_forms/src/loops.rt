@@ -54,7 +54,11 @@ pub(crate) fn execute_for<O: Outside, W: Around<O>>(
     requires ready { W.is_ready inside.now }
     requires defines { W.can_define inside.now }
     requires locates { W.can_locate inside.now }
-    ensures did { Does flow_seen result (state_seen s.new (O.told out.new)) (for_form (level (W.code inside.now) (W.depth inside.now)) at (option_map counter_of counter.now) (option_map seen test.now) (step_of (level (W.code inside.now) (W.depth inside.now)) at (option_map deed_of step.now)) (work_of body.now) (state_seen s.old (O.told out.old))) }
+    ensures did { Does flow_seen result (state_seen s.new (O.told out.new))
+        (for_form (level (W.code inside.now) (W.depth inside.now)) at
+        (option_map counter_of counter.now) (option_map seen test.now)
+        (step_of (level (W.code inside.now) (W.depth inside.now)) at (option_map deed_of step.now))
+        (work_of body.now) (state_seen s.old (O.told out.old))) }
 {
     start_counter(s, out, inside, counter)?;
     repeat(s, out, inside, at, test.as_ref(), step.as_ref(), body)
@@ -95,7 +99,12 @@ fn repeat<O: Outside, W: Around<O>>(
     requires ready { W.is_ready inside.now }
     requires defines { W.can_define inside.now }
     requires locates { W.can_locate inside.now }
-    ensures did { Does flow_seen result (state_seen s.new (O.told out.new)) (repeated at (turn_form (level (W.code inside.now) (W.depth inside.now)) at (optional (λ e. part e.now) test.entry) (step_of (level (W.code inside.now) (W.depth inside.now)) at (option_map deed_of (option_copied step.entry))) (work_of body.now)) (state_seen s.old (O.told out.old))) }
+    ensures did { Does flow_seen result (state_seen s.new (O.told out.new))
+        (repeated at (turn_form (level (W.code inside.now) (W.depth inside.now)) at
+        (optional (λ e. part e.now) test.entry)
+        (step_of (level (W.code inside.now) (W.depth inside.now)) at
+        (option_map deed_of (option_copied step.entry))) (work_of body.now))
+        (state_seen s.old (O.told out.old))) }
 {
     'turns: loop {
         let end = turn(s, out, inside, at, test, step, body)?;
@@ -120,7 +129,12 @@ fn turn<O: Outside, W: Around<O>>(
     requires ready { W.is_ready inside.now }
     requires defines { W.can_define inside.now }
     requires locates { W.can_locate inside.now }
-    ensures did { Does (option_map flow_seen) result (state_seen s.new (O.told out.new)) (turn_form (level (W.code inside.now) (W.depth inside.now)) at (optional (λ e. part e.now) test.entry) (step_of (level (W.code inside.now) (W.depth inside.now)) at (option_map deed_of (option_copied step.entry))) (work_of body.now) (state_seen s.old (O.told out.old))) }
+    ensures did { Does (option_map flow_seen) result (state_seen s.new (O.told out.new))
+        (turn_form (level (W.code inside.now) (W.depth inside.now)) at
+        (optional (λ e. part e.now) test.entry)
+        (step_of (level (W.code inside.now) (W.depth inside.now)) at
+        (option_map deed_of (option_copied step.entry))) (work_of body.now)
+        (state_seen s.old (O.told out.old))) }
 {
     s.charge(1, at)?;
     let test = condition(s, out, inside, test)?;
@@ -144,7 +158,10 @@ fn end_turn<O: Outside, W: Around<O>>(
     requires ready { W.is_ready inside.now }
     requires defines { W.can_define inside.now }
     requires locates { W.can_locate inside.now }
-    ensures did { Does (option_map flow_seen) result (state_seen s.new (O.told out.new)) (meaning.behind_body (step_of (level (W.code inside.now) (W.depth inside.now)) at (option_map deed_of (option_copied step.entry))) (flow_seen flow) (state_seen s.old (O.told out.old))) }
+    ensures did { Does (option_map flow_seen) result (state_seen s.new (O.told out.new))
+        (meaning.behind_body (step_of (level (W.code inside.now) (W.depth inside.now)) at
+        (option_map deed_of (option_copied step.entry))) (flow_seen flow)
+        (state_seen s.old (O.told out.old))) }
 {
     match flow {
         Flow::Next => {

@@ -48,7 +48,10 @@ fn execute_inside<O: Outside, W: Within<O>>(
     body: &Task,
 ) -> Result<Flow, Stop>
     requires ready { W.is_ready inside.now }
-    ensures did { Does flow_seen result (state_seen s.new (O.told out.new)) (block (level (W.code inside.now) (W.depth inside.now)) at (solver_of (value_seen solver.now)) (work_of body.now) outermost (state_seen s.old (O.told out.old))) }
+    ensures did { Does flow_seen result (state_seen s.new (O.told out.new))
+        (block (level (W.code inside.now) (W.depth inside.now)) at
+        (solver_of (value_seen solver.now)) (work_of body.now) outermost
+        (state_seen s.old (O.told out.old))) }
 {
     let flow = inside.execute(s, out, body);
     if outermost {

@@ -85,7 +85,10 @@ fn assign_name<O: Outside, W: Within<O>>(
     value: &Typed,
 ) -> Result<(), Stop>
     requires ready { W.is_ready inside.now }
-    ensures did { Does (λ _. tt) result (state_seen s.new (O.told out.new)) (then_do (parts.value (level (W.code inside.now) (W.depth inside.now)) (part value.now) (state_seen s.old (O.told out.old))) (λ v. write at (levels.Name slot) (as_kind kinds.Int v))) }
+    ensures did { Does (λ _. tt) result (state_seen s.new (O.told out.new))
+        (then_do (parts.value (level (W.code inside.now) (W.depth inside.now)) (part value.now)
+        (state_seen s.old (O.told out.old))) (λ v.
+        write at (levels.Name slot) (as_kind kinds.Int v))) }
 {
     match number_itself(s, inside.room(), value) {
         Some(number) => s.put(slot, Value::Number(number)),
@@ -103,7 +106,10 @@ fn assign_called<O: Outside, W: Within<O>>(
     value: &Typed,
 ) -> Result<(), Stop>
     requires ready { W.is_ready inside.now }
-    ensures did { Does (λ _. tt) result (state_seen s.new (O.told out.new)) (then_do (parts.value (level (W.code inside.now) (W.depth inside.now)) (part value.now) (state_seen s.old (O.told out.old))) (λ v. write at (levels.Name slot) (as_kind kinds.Int v))) }
+    ensures did { Does (λ _. tt) result (state_seen s.new (O.told out.new))
+        (then_do (parts.value (level (W.code inside.now) (W.depth inside.now)) (part value.now)
+        (state_seen s.old (O.told out.old))) (λ v.
+        write at (levels.Name slot) (as_kind kinds.Int v))) }
 {
     match inside.called_number(s, value) {
         Some(number) => s.put(slot, Value::Number(number)),

@@ -78,7 +78,10 @@ pub fn parts_of<N: NodeRule, E: LayerEval<N>>(
 ) -> Result<Parts<N>, StoreFault>
     requires linked { AreLinked (map N.rule nodes.items)
         (length start.now) links.inputs.items layers.now }
-    requires takes { (o : ℕ → Outcome) → IsMeaning (graph_over (map N.rule nodes.items) (length start.now) links.inputs.items) (start_of start.now) o → Takes (map N.rule nodes.items) (length start.now) links.inputs.items o }
+    requires takes { (o : ℕ → Outcome) →
+        IsMeaning (graph_over (map N.rule nodes.items) (length start.now) links.inputs.items)
+        (start_of start.now) o → Takes (map N.rule nodes.items)
+        (length start.now) links.inputs.items o }
     ensures ready { IfOk result (λ p. All N.ready p.nodes.items) }
     ensures rules { IfOk result (λ p. map N.rule p.nodes.items ≡ map N.rule nodes.items) }
     ensures first { IfOk result (λ p. p.frame.first ≡ length start.now) }

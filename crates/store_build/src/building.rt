@@ -88,7 +88,10 @@ fn build_layer<N: NodeRule, E: LayerEval<N>>(
     ghost aim: { Aim }
     requires aim { IsAim aim frame.now start.now }
     requires places { HasPlaces aim frame.now building.old }
-    requires items { All (λ i. IsItem N.rule aim.rules frame.now.first i × (i.id < length frame.now.inputs.items) × Each (HasCome aim.outcome building.old.outcomes.items) (inputs_in frame.now i.id)) group.items }
+    requires items { All (λ i. IsItem N.rule aim.rules frame.now.first i ×
+        (i.id < length frame.now.inputs.items) ×
+        Each (HasCome aim.outcome building.old.outcomes.items)
+        (inputs_in frame.now i.id)) group.items }
     ensures places { OnOk result (HasPlaces aim frame.now building.new) }
     ensures kept { OnOk result ((k : ℕ) →
         IsFinished N.rule N.held N.ready aim frame.now building.old k →

@@ -35,7 +35,10 @@ pub fn aggregate_term<O: Outside, W: Defining<O>>(
 ) -> Result<InTerm, Stop>
     requires ready { W.is_ready inside.now }
     requires defines { W.can_define inside.now }
-    ensures did { Does in_term_seen result (state_seen s.new (O.told out.new)) (forms.aggregate_term (level (W.code inside.now) (W.depth inside.now)) at aggregate (generators_seen generators.now) (part_or_none condition.now) (part body.now) (state_seen s.old (O.told out.old))) }
+    ensures did { Does in_term_seen result (state_seen s.new (O.told out.new))
+        (forms.aggregate_term (level (W.code inside.now) (W.depth inside.now)) at aggregate
+        (generators_seen generators.now) (part_or_none condition.now) (part body.now)
+        (state_seen s.old (O.told out.old))) }
 {
     let frame = s.copied_frame()?;
     let bodies = bodies_of(s, out, inside, at, aggregate, generators, condition, body)?;
@@ -56,7 +59,12 @@ pub fn bodies_of<O: Outside, W: Defining<O>>(
 ) -> Result<Vec<Body>, Stop>
     requires ready { W.is_ready inside.now }
     requires defines { W.can_define inside.now }
-    ensures did { Does (λ bodies. map body_seen bodies.items) result (state_seen s.new (O.told out.new)) (each_tuple (level (W.code inside.now) (W.depth inside.now)) at always (forms.keyed_form (level (W.code inside.now) (W.depth inside.now)) at aggregate (part_or_none condition.now) (part body.now)) [] (generators_seen generators.now) [] (state_seen s.old (O.told out.old))) }
+    ensures did { Does (λ bodies. map body_seen bodies.items) result
+        (state_seen s.new (O.told out.new))
+        (each_tuple (level (W.code inside.now) (W.depth inside.now)) at always
+        (forms.keyed_form (level (W.code inside.now) (W.depth inside.now)) at aggregate
+        (part_or_none condition.now) (part body.now)) [] (generators_seen generators.now) []
+        (state_seen s.old (O.told out.old))) }
 {
     let mut bodies = Vec::new(s.alloc);
     if generators.len() == 0 {
@@ -99,7 +107,11 @@ fn add_body<O: Outside, W: Defining<O>>(
 ) -> Result<(), Stop>
     requires ready { W.is_ready inside.now }
     requires defines { W.can_define inside.now }
-    ensures did { Does (λ _. map body_seen bodies.new.items) result (state_seen s.new (O.told out.new)) (forms.keyed_form (level (W.code inside.now) (W.depth inside.now)) at aggregate (part_or_none condition.now) (part body.now) key (map body_seen bodies.old.items) (state_seen s.old (O.told out.old))) }
+    ensures did { Does (λ _. map body_seen bodies.new.items) result
+        (state_seen s.new (O.told out.new))
+        (forms.keyed_form (level (W.code inside.now) (W.depth inside.now)) at aggregate
+        (part_or_none condition.now) (part body.now) key (map body_seen bodies.old.items)
+        (state_seen s.old (O.told out.old))) }
 {
     if !passes(s, out, inside, condition)? {
         return Ok(());

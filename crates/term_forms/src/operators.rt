@@ -132,7 +132,10 @@ fn linked_term<O: Outside, W: Defining<O>>(
     so_far: Built,
 ) -> Result<Built, Stop>
     requires defines { W.can_define inside.now }
-    ensures did { Does (λ t. t) result (state_seen s.new (O.told out.new)) (forms.linked_term (level (W.code inside.now) (W.depth inside.now)) link.now.place link.now.operator (part link.now.operand) so_far (state_seen s.old (O.told out.old))) }
+    ensures did { Does (λ t. t) result (state_seen s.new (O.told out.new))
+        (forms.linked_term (level (W.code inside.now)
+        (W.depth inside.now)) link.now.place link.now.operator (part link.now.operand) so_far
+        (state_seen s.old (O.told out.old))) }
 {
     let operand = single_term(s, out, inside, &link.operand);
     join_with(s.alloc, link.place, link.operator, so_far, operand)

@@ -158,7 +158,10 @@ fn are_all_counted(counts: &[usize], totals: &[Total]) -> bool
 /// Whether the members on a side were posted, those of each system or objective once and in order, and no others.
 #[tactic(auto, using(crate::proofs::UsableLaws::counts_none, crate::proofs::UsableLaws::counted_all))]
 fn are_posted_in_order(alloc: Global, model: &Model, side: Side) -> Result<bool, NoMemory>
-    ensures posted { IfOk result (λ is. OnTrue is ((k : ℕ) (total : Total) → slice_get (totals_by model.now side) k ≡ Some total → filter_map (number_by side k) model.now.posted.items ≡ range_with_len 0 (length total.members.items))) }
+    ensures posted { IfOk result (λ is. OnTrue is ((k : ℕ) (total : Total) →
+        slice_get (totals_by model.now side) k ≡ Some total →
+        filter_map (number_by side k) model.now.posted.items ≡
+        range_with_len 0 (length total.members.items))) }
     ensures there { IfOk result (λ is.
         OnTrue is (All (IsThere side (length (totals_by model.now side))) model.now.posted.items)) }
 {

@@ -151,7 +151,10 @@ fn violations_where<U: UserValues>(
         (U.viol_at users.now)) op.now).takes (kinds_of inputs.now)) }
     requires valued { IsOk ((rule_of (user_rules (U.viol_of users.now)
         (U.viol_at users.now)) op.now).value inputs.now) }
-    ensures { IfOk result (λ v. v.items ≡ violations_where depends.now ((rule_of (user_rules (U.viol_of users.now) (U.viol_at users.now)) op.now).violation_at inputs.now) (length inputs.now)) }
+    ensures { IfOk result (λ v. v.items ≡
+        violations_where depends.now ((rule_of
+        (user_rules (U.viol_of users.now) (U.viol_at users.now)) op.now).violation_at inputs.now)
+        (length inputs.now)) }
 {
     let mut found = Vec::new(alloc);
     for place in 0..inputs.len() {

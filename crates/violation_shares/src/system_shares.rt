@@ -43,7 +43,10 @@ fn weigh_posted<U: UserValues>(
     requires kinds { HasKinds (kinds_in setting.now.model.now.vars.items)
         (env_of setting.now.cells.now) }
     requires weighed { HasWeightsOf (listed_violations weighed.violations) weighed.weights.items }
-    ensures parts { IfOk result (λ w. seen_weighed w ≡ weigh_posted (user_rules (U.viol_of setting.now.users.now) (U.viol_at setting.now.users.now)) (env_of setting.now.cells.now) (marked marks.now) setting.now.model.now system (seen_weighed weighed) posted) }
+    ensures parts { IfOk result (λ w. seen_weighed w ≡
+        weigh_posted (user_rules (U.viol_of setting.now.users.now)
+        (U.viol_at setting.now.users.now)) (env_of setting.now.cells.now)
+        (marked marks.now) setting.now.model.now system (seen_weighed weighed) posted) }
     ensures weighed { IfOk result (λ w.
         HasWeightsOf (listed_violations w.violations) w.weights.items) }
 {
@@ -107,7 +110,10 @@ fn violation_in_system<U: UserValues>(
     requires well_formed { IsWellFormed setting.now.model.now }
     requires kinds { HasKinds (kinds_in setting.now.model.now.vars.items)
         (env_of setting.now.cells.now) }
-    ensures { IfOk result (λ v. v ≡ violation_in_system (user_rules (U.viol_of setting.now.users.now) (U.viol_at setting.now.users.now)) setting.now.model.now (env_of setting.now.cells.now) (marked marks.now) system) }
+    ensures { IfOk result (λ v. v ≡ violation_in_system
+        (user_rules (U.viol_of setting.now.users.now)
+        (U.viol_at setting.now.users.now)) setting.now.model.now (env_of setting.now.cells.now)
+        (marked marks.now) system) }
 {
     let WeighedHeld {
         violations,
