@@ -1,7 +1,9 @@
 //! All values are to differ.
-ghost use Rattle.std.specs.Prelude.{◌≡◌, ◌+◌, ◌≤◌, ◌<◌, ◌^◌, min};
+ghost use Rattle.std.specs.Prelude.{◌≡◌, ◌+◌, ◌≤◌, ◌<◌, ◌^◌, min, length, Ok};
 ghost use Rattle.cbl_base.specs.NumberRule.{rule_of_numbers};
-ghost use Rattle.cbl_violations.specs.Violations.AllDifferent.{all_different};
+ghost use Rattle.cbl_violations.specs.Violations.AllDifferent.{all_different, all_different_violations};
+ghost use Rattle.node_base.specs.NumberChanges.{AreNumberChanges, IsNumberAnswer, IsNumberChange, after_number_change, after_number_changes};
+ghost use Rattle.diff_global.specs.Repeats.{repeats};
 
 use cbl_base::{NoMemory, NodeFault, RunFault};
 use node_base::{Elsewhere, NumberChange, NumberNode, Overlay, Tally};
@@ -56,14 +58,13 @@ impl NumberNode for AllDifferent {
         Ok(())
     }
 
+    // One change takes no counts of its own.
     fn probe(&self, changes: &[NumberChange]) -> Result<i64, NodeFault> {
-        let mut overlay = Overlay::new(self.alloc);
-        let mut repeats = self.repeats;
-        for change in changes {
-            let elsewhere = overlay.set(&self.tally, *change)?;
-            repeats = repeats_after(repeats, elsewhere);
+        if changes.len() == 1 {
+            Ok(probe_one(&self.tally, self.repeats, changes[0]))
+        } else {
+            probe_each(self.alloc, &self.tally, self.repeats, changes)
         }
-        Ok(repeats as i64)
     }
 
     fn value(&self) -> Result<i64, RunFault> {
@@ -74,6 +75,38 @@ impl NumberNode for AllDifferent {
         let is_repeated = self.tally.times(self.tally.at(place)) >= 2;
         if is_repeated { 1 } else { 0 }
     }
+}
+
+/// The violations of the numbers as a change would make them, of which so many are repeats now.
+fn probe_one(tally: &Tally, count: usize, change: NumberChange) -> i64
+    requires change { IsNumberChange tally.now change }
+    requires count { count ≡ repeats tally.now }
+    requires few { length tally.now < 2 ^ 62 }
+    ensures { all_different_violations (after_number_change tally.now change) ≡ Ok result }
+{
+    repeats_after(count, tally.elsewhere(change)) as i64
+}
+
+/// The violations of the numbers as these changes would make them, of which so many are repeats now.
+fn probe_each(
+    alloc: Global,
+    tally: &Tally,
+    count: usize,
+    changes: &[NumberChange],
+) -> Result<i64, NodeFault>
+    requires changes { AreNumberChanges tally.now changes.now }
+    requires count { count ≡ repeats tally.now }
+    requires few { length tally.now < 2 ^ 62 }
+    ensures { IsNumberAnswer
+        (all_different_violations (after_number_changes tally.now changes.now)) result }
+{
+    let mut overlay = Overlay::new(alloc);
+    let mut repeats = count;
+    for change in changes {
+        let elsewhere = overlay.set(tally, *change)?;
+        repeats = repeats_after(repeats, elsewhere);
+    }
+    Ok(repeats as i64)
 }
 
 /// The repeats after a change: the old number's goes where it still stands elsewhere, and the new

@@ -1,5 +1,6 @@
 //! A list of numbers that knows how often each stands in it.
-ghost use Rattle.std.specs.Prelude.{◌≡◌, ◌<◌, ◌^◌, [], ◌∷◌, ◌++◌, length, IfOk, OnOk, OnErr, slice_index_or};
+ghost use Rattle.std.specs.Prelude.{◌≡◌, ◌<◌, ◌^◌, [], ◌∷◌, ◌++◌, length, if◌then◌else◌, IfOk, OnOk, OnErr, slice_index_or};
+ghost use Rattle.std.specs.Ordering.{int_eq};
 ghost use Rattle.cbl_base.specs.Counts.{count_of};
 ghost use Rattle.node_base.specs.NumberChanges.{IsNumberChange, after_number_change};
 ghost use Rattle.node_base.specs.Counting.{IsElsewhere};
@@ -110,6 +111,16 @@ impl Tally {
         }
     }
 
+    /// How often the old and the new number of a change of what stands there stand at the other places.
+    pub fn elsewhere(&self, change: NumberChange) -> Elsewhere
+        requires { IsNumberChange self.now change }
+        ensures { IsElsewhere self.now change result }
+    {
+        let old = self.times(change.old) - 1;
+        let new = self.times(change.new) - one_if_same(change.old, change.new);
+        Elsewhere { old, new }
+    }
+
     /// Makes a change of what stands there. It answers how often the old and the new number stand at
     /// the other places. With `NoMemory` the list stays.
     pub fn set(&mut self, change: NumberChange) -> Result<Elsewhere, NoMemory>
@@ -125,4 +136,11 @@ impl Tally {
         self.numbers[change.place] = change.new;
         Ok(Elsewhere { old, new })
     }
+}
+
+/// 1 where two numbers are the same.
+fn one_if_same(number: i64, other: i64) -> usize
+    ensures { result ≡ (if int_eq number other then 1 else 0) }
+{
+    if number == other { 1 } else { 0 }
 }

@@ -5,11 +5,11 @@ use Rattle.node_base.specs.NumberChanges.{after_number_changes}
 use Rattle.node_base.proofs.ChangeLemmas.{no_change, number_now, number_next, length-after_numbers}
 use Rattle.node_base.proofs.TallyLemmas.{shown_stands, shown_room}
 use Rattle.diff_global.proofs.RepeatLemmas.{old_repeats, repeats_change, violations_fit, violations_as}
-use Rattle.diff_global.proofs.all_different.AllDifferentNumberNode.probe.Goals as goal
+use Rattle.diff_global.proofs.all_different.probe_each.Goals as goal
 
 pub set-requires-clause-stands : goal.set-requires-clause-stands
 set-requires-clause-stands c =
-    let xs = c.args.self.now.tally in
+    let xs = c.args.tally.now in
     let cs = c.args.changes.now in
     let i = c.loop-change.change-index in
     let here = number_now xs cs i no_change c.requires.changes c.loop-change-test.true in
@@ -17,15 +17,15 @@ set-requires-clause-stands c =
 
 pub set-requires-clause-room : goal.set-requires-clause-room
 set-requires-clause-room c =
-    let xs = c.args.self.now.tally in
+    let xs = c.args.tally.now in
     let cs = c.args.changes.now in
     let i = c.loop-change.change-index in
     let long = length-after_numbers xs (take i cs) in
-    shown_room xs c.loop-change.overlay (after_number_changes xs (take i cs)) (get_or cs i no_change).new c.loop-change.invariant.shown (omega (arith, long, c.requires.settled.1))
+    shown_room xs c.loop-change.overlay (after_number_changes xs (take i cs)) (get_or cs i no_change).new c.loop-change.invariant.shown (omega (arith, long, c.requires.few))
 
 pub repeats_after-repeats-requires-clause-old : goal.repeats_after-repeats-requires-clause-old
 repeats_after-repeats-requires-clause-old c =
-    let xs = c.args.self.now.tally in
+    let xs = c.args.tally.now in
     let cs = c.args.changes.now in
     let i = c.loop-change.change-index in
     let here = number_now xs cs i no_change c.requires.changes c.loop-change-test.true in
@@ -35,12 +35,12 @@ repeats_after-repeats-requires-clause-old c =
 
 pub repeats_after-repeats-requires-clause-room : goal.repeats_after-repeats-requires-clause-room
 repeats_after-repeats-requires-clause-room c =
-    let long = length-after_numbers c.args.self.now.tally (take c.loop-change.change-index c.args.changes.now) in
-    violations_fit (after_number_changes c.args.self.now.tally (take c.loop-change.change-index c.args.changes.now)) c.loop-change.repeats c.loop-change.invariant.repeats (omega (arith, long, c.requires.settled.1))
+    let long = length-after_numbers c.args.tally.now (take c.loop-change.change-index c.args.changes.now) in
+    violations_fit (after_number_changes c.args.tally.now (take c.loop-change.change-index c.args.changes.now)) c.loop-change.repeats c.loop-change.invariant.repeats (omega (arith, long, c.requires.few))
 
 pub loop-change-preserved : goal.loop-change-preserved
 loop-change-preserved c =
-    let xs = c.args.self.now.tally in
+    let xs = c.args.tally.now in
     let cs = c.args.changes.now in
     let i = c.loop-change.change-index in
     let here = number_now xs cs i no_change c.requires.changes c.loop-change-test.true in
@@ -51,14 +51,14 @@ loop-change-preserved c =
 
 pub overflow_cast-result : goal.overflow_cast-result
 overflow_cast-result c =
-    let xs = after_number_changes c.args.self.now.tally (take c.loop-change.change-index c.args.changes.now) in
-    let long = length-after_numbers c.args.self.now.tally (take c.loop-change.change-index c.args.changes.now) in
-    record { sfits = violations_fit xs c.loop-change.repeats c.loop-change.invariant.repeats (omega (arith, long, c.requires.settled.1)) }
+    let xs = after_number_changes c.args.tally.now (take c.loop-change.change-index c.args.changes.now) in
+    let long = length-after_numbers c.args.tally.now (take c.loop-change.change-index c.args.changes.now) in
+    record { sfits = violations_fit xs c.loop-change.repeats c.loop-change.invariant.repeats (omega (arith, long, c.requires.few)) }
 
 pub returns : goal.returns
 returns c =
-    let xs = after_number_changes c.args.self.now.tally (take c.loop-change.change-index c.args.changes.now) in
-    let long = length-after_numbers c.args.self.now.tally (take c.loop-change.change-index c.args.changes.now) in
+    let xs = after_number_changes c.args.tally.now (take c.loop-change.change-index c.args.changes.now) in
+    let long = length-after_numbers c.args.tally.now (take c.loop-change.change-index c.args.changes.now) in
     let all = take_all c.loop-change.change-index c.args.changes.now c.loop-change-test.false in
-    ap (λ cs. all_different_violations (after_number_changes c.args.self.now.tally cs)) (sym all)
-    ∙ sym (violations_as xs c.loop-change.repeats c.loop-change.invariant.repeats (omega (arith, long, c.requires.settled.1)))
+    ap (λ cs. all_different_violations (after_number_changes c.args.tally.now cs)) (sym all)
+    ∙ sym (violations_as xs c.loop-change.repeats c.loop-change.invariant.repeats (omega (arith, long, c.requires.few)))
