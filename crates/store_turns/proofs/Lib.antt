@@ -5,6 +5,7 @@ pub mod Fitting
 pub mod NextTurn
 pub mod Reaching
 pub mod SetChanges
+pub mod ShortLists
 pub mod Told
 pub mod TurnOrder
 pub mod Unique

@@ -1,10 +1,12 @@
 //! The nodes that wait for their turn.
-ghost use Rattle.std.specs.Prelude.{◌≡◌, ℕ, ◌+◌, ◌<◌, ◌≤◌, ◌⊎◌, None, Some, IsSome, OnOk, IfOk, MatchOption};
+ghost use Rattle.std.specs.Prelude.{◌≡◌, ℕ, ◌+◌, ◌<◌, ◌≤◌, ◌⊎◌, false, cond, fold, None, Some, IsSome, OnOk, IfOk, MatchOption};
 ghost use Rattle.std.specs.Option.{option_map};
-ghost use Rattle.store_turns.specs.Waits.{waits, changes_of, and_change, SameElsewhere};
+ghost use Rattle.std.specs.BTreeMap.{get, is_at};
+ghost use Rattle.store_turns.specs.Waits.{waits, changes_of, and_change, turn_cmp, look, lesser, lesser_of, first_in, IsPlace, NotAfter, SameElsewhere};
 
 use cbl_base::{Change, NoMemory, Steps};
 use std::alloc::Global;
+use std::cmp::Ordering;
 use std::collections::BTreeMap;
 use std::sync::ledger::Ledger;
 
@@ -22,10 +24,15 @@ pub enum Pending {
     Below,
 }
 
-/// The nodes that wait, by layer and then by id. Each call of its map is a step.
+/// How many nodes at most wait in the short list.
+const FEW: usize = 16;
+
+/// The nodes that wait, by layer and then by id. Each call of them is a step. The first few stand in a short
+/// list, in no order, and those for which it has no room in a map.
 #[derive(Drop)]
 pub struct Waiting {
-    map: BTreeMap<Turn, Pending>,
+    near: Vec<(Turn, Pending)>,
+    far: BTreeMap<Turn, Pending>,
     alloc: Global,
 }
 
@@ -35,7 +42,8 @@ impl Waiting {
         ensures { (l i : ℕ) → waits result l i ≡ None }
     {
         Waiting {
-            map: BTreeMap::new(alloc),
+            near: Vec::new(alloc),
+            far: BTreeMap::new(alloc),
             alloc,
         }
     }
@@ -57,10 +65,10 @@ impl Waiting {
         ensures steps { steps.new ≡ steps.old + 2 }
     {
         steps.tick();
-        let before = self.map.remove(&turn);
+        let before = self.take(turn);
         steps.tick();
         let after = with_change(self.alloc, before, change)?;
-        self.map.insert(turn, after)?;
+        self.put(turn, after)?;
         Ok(())
     }
 
@@ -71,7 +79,8 @@ impl Waiting {
         ensures steps { steps.new ≡ steps.old + 1 }
     {
         steps.tick();
-        self.map.insert(turn, Pending::Below)?;
+        self.take(turn);
+        self.put(turn, Pending::Below)?;
         Ok(())
     }
 
@@ -85,8 +94,125 @@ impl Waiting {
         ensures steps { steps.new ≡ steps.old + 1 }
     {
         steps.tick();
-        self.map.pop_first()
+        match self.first() {
+            None => None,
+            Some(turn) => match self.take(turn) {
+                None => None,
+                Some(pending) => Some((turn, pending)),
+            },
+        }
     }
+
+    /// The first that waits.
+    fn first(&self) -> Option<Turn>
+        ensures none { MatchOption result ((l i : ℕ) → waits self.now l i ≡ None) (λ t. IsSome (waits self.now t.layer t.id)) }
+        ensures least { MatchOption result (Unit {0}) (λ t. (l i : ℕ) → IsSome (waits self.now l i) → (t.layer < l) ⊎ ((t.layer ≡ l) × (t.id ≤ i))) }
+    {
+        first_in(first_far(&self.far), &self.near)
+    }
+
+    /// What waits for the node, which waits no more.
+    fn take(&mut self, turn: Turn) -> Option<Pending>
+        ensures before { option_map changes_of result ≡ waits self.old turn.layer turn.id }
+        ensures here { waits self.new turn.layer turn.id ≡ None }
+        ensures elsewhere { SameElsewhere (waits self.new) (waits self.old) turn.layer turn.id }
+        ensures alloc { self.new.alloc ≡ self.old.alloc }
+    {
+        let far = self.far.remove(&turn);
+        match place_of(&self.near, turn) {
+            None => far,
+            Some(place) => {
+                let (_, pending) = self.near.remove(place);
+                forget(&mut self.near, turn);
+                Some(pending)
+            }
+        }
+    }
+
+    /// This waits for the node, for which nothing waited.
+    fn put(&mut self, turn: Turn, pending: Pending) -> Result<(), NoMemory>
+        requires { waits self.old turn.layer turn.id ≡ None }
+        ensures here { OnOk result (waits self.new turn.layer turn.id ≡ Some (changes_of pending)) }
+        ensures elsewhere { OnOk result (SameElsewhere (waits self.new) (waits self.old) turn.layer turn.id) }
+    {
+        if self.near.len() < FEW {
+            self.near.push((turn, pending))?;
+        } else {
+            self.far.insert(turn, pending)?;
+        }
+        Ok(())
+    }
+}
+
+/// The place of a node in a list.
+fn place_of(near: &[(Turn, Pending)], turn: Turn) -> Option<usize>
+    ensures { MatchOption result (look turn near.now ≡ None) (IsPlace turn near.now) }
+{
+    for (place, entry) in near.iter().enumerate() {
+        if is_same(turn, entry.0) {
+            return Some(place);
+        }
+    }
+    None
+}
+
+/// A node waits no more in a list.
+fn forget(near: &mut Vec<(Turn, Pending)>, turn: Turn)
+    ensures here { look turn near.new.items ≡ None }
+    ensures elsewhere { (u : Turn) → is_at (turn_cmp u) turn ≡ false → look u near.new.items ≡ look u near.old.items }
+{
+    while let Some(place) = place_of(near, turn) {
+        near.remove(place);
+    }
+}
+
+/// The first in a map.
+fn first_far(far: &BTreeMap<Turn, Pending>) -> Option<Turn>
+    ensures none { MatchOption result ((u : Turn) → get turn_cmp far.now u ≡ None) (λ t. IsSome (get turn_cmp far.now t)) }
+    ensures least { MatchOption result (Unit {0}) (λ t. (u : Turn) → IsSome (get turn_cmp far.now u) → NotAfter t u) }
+{
+    match far.first_key_value() {
+        None => None,
+        Some((turn, _)) => Some(*turn),
+    }
+}
+
+/// The first of these and of an earlier one.
+fn first_in(earlier: Option<Turn>, near: &[(Turn, Pending)]) -> Option<Turn>
+    ensures { result ≡ first_in earlier near.now }
+{
+    let mut first = earlier;
+    for entry in near {
+        first = Some(lesser_of(first, entry.0));
+    }
+    first
+}
+
+/// The lesser of two turns, of which one may not be there.
+fn lesser_of(turn: Option<Turn>, other: Turn) -> Turn
+    ensures { result ≡ lesser_of turn other }
+{
+    match turn {
+        None => other,
+        Some(turn) => lesser(turn, other),
+    }
+}
+
+/// The lesser of two turns.
+fn lesser(turn: Turn, other: Turn) -> Turn
+    ensures { result ≡ lesser turn other }
+{
+    match turn.cmp(&other) {
+        Ordering::Greater => other,
+        _ => turn,
+    }
+}
+
+/// Whether two turns are the same.
+fn is_same(turn: Turn, other: Turn) -> bool
+    ensures { result ≡ is_at (turn_cmp turn) other }
+{
+    matches!(turn.cmp(&other), Ordering::Equal)
 }
 
 /// What waits, with one more change.
