@@ -1,5 +1,5 @@
 //! The nodes that wait for their turn.
-ghost use Rattle.std.specs.Prelude.{◌≡◌, ℕ, ◌+◌, ◌<◌, ◌≤◌, ◌⊎◌, false, cond, fold, None, Some, IsSome, OnOk, IfOk, MatchOption};
+ghost use Rattle.std.specs.Prelude.{◌≡◌, ℕ, ◌+◌, ◌<◌, ◌≤◌, ◌⊎◌, false, [], None, Some, IsSome, OnOk, IfOk, MatchOption};
 ghost use Rattle.std.specs.Option.{option_map};
 ghost use Rattle.std.specs.BTreeMap.{get, is_at};
 ghost use Rattle.store_turns.specs.Waits.{waits, changes_of, and_change, turn_cmp, look, lesser, lesser_of, first_in, IsPlace, NotAfter, SameElsewhere};
@@ -28,11 +28,13 @@ pub enum Pending {
 const FEW: usize = 16;
 
 /// The nodes that wait, by layer and then by id. Each call of them is a step. The first few stand in a short
-/// list, in no order, and those for which it has no room in a map.
+/// list, in no order, and those for which it has no room in a map. Lists of changes that were given back serve
+/// again.
 #[derive(Drop)]
 pub struct Waiting {
     near: Vec<(Turn, Pending)>,
     far: BTreeMap<Turn, Pending>,
+    spare: Vec<Vec<Change>>,
     alloc: Global,
 }
 
@@ -44,7 +46,29 @@ impl Waiting {
         Waiting {
             near: Vec::new(alloc),
             far: BTreeMap::new(alloc),
+            spare: Vec::new(alloc),
             alloc,
+        }
+    }
+
+    /// Nothing waits from now on.
+    pub fn clear(&mut self)
+        ensures { (l i : ℕ) → waits self.new l i ≡ None }
+    {
+        self.near.clear();
+        self.far.clear();
+    }
+
+    /// What waited is needed no more, and its memory serves again.
+    pub fn give_back(&mut self, pending: Pending)
+        ensures { (l i : ℕ) → waits self.new l i ≡ waits self.old l i }
+    {
+        match pending {
+            Pending::Changed(mut list) => {
+                list.clear();
+                let _ = self.spare.push(list);
+            }
+            Pending::Below => {}
         }
     }
 
@@ -67,7 +91,7 @@ impl Waiting {
         steps.tick();
         let before = self.take(turn);
         steps.tick();
-        let after = with_change(self.alloc, before, change)?;
+        let after = with_change(self.alloc, &mut self.spare, before, change)?;
         self.put(turn, after)?;
         Ok(())
     }
@@ -216,12 +240,17 @@ fn is_same(turn: Turn, other: Turn) -> bool
 }
 
 /// What waits, with one more change.
-fn with_change(alloc: Global, before: Option<Pending>, change: Change) -> Result<Pending, NoMemory>
+fn with_change(
+    alloc: Global,
+    spare: &mut Vec<Vec<Change>>,
+    before: Option<Pending>,
+    change: Change,
+) -> Result<Pending, NoMemory>
     ensures { IfOk result (λ p. changes_of p ≡ and_change change (option_map changes_of before)) }
 {
     match before {
         None => {
-            let mut list = Vec::new(alloc);
+            let mut list = empty_list(alloc, spare);
             list.push(change)?;
             Ok(Pending::Changed(list))
         }
@@ -230,5 +259,18 @@ fn with_change(alloc: Global, before: Option<Pending>, change: Change) -> Result
             Ok(Pending::Changed(list))
         }
         Some(Pending::Below) => Ok(Pending::Below),
+    }
+}
+
+/// A list without changes.
+fn empty_list(alloc: Global, spare: &mut Vec<Vec<Change>>) -> Vec<Change>
+    ensures { result.items ≡ [] }
+{
+    match spare.pop() {
+        None => Vec::new(alloc),
+        Some(mut list) => {
+            list.clear();
+            list
+        }
     }
 }

@@ -18,7 +18,7 @@ returns-in-Some-clause-elsewhere c = λ l i ne.
     let u : Turn = record { layer = l; id = i } in
     let other = other_turn u c.args.turn (λ e f. ne (sym e) (sym f)) in
     let near =
-        c.forget.ensures.elsewhere u other
-        ∙ taken_out u c.args.turn other c.deref.result.now c.args.self.now.near.items c.remove-pending.new.self.items c.in-Some.place c.deref.ensures.value c.in-Some.ensures c.remove-pending.ensures.items in
+    c.forget.ensures.elsewhere u other
+    ∙ taken_out u c.args.turn other c.deref.result.now c.args.self.now.near.items c.remove-pending.new.self.items c.in-Some.place c.deref.ensures.value c.in-Some.ensures c.remove-pending.ensures.items in
     ap (λ (o : Option Pending). option_map changes_of (or_later o (get turn_cmp c.remove-far.new.self u))) near
     ∙ ap (λ (o : Option Pending). option_map changes_of (or_later (look u c.args.self.now.near.items) o)) (c.remove-far.ensures.updates.2 u (other_turn c.args.turn u ne))
