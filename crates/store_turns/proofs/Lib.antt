@@ -8,5 +8,6 @@ pub mod SetChanges
 pub mod ShortLists
 pub mod Told
 pub mod TurnOrder
+pub mod TwoParts
 pub mod Unique
 pub mod UseLists

@@ -1,13 +1,14 @@
 -- The order of turns.
-use Rattle.std.proofs.Common.{◌≡◌, ◌≢◌, ℕ, ◌<◌, ◌≤◌, Bool, true, false, cond, refl, sym, ap, ◌∙◌, inl, inr, arith, ◌⊎◌}
+use Rattle.std.proofs.Common.{◌≡◌, ◌≢◌, ℕ, ◌<◌, ◌≤◌, subst, true, false, refl, sym, ap, ◌∙◌, inl, inr, arith}
 use Rattle.std.specs.Ordering.{nat_cmp, ordering_then, is_eq, is_gt}
 use Rattle.std.specs.BTreeMap.{is_at}
 use Rattle.std.specs.declared.cmp.Ordering.{Ordering}
 use Rattle.std.specs.declared.cmp.Ordering.TheVariants.{Less, Equal, Greater}
+use Rattle.std.proofs.lemmas.Bool.{cases_Bool}
 use Rattle.std.proofs.lemmas.Cmp.{ranked}
 use Rattle.std.proofs.lemmas.Map.Lookups.{exact_unsigned}
 use Rattle.store_turns.specs.declared.waiting.Turn.{Turn}
-use Rattle.store_turns.specs.Waits.{turn_cmp, lesser, NotAfter}
+use Rattle.store_turns.specs.Entries.{turn_cmp, NotAfter, IsBefore}
 
 not_both : (x y : Ordering) → (x ≡ Equal → y ≡ Equal → ⊥) → is_eq (ordering_then x y) ≡ false
 not_both Less y h = refl
@@ -80,16 +81,41 @@ later a b c (inl l) (inr k) = inl (omega (arith, l, k.0))
 later a b c (inr l) (inl k) = inl (omega (arith, l.0, k))
 later a b c (inr l) (inr k) = inr (l.0 ∙ k.0, omega (arith, l.1, k.1))
 
--- ---- the lesser of two
-lesser_is : (a b : Turn) (q : Bool) → is_gt (turn_cmp a b) ≡ q → NotAfter (cond q b a) a × NotAfter (cond q b a) b × ((cond q b a ≡ a) ⊎ (cond q b a ≡ b))
-lesser_is a b true e = (by_layer_back a b (nat_cmp a.layer b.layer) (nat_cmp a.id b.id) refl refl e, no_later b, inr refl)
-lesser_is a b false e = (no_later a, not_after a b e, inl refl)
+-- ---- two turns apart, and two in order
+pub apart : (t u : Turn) → is_at (turn_cmp t) u ≡ false → is_at (turn_cmp u) t ≡ false
+apart t u h =
+    elim (cases_Bool (is_at (turn_cmp u) t)) [
+      | inl b ↦ let e : true ≡ false = sym (same_turn t) ∙ ap (λ (x : Turn). is_at (turn_cmp t) x) (sym (turn_is u t b)) ∙ h in absurd (cc)
+      | inr b ↦ b
+    ]
 
-pub lesser_first : (a b : Turn) → NotAfter (lesser a b) a
-lesser_first a b = (lesser_is a b (is_gt (turn_cmp a b)) refl).0
+pub before_not_after : (t u : Turn) → IsBefore t u → NotAfter t u
+before_not_after t u (inl l) = inl l
+before_not_after t u (inr l) = inr (l.0, omega (arith, l.1))
 
-pub lesser_second : (a b : Turn) → NotAfter (lesser a b) b
-lesser_second a b = (lesser_is a b (is_gt (turn_cmp a b)) refl).1
+pub not_both_ways : (t u : Turn) → IsBefore t u → NotAfter u t → ⊥
+not_both_ways t u (inl l) (inl k) = omega (arith, l, k)
+not_both_ways t u (inl l) (inr k) = omega (arith, l, k.0)
+not_both_ways t u (inr l) (inl k) = omega (arith, l.0, k)
+not_both_ways t u (inr l) (inr k) = omega (arith, l.1, k.1)
 
-pub lesser_one : (a b : Turn) → (lesser a b ≡ a) ⊎ (lesser a b ≡ b)
-lesser_one a b = (lesser_is a b (is_gt (turn_cmp a b)) refl).2
+pub before_apart : (t u : Turn) → IsBefore t u → is_at (turn_cmp t) u ≡ false
+before_apart t u h =
+    elim (cases_Bool (is_at (turn_cmp t) u)) [
+      | inl b ↦ absurd (not_both_ways t u h (subst (λ (x : Turn). NotAfter x t) (turn_is t u b) (no_later t)))
+      | inr b ↦ b
+    ]
+
+-- a turn that is before one is before what that one isn't after
+pub before_and_later : (t u v : Turn) → IsBefore t u → NotAfter u v → is_at (turn_cmp t) v ≡ false
+before_and_later t u v h k =
+    elim (cases_Bool (is_at (turn_cmp t) v)) [
+      | inl b ↦ absurd (not_both_ways t u h (subst (λ (x : Turn). NotAfter u x) (sym (turn_is t v b)) k))
+      | inr b ↦ b
+    ]
+
+pub before_or_later : (a b c : Turn) → NotAfter a b → IsBefore b c → IsBefore a c
+before_or_later a b c (inl l) (inl k) = inl (omega (arith, l, k))
+before_or_later a b c (inl l) (inr k) = inl (omega (arith, l, k.0))
+before_or_later a b c (inr l) (inl k) = inl (omega (arith, l.0, k))
+before_or_later a b c (inr l) (inr k) = inr (l.0 ∙ k.0, omega (arith, l.1, k.1))

@@ -1,12 +1,11 @@
 //! The nodes that wait for their turn.
-ghost use Rattle.std.specs.Prelude.{◌≡◌, ℕ, ◌+◌, ◌<◌, ◌≤◌, ◌⊎◌, false, [], None, Some, IsSome, OnOk, IfOk, MatchOption};
-ghost use Rattle.std.specs.Option.{option_map};
-ghost use Rattle.std.specs.BTreeMap.{get, is_at};
-ghost use Rattle.store_turns.specs.Waits.{waits, changes_of, and_change, turn_cmp, look, lesser, lesser_of, first_in, IsPlace, NotAfter, SameElsewhere};
+ghost use Rattle.std.specs.Prelude.{◌≡◌, ℕ, ◌+◌, ◌<◌, ◌≤◌, ◌⊎◌, [], ◌∷◌, None, Some, IsSome, IfSome, OnOk, MatchOption, MatchBool, length};
+ghost use Rattle.std.specs.BTreeMap.{get};
+ghost use Rattle.store_turns.specs.Waits.{waits, changes_of, and_change, turn_cmp, look, turn_at, NotAfter, IsBefore, IsLeast, SameElsewhere, IsFirst, IsGone};
 
+use crate::short_list::{ShortList, add_to, is_before};
 use cbl_base::{Change, NoMemory, Steps};
 use std::alloc::Global;
-use std::cmp::Ordering;
 use std::collections::BTreeMap;
 use std::sync::ledger::Ledger;
 
@@ -32,7 +31,7 @@ const FEW: usize = 16;
 /// again.
 #[derive(Drop)]
 pub struct Waiting {
-    near: Vec<(Turn, Pending)>,
+    near: ShortList,
     far: BTreeMap<Turn, Pending>,
     spare: Vec<Vec<Change>>,
     alloc: Global,
@@ -44,7 +43,7 @@ impl Waiting {
         ensures { (l i : ℕ) → waits result l i ≡ None }
     {
         Waiting {
-            near: Vec::new(alloc),
+            near: ShortList::new(alloc),
             far: BTreeMap::new(alloc),
             spare: Vec::new(alloc),
             alloc,
@@ -55,7 +54,9 @@ impl Waiting {
     pub fn clear(&mut self)
         ensures { (l i : ℕ) → waits self.new l i ≡ None }
     {
-        self.near.clear();
+        while let Some(pending) = self.near.take_last() {
+            keep(&mut self.spare, pending);
+        }
         self.far.clear();
     }
 
@@ -63,13 +64,7 @@ impl Waiting {
     pub fn give_back(&mut self, pending: Pending)
         ensures { (l i : ℕ) → waits self.new l i ≡ waits self.old l i }
     {
-        match pending {
-            Pending::Changed(mut list) => {
-                list.clear();
-                let _ = self.spare.push(list);
-            }
-            Pending::Below => {}
-        }
+        keep(&mut self.spare, pending);
     }
 
     /// Where what waits takes its memory.
@@ -89,11 +84,11 @@ impl Waiting {
         ensures steps { steps.new ≡ steps.old + 2 }
     {
         steps.tick();
-        let before = self.take(turn);
         steps.tick();
-        let after = with_change(self.alloc, &mut self.spare, before, change)?;
-        self.put(turn, after)?;
-        Ok(())
+        match self.near.place_of(turn) {
+            Some(place) => self.near.add(place, change),
+            None => self.push_later(turn, change),
+        }
     }
 
     /// An input of the node has no value. One step.
@@ -103,9 +98,14 @@ impl Waiting {
         ensures steps { steps.new ≡ steps.old + 1 }
     {
         steps.tick();
-        self.take(turn);
-        self.put(turn, Pending::Below)?;
-        Ok(())
+        match self.near.place_of(turn) {
+            Some(place) => {
+                let before = self.near.block(place);
+                keep(&mut self.spare, before);
+                Ok(())
+            }
+            None => self.block_later(turn),
+        }
     }
 
     /// The first that waits, by layer and then by id, with what waits for it, which waits no more.
@@ -118,147 +118,107 @@ impl Waiting {
         ensures steps { steps.new ≡ steps.old + 1 }
     {
         steps.tick();
-        match self.first() {
-            None => None,
-            Some(turn) => match self.take(turn) {
-                None => None,
-                Some(pending) => Some((turn, pending)),
-            },
+        match self.near.first() {
+            None => self.far.pop_first(),
+            Some(place) => self.pop_from(place),
         }
     }
 
-    /// The first that waits.
-    fn first(&self) -> Option<Turn>
-        ensures none { MatchOption result ((l i : ℕ) → waits self.now l i ≡ None) (λ t. IsSome (waits self.now t.layer t.id)) }
-        ensures least { MatchOption result (Unit {0}) (λ t. (l i : ℕ) → IsSome (waits self.now l i) → (t.layer < l) ⊎ ((t.layer ≡ l) × (t.id ≤ i))) }
+    /// The first that waits, where the first of the short list stands at a place.
+    fn pop_from(&mut self, place: usize) -> Option<(Turn, Pending)>
+        requires place { place < length self.old.near.entries.items }
+        requires least { IsLeast (turn_at self.old.near.entries.items place) self.old.near.entries.items }
+        ensures first { IfSome result (λ p. IsFirst self.old p.0 p.1) }
+        ensures gone { IfSome result (λ p. IsGone self.old self.new p.0) }
+        ensures some { IsSome result }
     {
-        first_in(first_far(&self.far), &self.near)
+        if self.far.is_empty() {
+            return Some(self.near.take(place));
+        }
+        let turn = self.near.turn(place);
+        if is_first_before(&self.far, turn) {
+            return self.far.pop_first();
+        }
+        self.far.remove(&turn);
+        Some(self.near.take(place))
     }
 
-    /// What waits for the node, which waits no more.
-    fn take(&mut self, turn: Turn) -> Option<Pending>
-        ensures before { option_map changes_of result ≡ waits self.old turn.layer turn.id }
-        ensures here { waits self.new turn.layer turn.id ≡ None }
-        ensures elsewhere { SameElsewhere (waits self.new) (waits self.old) turn.layer turn.id }
-        ensures alloc { self.new.alloc ≡ self.old.alloc }
+    /// One more change waits for a node that isn't in the short list.
+    fn push_later(&mut self, turn: Turn, change: Change) -> Result<(), NoMemory>
+        requires { look turn self.old.near.entries.items ≡ None }
+        ensures here { OnOk result (waits self.new turn.layer turn.id ≡ Some (and_change change (waits self.old turn.layer turn.id))) }
+        ensures elsewhere { OnOk result (SameElsewhere (waits self.new) (waits self.old) turn.layer turn.id) }
     {
-        let far = self.far.remove(&turn);
-        match place_of(&self.near, turn) {
-            None => far,
-            Some(place) => {
-                let (_, pending) = self.near.remove(place);
-                forget(&mut self.near, turn);
-                Some(pending)
+        if self.far.is_empty() {
+            return self.push_first(turn, change);
+        }
+        match self.far.get_mut(&turn) {
+            Some(pending) => add_to(pending, change),
+            None => self.push_first(turn, change),
+        }
+    }
+
+    /// A change waits for a node for which nothing waited.
+    fn push_first(&mut self, turn: Turn, change: Change) -> Result<(), NoMemory>
+        requires { waits self.old turn.layer turn.id ≡ None }
+        ensures here { OnOk result (waits self.new turn.layer turn.id ≡ Some (Some (change ∷ []))) }
+        ensures elsewhere { OnOk result (SameElsewhere (waits self.new) (waits self.old) turn.layer turn.id) }
+    {
+        let mut list = empty_list(self.alloc, &mut self.spare);
+        list.push(change)?;
+        self.put(turn, Pending::Changed(list))
+    }
+
+    /// An input of a node that isn't in the short list has no value.
+    fn block_later(&mut self, turn: Turn) -> Result<(), NoMemory>
+        requires { look turn self.old.near.entries.items ≡ None }
+        ensures here { OnOk result (waits self.new turn.layer turn.id ≡ Some None) }
+        ensures elsewhere { OnOk result (SameElsewhere (waits self.new) (waits self.old) turn.layer turn.id) }
+    {
+        if self.far.is_empty() {
+            return self.put(turn, Pending::Below);
+        }
+        match self.far.remove(&turn) {
+            None => self.put(turn, Pending::Below),
+            Some(before) => {
+                keep(&mut self.spare, before);
+                self.put(turn, Pending::Below)
             }
         }
     }
 
-    /// This waits for the node, for which nothing waited.
+    /// This waits for a node for which nothing waited.
     fn put(&mut self, turn: Turn, pending: Pending) -> Result<(), NoMemory>
         requires { waits self.old turn.layer turn.id ≡ None }
         ensures here { OnOk result (waits self.new turn.layer turn.id ≡ Some (changes_of pending)) }
         ensures elsewhere { OnOk result (SameElsewhere (waits self.new) (waits self.old) turn.layer turn.id) }
     {
         if self.near.len() < FEW {
-            self.near.push((turn, pending))?;
-        } else {
-            self.far.insert(turn, pending)?;
+            return self.near.put(turn, pending);
         }
+        self.far.insert(turn, pending)?;
         Ok(())
     }
 }
 
-/// The place of a node in a list.
-fn place_of(near: &[(Turn, Pending)], turn: Turn) -> Option<usize>
-    ensures { MatchOption result (look turn near.now ≡ None) (IsPlace turn near.now) }
-{
-    for (place, entry) in near.iter().enumerate() {
-        if is_same(turn, entry.0) {
-            return Some(place);
-        }
-    }
-    None
-}
-
-/// A node waits no more in a list.
-fn forget(near: &mut Vec<(Turn, Pending)>, turn: Turn)
-    ensures here { look turn near.new.items ≡ None }
-    ensures elsewhere { (u : Turn) → is_at (turn_cmp u) turn ≡ false → look u near.new.items ≡ look u near.old.items }
-{
-    while let Some(place) = place_of(near, turn) {
-        near.remove(place);
-    }
-}
-
-/// The first in a map.
-fn first_far(far: &BTreeMap<Turn, Pending>) -> Option<Turn>
-    ensures none { MatchOption result ((u : Turn) → get turn_cmp far.now u ≡ None) (λ t. IsSome (get turn_cmp far.now t)) }
-    ensures least { MatchOption result (Unit {0}) (λ t. (u : Turn) → IsSome (get turn_cmp far.now u) → NotAfter t u) }
+/// Whether the first in a map is before a turn.
+fn is_first_before(far: &BTreeMap<Turn, Pending>, turn: Turn) -> bool
+    ensures { MatchBool result ((t : Turn) × IsSome (get turn_cmp far.now t) × IsBefore t turn) ((t : Turn) → IsSome (get turn_cmp far.now t) → NotAfter turn t) }
 {
     match far.first_key_value() {
-        None => None,
-        Some((turn, _)) => Some(*turn),
+        None => false,
+        Some((first, _)) => is_before(*first, turn),
     }
 }
 
-/// The first of these and of an earlier one.
-fn first_in(earlier: Option<Turn>, near: &[(Turn, Pending)]) -> Option<Turn>
-    ensures { result ≡ first_in earlier near.now }
-{
-    let mut first = earlier;
-    for entry in near {
-        first = Some(lesser_of(first, entry.0));
-    }
-    first
-}
-
-/// The lesser of two turns, of which one may not be there.
-fn lesser_of(turn: Option<Turn>, other: Turn) -> Turn
-    ensures { result ≡ lesser_of turn other }
-{
-    match turn {
-        None => other,
-        Some(turn) => lesser(turn, other),
-    }
-}
-
-/// The lesser of two turns.
-fn lesser(turn: Turn, other: Turn) -> Turn
-    ensures { result ≡ lesser turn other }
-{
-    match turn.cmp(&other) {
-        Ordering::Greater => other,
-        _ => turn,
-    }
-}
-
-/// Whether two turns are the same.
-fn is_same(turn: Turn, other: Turn) -> bool
-    ensures { result ≡ is_at (turn_cmp turn) other }
-{
-    matches!(turn.cmp(&other), Ordering::Equal)
-}
-
-/// What waits, with one more change.
-fn with_change(
-    alloc: Global,
-    spare: &mut Vec<Vec<Change>>,
-    before: Option<Pending>,
-    change: Change,
-) -> Result<Pending, NoMemory>
-    ensures { IfOk result (λ p. changes_of p ≡ and_change change (option_map changes_of before)) }
-{
-    match before {
-        None => {
-            let mut list = empty_list(alloc, spare);
-            list.push(change)?;
-            Ok(Pending::Changed(list))
+/// The memory of what waited serves again.
+fn keep(spare: &mut Vec<Vec<Change>>, pending: Pending) {
+    match pending {
+        Pending::Changed(mut list) => {
+            list.clear();
+            let _ = spare.push(list);
         }
-        Some(Pending::Changed(mut list)) => {
-            list.push(change)?;
-            Ok(Pending::Changed(list))
-        }
-        Some(Pending::Below) => Ok(Pending::Below),
+        Pending::Below => {}
     }
 }
 
