@@ -58,6 +58,10 @@ pending_at es place = (slice_index_or es place (record { layer = 0; id = 0 }, Be
 abbrev pub IsLeast : Turn → List (Turn × Pending) → Type 0
 IsLeast t es = (u : Turn) → IsSome (look u es) → NotAfter t u
 
--- one list for another: it has this at this turn, and the same at each other
+-- one list for another: it has the same at each turn but this
+abbrev pub SameBut : Turn → List (Turn × Pending) → List (Turn × Pending) → Type 0
+SameBut t old new = (u : Turn) → is_at (turn_cmp u) t ≡ false → look u new ≡ look u old
+
+-- it has this at this turn, and the same at each other
 abbrev pub Puts : Turn → Option Pending → List (Turn × Pending) → List (Turn × Pending) → Type 0
-Puts t p old new = (look t new ≡ p) × ((u : Turn) → is_at (turn_cmp u) t ≡ false → look u new ≡ look u old)
+Puts t p old new = (look t new ≡ p) × SameBut t old new

@@ -1,8 +1,8 @@
 //! A short list of nodes that wait, in no order.
-ghost use Rattle.std.specs.Prelude.{◌≡◌, ℕ, ◌+◌, ◌*◌, ◌<◌, true, false, [], Some, None, length, IfOk, OnOk, MatchOption, MatchBool, IsSome};
+ghost use Rattle.std.specs.Prelude.{◌≡◌, ◌+◌, ◌*◌, ◌<◌, true, [], Some, None, length, IfOk, OnOk, MatchOption, MatchBool};
 ghost use Rattle.std.specs.Option.{option_map};
 ghost use Rattle.std.specs.BTreeMap.{is_at};
-ghost use Rattle.store_turns.specs.Entries.{are_distinct, changes_of, and_change, look, turn_at, pending_at, turn_cmp, IsBefore, IsLeast, NotAfter, Puts};
+ghost use Rattle.store_turns.specs.Entries.{are_distinct, changes_of, and_change, look, turn_at, pending_at, turn_cmp, IsBefore, IsLeast, NotAfter, Puts, SameBut};
 
 use crate::waiting::{Pending, Turn};
 use cbl_base::{Change, NoMemory};
@@ -95,7 +95,7 @@ impl ShortList {
         requires { place < length self.old.entries.items }
         ensures before { look (turn_at self.old.entries.items place) self.old.entries.items ≡ Some (pending_at self.old.entries.items place) }
         ensures here { OnOk result (option_map changes_of (look (turn_at self.old.entries.items place) self.new.entries.items) ≡ Some (and_change change (Some (changes_of (pending_at self.old.entries.items place))))) }
-        ensures elsewhere { OnOk result ((u : Turn) → is_at (turn_cmp u) (turn_at self.old.entries.items place) ≡ false → look u self.new.entries.items ≡ look u self.old.entries.items) }
+        ensures elsewhere { OnOk result (SameBut (turn_at self.old.entries.items place) self.old.entries.items self.new.entries.items) }
     {
         add_to(&mut self.entries[place].1, change)
     }
@@ -104,7 +104,7 @@ impl ShortList {
     pub(crate) fn block(&mut self, place: usize) -> Pending
         requires { place < length self.old.entries.items }
         ensures here { option_map changes_of (look (turn_at self.old.entries.items place) self.new.entries.items) ≡ Some None }
-        ensures elsewhere { (u : Turn) → is_at (turn_cmp u) (turn_at self.old.entries.items place) ≡ false → look u self.new.entries.items ≡ look u self.old.entries.items }
+        ensures elsewhere { SameBut (turn_at self.old.entries.items place) self.old.entries.items self.new.entries.items }
     {
         mem::replace(&mut self.entries[place].1, Pending::Below)
     }
