@@ -5,7 +5,9 @@ pub mod Fitting
 pub mod NextTurn
 pub mod Reaching
 pub mod SetChanges
+pub mod ShortLists
 pub mod Told
 pub mod TurnOrder
+pub mod TwoParts
 pub mod Unique
 pub mod UseLists

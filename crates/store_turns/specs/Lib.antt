@@ -1,3 +1,4 @@
+pub mod Entries
 pub mod Meaning
 pub mod Telling
 pub mod Touch

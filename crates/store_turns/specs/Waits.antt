@@ -1,37 +1,28 @@
 -- What waits for a node of a layer: changes of its inputs, or that one of these has no value.
-use Rattle.std.specs.Prelude.{◌≡◌, ◌≢◌, ℕ, List, [], ◌∷◌, ◌++◌, Option, Some, None}
+pub use Rattle.store_turns.specs.Entries.{Wait, turn_cmp, NotAfter, IsBefore, changes_of, and_change, look, turn_at, IsLeast}
+use Rattle.std.specs.Prelude.{◌≡◌, ◌≢◌, ℕ, IsSome, Option, Some, None}
 use Rattle.std.specs.Option.{option_map}
-use Rattle.std.specs.Ordering.{nat_cmp, ordering_then}
-use Rattle.std.specs.declared.cmp.Ordering.{Ordering}
 use Rattle.std.specs.BTreeMap.{get}
-use Rattle.cbl_base.specs.declared.input.Change.{Change}
-use Rattle.store_turns.specs.declared.waiting.Turn.{Turn}
 use Rattle.store_turns.specs.declared.waiting.Waiting.{Waiting}
+use Rattle.store_turns.specs.declared.waiting.Turn.{Turn}
 use Rattle.store_turns.specs.declared.waiting.Pending.{Pending}
-use Rattle.store_turns.specs.declared.waiting.Pending.TheVariants.{Changed, Below}
 
--- nothing; changes; or, with no list, that an input has no value
-abbrev pub Wait : Type 0
-Wait = Option (Option (List Change))
-
--- by layer, and then by id
-abbrev pub turn_cmp : Turn → Turn → Ordering
-turn_cmp a b = ordering_then (nat_cmp a.layer b.layer) (nat_cmp a.id b.id)
-
-abbrev pub changes_of : Pending → Option (List Change)
-changes_of (Changed cs) = Some cs.items
-changes_of Below = None
+-- the first, and where it is nothing the second
+abbrev pub or_later : Option Pending → Option Pending → Option Pending
+or_later None later = later
+or_later (Some p) later = Some p
 
 -- what waits for an id of a layer
 abbrev pub waits : Waiting → ℕ → ℕ → Wait
-waits w layer id = option_map changes_of (get turn_cmp w.map (record { layer = layer; id = id }))
-
--- with one more change
-abbrev pub and_change : Change → Wait → Option (List Change)
-and_change c None = Some (c ∷ [])
-and_change c (Some None) = None
-and_change c (Some (Some cs)) = Some (cs ++ c ∷ [])
+waits w layer id = option_map changes_of (or_later (look (record { layer = layer; id = id }) w.near.entries.items) (get turn_cmp w.far (record { layer = layer; id = id })))
 
 -- the same but at this layer and id
 abbrev pub SameElsewhere : (ℕ → ℕ → Wait) → (ℕ → ℕ → Wait) → ℕ → ℕ → Type 0
 SameElsewhere v u layer id = (l i : ℕ) → (l ≡ layer → i ≢ id) → v l i ≡ u l i
+
+-- this waits for the turn, and none that waits is before it; and it waits no more, where all else is the same
+abbrev pub IsFirst : Waiting → Turn → Pending → Type 0
+IsFirst w t p = (waits w t.layer t.id ≡ Some (changes_of p)) × ((l i : ℕ) → IsSome (waits w l i) → NotAfter t (record { layer = l; id = i }))
+
+abbrev pub IsGone : Waiting → Waiting → Turn → Type 0
+IsGone old new t = (waits new t.layer t.id ≡ None) × SameElsewhere (waits new) (waits old) t.layer t.id

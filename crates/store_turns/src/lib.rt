@@ -10,6 +10,7 @@
 mod frame;
 mod outcome;
 mod set_changes;
+mod short_list;
 mod telling;
 mod waiting;
 

@@ -1,8 +1,9 @@
 //! The nodes that wait for their turn.
-ghost use Rattle.std.specs.Prelude.{◌≡◌, ℕ, ◌+◌, ◌<◌, ◌≤◌, ◌⊎◌, None, Some, IsSome, OnOk, IfOk, MatchOption};
-ghost use Rattle.std.specs.Option.{option_map};
-ghost use Rattle.store_turns.specs.Waits.{waits, changes_of, and_change, SameElsewhere};
+ghost use Rattle.std.specs.Prelude.{◌≡◌, ℕ, ◌+◌, ◌<◌, ◌≤◌, ◌⊎◌, [], ◌∷◌, None, Some, IsSome, IfSome, OnOk, MatchOption, MatchBool, length};
+ghost use Rattle.std.specs.BTreeMap.{get};
+ghost use Rattle.store_turns.specs.Waits.{waits, changes_of, and_change, turn_cmp, look, turn_at, NotAfter, IsBefore, IsLeast, SameElsewhere, IsFirst, IsGone};
 
+use crate::short_list::{ShortList, add_to, is_before};
 use cbl_base::{Change, NoMemory, Steps};
 use std::alloc::Global;
 use std::collections::BTreeMap;
@@ -22,10 +23,17 @@ pub enum Pending {
     Below,
 }
 
-/// The nodes that wait, by layer and then by id. Each call of its map is a step.
+/// How many nodes at most wait in the short list.
+const FEW: usize = 16;
+
+/// The nodes that wait, by layer and then by id. Each call of them is a step. The first few stand in a short
+/// list, in no order, and those for which it has no room in a map. Lists of changes that were given back serve
+/// again.
 #[derive(Drop)]
 pub struct Waiting {
-    map: BTreeMap<Turn, Pending>,
+    near: ShortList,
+    far: BTreeMap<Turn, Pending>,
+    spare: Vec<Vec<Change>>,
     alloc: Global,
 }
 
@@ -35,9 +43,28 @@ impl Waiting {
         ensures { (l i : ℕ) → waits result l i ≡ None }
     {
         Waiting {
-            map: BTreeMap::new(alloc),
+            near: ShortList::new(alloc),
+            far: BTreeMap::new(alloc),
+            spare: Vec::new(alloc),
             alloc,
         }
+    }
+
+    /// Nothing waits from now on.
+    pub fn clear(&mut self)
+        ensures { (l i : ℕ) → waits self.new l i ≡ None }
+    {
+        while let Some(pending) = self.near.take_last() {
+            keep(&mut self.spare, pending);
+        }
+        self.far.clear();
+    }
+
+    /// What waited is needed no more, and its memory serves again.
+    pub fn give_back(&mut self, pending: Pending)
+        ensures { (l i : ℕ) → waits self.new l i ≡ waits self.old l i }
+    {
+        keep(&mut self.spare, pending);
     }
 
     /// Where what waits takes its memory.
@@ -57,11 +84,11 @@ impl Waiting {
         ensures steps { steps.new ≡ steps.old + 2 }
     {
         steps.tick();
-        let before = self.map.remove(&turn);
         steps.tick();
-        let after = with_change(self.alloc, before, change)?;
-        self.map.insert(turn, after)?;
-        Ok(())
+        match self.near.place_of(turn) {
+            Some(place) => self.near.add(place, change),
+            None => self.push_later(turn, change),
+        }
     }
 
     /// An input of the node has no value. One step.
@@ -71,8 +98,14 @@ impl Waiting {
         ensures steps { steps.new ≡ steps.old + 1 }
     {
         steps.tick();
-        self.map.insert(turn, Pending::Below)?;
-        Ok(())
+        match self.near.place_of(turn) {
+            Some(place) => {
+                let before = self.near.block(place);
+                keep(&mut self.spare, before);
+                Ok(())
+            }
+            None => self.block_later(turn),
+        }
     }
 
     /// The first that waits, by layer and then by id, with what waits for it, which waits no more.
@@ -85,24 +118,119 @@ impl Waiting {
         ensures steps { steps.new ≡ steps.old + 1 }
     {
         steps.tick();
-        self.map.pop_first()
+        match self.near.first() {
+            None => self.far.pop_first(),
+            Some(place) => self.pop_from(place),
+        }
+    }
+
+    /// The first that waits, where the first of the short list stands at a place.
+    fn pop_from(&mut self, place: usize) -> Option<(Turn, Pending)>
+        requires place { place < length self.old.near.entries.items }
+        requires least { IsLeast (turn_at self.old.near.entries.items place) self.old.near.entries.items }
+        ensures first { IfSome result (λ p. IsFirst self.old p.0 p.1) }
+        ensures gone { IfSome result (λ p. IsGone self.old self.new p.0) }
+        ensures some { IsSome result }
+    {
+        if self.far.is_empty() {
+            return Some(self.near.take(place));
+        }
+        let turn = self.near.turn(place);
+        if is_first_before(&self.far, turn) {
+            return self.far.pop_first();
+        }
+        self.far.remove(&turn);
+        Some(self.near.take(place))
+    }
+
+    /// One more change waits for a node that isn't in the short list.
+    fn push_later(&mut self, turn: Turn, change: Change) -> Result<(), NoMemory>
+        requires { look turn self.old.near.entries.items ≡ None }
+        ensures here { OnOk result (waits self.new turn.layer turn.id ≡ Some (and_change change (waits self.old turn.layer turn.id))) }
+        ensures elsewhere { OnOk result (SameElsewhere (waits self.new) (waits self.old) turn.layer turn.id) }
+    {
+        if self.far.is_empty() {
+            return self.push_first(turn, change);
+        }
+        match self.far.get_mut(&turn) {
+            Some(pending) => add_to(pending, change),
+            None => self.push_first(turn, change),
+        }
+    }
+
+    /// A change waits for a node for which nothing waited.
+    fn push_first(&mut self, turn: Turn, change: Change) -> Result<(), NoMemory>
+        requires { waits self.old turn.layer turn.id ≡ None }
+        ensures here { OnOk result (waits self.new turn.layer turn.id ≡ Some (Some (change ∷ []))) }
+        ensures elsewhere { OnOk result (SameElsewhere (waits self.new) (waits self.old) turn.layer turn.id) }
+    {
+        let mut list = empty_list(self.alloc, &mut self.spare);
+        list.push(change)?;
+        self.put(turn, Pending::Changed(list))
+    }
+
+    /// An input of a node that isn't in the short list has no value.
+    fn block_later(&mut self, turn: Turn) -> Result<(), NoMemory>
+        requires { look turn self.old.near.entries.items ≡ None }
+        ensures here { OnOk result (waits self.new turn.layer turn.id ≡ Some None) }
+        ensures elsewhere { OnOk result (SameElsewhere (waits self.new) (waits self.old) turn.layer turn.id) }
+    {
+        if self.far.is_empty() {
+            return self.put(turn, Pending::Below);
+        }
+        match self.far.remove(&turn) {
+            None => self.put(turn, Pending::Below),
+            Some(before) => {
+                keep(&mut self.spare, before);
+                self.put(turn, Pending::Below)
+            }
+        }
+    }
+
+    /// This waits for a node for which nothing waited.
+    fn put(&mut self, turn: Turn, pending: Pending) -> Result<(), NoMemory>
+        requires { waits self.old turn.layer turn.id ≡ None }
+        ensures here { OnOk result (waits self.new turn.layer turn.id ≡ Some (changes_of pending)) }
+        ensures elsewhere { OnOk result (SameElsewhere (waits self.new) (waits self.old) turn.layer turn.id) }
+    {
+        if self.near.len() < FEW {
+            return self.near.put(turn, pending);
+        }
+        self.far.insert(turn, pending)?;
+        Ok(())
     }
 }
 
-/// What waits, with one more change.
-fn with_change(alloc: Global, before: Option<Pending>, change: Change) -> Result<Pending, NoMemory>
-    ensures { IfOk result (λ p. changes_of p ≡ and_change change (option_map changes_of before)) }
+/// Whether the first in a map is before a turn.
+fn is_first_before(far: &BTreeMap<Turn, Pending>, turn: Turn) -> bool
+    ensures { MatchBool result ((t : Turn) × IsSome (get turn_cmp far.now t) × IsBefore t turn) ((t : Turn) → IsSome (get turn_cmp far.now t) → NotAfter turn t) }
 {
-    match before {
-        None => {
-            let mut list = Vec::new(alloc);
-            list.push(change)?;
-            Ok(Pending::Changed(list))
+    match far.first_key_value() {
+        None => false,
+        Some((first, _)) => is_before(*first, turn),
+    }
+}
+
+/// The memory of what waited serves again.
+fn keep(spare: &mut Vec<Vec<Change>>, pending: Pending) {
+    match pending {
+        Pending::Changed(mut list) => {
+            list.clear();
+            let _ = spare.push(list);
         }
-        Some(Pending::Changed(mut list)) => {
-            list.push(change)?;
-            Ok(Pending::Changed(list))
+        Pending::Below => {}
+    }
+}
+
+/// A list without changes.
+fn empty_list(alloc: Global, spare: &mut Vec<Vec<Change>>) -> Vec<Change>
+    ensures { result.items ≡ [] }
+{
+    match spare.pop() {
+        None => Vec::new(alloc),
+        Some(mut list) => {
+            list.clear();
+            list
         }
-        Some(Pending::Below) => Ok(Pending::Below),
     }
 }

@@ -28,7 +28,7 @@ pub(crate) fn came_to<N: NodeRule, L: Ledger>(
     overlay: &Overlay,
     id: u32,
     old: &NodeValue,
-    pending: Pending,
+    pending: &Pending,
     steps: &mut Steps<L>,
 ) -> Result<(Outcome, Option<(u32, RunFault)>), NoMemory>
     requires usable { IsUsable N.rule N.held N.ready store.now }
@@ -36,10 +36,10 @@ pub(crate) fn came_to<N: NodeRule, L: Ledger>(
     requires within { id < count_of store.now }
     requires old { old.now ≡ value_at store.now id }
     requires one { nat_lt id (first_of store.now) ≡ true → (i : ℕ) × (inputs_at store.now id ≡ i ∷ []) }
-    requires changes { nat_lt id (first_of store.now) ≡ false → (cs : List Change) → changes_of pending ≡ Some cs → AreChanges (map (value_at store.now) (inputs_at store.now id)) cs }
-    ensures outcome { IfOk result (λ r. r.0 ≡ asked (rules_in N.rule store.now) store.now.frame store.now.cells overlay.now id (changes_of pending)) }
+    requires changes { nat_lt id (first_of store.now) ≡ false → (cs : List Change) → changes_of pending.now ≡ Some cs → AreChanges (map (value_at store.now) (inputs_at store.now id)) cs }
+    ensures outcome { IfOk result (λ r. r.0 ≡ asked (rules_in N.rule store.now) store.now.frame store.now.cells overlay.now id (changes_of pending.now)) }
     ensures root { IfOk result (λ r. r.1 ≡ root_by id (lost_by r.0) (get nat_cmp overlay.now.roots id)) }
-    ensures steps { steps.new + 3 ≤ steps.old + cost (Some (changes_of pending)) }
+    ensures steps { steps.new + 3 ≤ steps.old + cost (Some (changes_of pending.now)) }
 {
     match pending {
         Pending::Below => Ok((Outcome::Missing, overlay.root(id, steps))),
@@ -47,7 +47,7 @@ pub(crate) fn came_to<N: NodeRule, L: Ledger>(
             if id < frame.first {
                 copied(alloc, frame, overlay, id, old, steps)
             } else {
-                probed(store, id, &changes, steps)
+                probed(store, id, changes, steps)
             }
         }
     }

@@ -37,6 +37,16 @@ impl Overlay {
         }
     }
 
+    /// Nothing is another from now on.
+    pub(crate) fn clear(&mut self)
+        ensures { IsEmpty self.new }
+    {
+        self.waiting.clear();
+        self.lost.clear();
+        self.changes.clear();
+        self.roots.clear();
+    }
+
     /// The change of an id's value, where it is another. One step.
     pub(crate) fn changed<L: Ledger>(&self, id: u32, steps: &mut Steps<L>) -> Option<&NodeChange>
         ensures change { option_copied result ≡ get nat_cmp self.now.changes id }

@@ -60,7 +60,7 @@ impl Trial {
             return Ok(0);
         }
         let told = answer(self.alloc, store, &mut self.overlay, moves, target, steps);
-        self.overlay = Overlay::new(self.alloc);
+        self.overlay.clear();
         told
     }
 }

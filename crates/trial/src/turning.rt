@@ -47,7 +47,8 @@ fn turn<N: NodeRule, L: Ledger>(
     }
     let frame = store.frame();
     let old = store.read(NodeId(turn.id), steps);
-    let (outcome, root) = came_to(alloc, store, frame, overlay, turn.id, old, pending, steps)?;
+    let (outcome, root) = came_to(alloc, store, frame, overlay, turn.id, old, &pending, steps)?;
+    overlay.waiting.give_back(pending);
     settle(alloc, frame, overlay, turn.id, old, outcome, root, steps)?;
     Ok(Some(turn))
 }

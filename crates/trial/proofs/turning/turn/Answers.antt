@@ -110,7 +110,7 @@ returns-clause-turn g c =
 pub returns-clause-course : goal.returns-clause-course
 returns-clause-course g c =
     next (map g.N.NodeRule.rule c.args.store.now.nodes.items) (map g.N.NodeRule.held c.args.store.now.nodes.items) c.args.store.now.frame c.args.store.now.cells c.requires.1.1.1.1.0.2 g.ask c.args.overlay.now c.args.front (c.args.steps.now + 4) c.requires.1.1.1.1.1.0 c.requires.1.1.1.1.1.1
-    c.in-Some.turn.layer c.in-Some.turn.id (changes_of c.in-Some.pending) (waits c.pop.new.self) c.in-Some.ensures.none c.in-Some.ensures.least c.in-Some.ensures.here c.in-Some.ensures.elsewhere
+    c.in-Some.turn.layer c.in-Some.turn.id (changes_of c.in-Some.pending) (waits c.give_back.new.self) c.in-Some.ensures.none c.in-Some.ensures.least (c.give_back.ensures c.in-Some.turn.layer c.in-Some.turn.id ∙ c.in-Some.ensures.here) (λ k i ne. c.give_back.ensures k i ∙ c.in-Some.ensures.elsewhere k i ne)
     c.in_ok-outcome.outcome c.in_ok-outcome.ensures.outcome c.in_ok-outcome.root c.settle.new.overlay (c.settle.new.steps + 4) c.in_ok-outcome.ensures.root
     (rw (c.frame-frame.ensures, c.read-old.ensures.value) at c.in_ok-settle.ensures.told)
     c.in_ok-settle.ensures.lost_here c.in_ok-settle.ensures.lost_elsewhere

@@ -1,10 +1,11 @@
-use Rattle.std.proofs.Common.{ap, ◌∙◌}
-use Rattle.std.specs.Option.{option_map}
-use Rattle.store_turns.specs.Waits.{changes_of}
-use Rattle.store_turns.proofs.TurnOrder.{other_turn}
+use Rattle.std.specs.BTreeMap.{get}
+use Rattle.store_turns.specs.Waits.{turn_cmp}
+use Rattle.store_turns.specs.Entries.{turn_at, pending_at}
+use Rattle.store_turns.proofs.ShortLists.{when_ok}
+use Rattle.store_turns.proofs.TwoParts.{added_here}
 use Rattle.store_turns.proofs.waiting.Waiting.push.Goals as goal
 
-pub returns-clause-elsewhere : goal.returns-clause-elsewhere
-returns-clause-elsewhere g c = λ l i ne.
-    let away = other_turn c.args.turn (record { layer = l; id = i }) ne in
-    ap (option_map changes_of) (c.in_ok-insert.ensures.updates.2 (record { layer = l; id = i }) away ∙ c.remove-before.ensures.updates.2 (record { layer = l; id = i }) away)
+pub returns-in-Some-clause-here : goal.returns-in-Some-clause-here
+returns-in-Some-clause-here g c =
+    let es = c.args.self.now.near.entries.items in
+    when_ok c.add.result _ _ (λ e. added_here (turn_at es c.in-Some.place) c.args.turn es c.add.new.self.entries.items (get turn_cmp c.args.self.now.far c.args.turn) (pending_at es c.in-Some.place) c.args.change c.in-Some.ensures.1 c.add.ensures.before e) c.add.ensures.here

@@ -1,8 +1,0 @@
-use Rattle.std.proofs.Common.{ap}
-use Rattle.std.specs.Option.{option_map}
-use Rattle.store_turns.specs.Waits.{changes_of}
-use Rattle.store_turns.proofs.TurnOrder.{other_turn}
-use Rattle.store_turns.proofs.waiting.Waiting.block.Goals as goal
-
-pub returns-clause-elsewhere : goal.returns-clause-elsewhere
-returns-clause-elsewhere g c = λ l i ne. ap (option_map changes_of) (c.in_ok-insert.ensures.updates.2 (record { layer = l; id = i }) (other_turn c.args.turn (record { layer = l; id = i }) ne))
