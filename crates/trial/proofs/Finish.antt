@@ -1,12 +1,12 @@
 -- What is told at the end of a trial: the difference, or the least failing id on which the target stands.
-use Rattle.std.proofs.Common.{◌≡◌, ◌≢◌, ◌⊎◌, inl, inr, ℕ, ℤ, pos, zero, suc, ◌+◌, ◌*◌, ◌-ℤ◌, ◌<◌, ◌≤◌, Bool, true, false, List, [], ◌∷◌, map, length, Option, Some, None, Result, Ok, Err, refl, sym, ap, ◌∙◌, subst, arith}
+use Rattle.std.proofs.Common.{◌≡◌, ◌≢◌, inl, inr, ℕ, ℤ, pos, zero, suc, ◌-ℤ◌, ◌<◌, ◌≤◌, Bool, true, false, List, [], ◌∷◌, map, length, Option, Some, None, Result, Ok, Err, refl, sym, ap, ◌∙◌, subst, arith}
 use Rattle.std.specs.BTreeMap.{BTreeMap, get}
 use Rattle.std.specs.Bool.{◌==◌}
 use Rattle.std.proofs.lemmas.Bool.Decides.{eqb_tells}
 use Rattle.std.proofs.lemmas.Int.{ints}
 use Rattle.std.specs.Ordering.{nat_cmp}
 use Rattle.cbl_base.specs.Arithmetic.{exact}
-use Rattle.cbl_base.specs.Inputs.{InputKind, number_kind, set_kind, kind_of, number_of}
+use Rattle.cbl_base.specs.Inputs.{number_kind, kind_of, number_of}
 use Rattle.cbl_base.specs.NodeLaw.{Rule}
 use Rattle.cbl_base.specs.declared.ids.VarId.{VarId}
 use Rattle.cbl_base.specs.declared.input.Input.{Input}
@@ -15,7 +15,7 @@ use Rattle.cbl_base.specs.declared.faults.RunFault.{RunFault}
 use Rattle.store_turns.specs.declared.frame.Frame.{Frame}
 use Rattle.store_turns.specs.declared.outcome.Outcome.{Outcome}
 use Rattle.store_turns.specs.declared.outcome.Outcome.TheVariants.{Value, Fails, Missing}
-use Rattle.store_turns.specs.Meaning.{Each, IsMeaning, come_to, computed, outcome_of, graph_of, inputs_in, layer_of, values_of, with_value, outcome_at}
+use Rattle.store_turns.specs.Meaning.{Each, IsMeaning, come_to, outcome_of, graph_of, inputs_in, layer_of, values_of, with_value, outcome_at}
 use Rattle.store_turns.specs.Turns.{rank}
 use Rattle.store_build.specs.Frames.{cell_of}
 use Rattle.store_build.specs.Kept.{IsKept}
@@ -23,9 +23,9 @@ use Rattle.store_build.proofs.Existence.{exists}
 use Rattle.inc_store.specs.declared.changed.NodeChange.{NodeChange}
 use Rattle.inc_store.specs.Course.{lost_or}
 use Rattle.inc_store.specs.Moves.{moved_to}
-use Rattle.trial.specs.Differences.{Among, StandsOn, itself, below, FailsBelow, AreNumbers, IsDifference, FailsAfter, Exceeds}
+use Rattle.trial.specs.Differences.{Among, StandsOn, itself, below, AreNumbers, IsDifference, FailsAfter}
 use Rattle.trial.specs.Overlays.{new_or, root_by, root_in}
-use Rattle.trial.specs.Course.{Asked, AreRoots, IsKnown, outcome_in}
+use Rattle.trial.specs.Course.{Asked, IsKnown}
 
 -- ---- lists of outcomes
 each_at : (P : ℕ → Type 0) (i : ℕ) (is : List ℕ) → Each P is → Among i is → P i

@@ -1,5 +1,5 @@
 -- A trial's turn is the turn of a commit that is only imagined.
-use Rattle.std.proofs.Common.{◌≡◌, ◌≢◌, ◌⊎◌, inl, inr, ℕ, ℤ, ◌+◌, ◌-◌, ◌*◌, ◌<◌, ◌≤◌, Bool, true, false, cond, nat_lt, ◌&&◌, List, [], ◌∷◌, map, length, slice_get, slice_index_or, Option, Some, None, IsSome, refl, sym, ap, ◌∙◌, subst, arith}
+use Rattle.std.proofs.Common.{◌≡◌, ◌≢◌, ◌⊎◌, inl, inr, ℕ, ◌+◌, ◌-◌, ◌*◌, ◌<◌, ◌≤◌, Bool, true, false, cond, nat_lt, ◌&&◌, List, [], ◌∷◌, map, length, slice_get, slice_index_or, Option, Some, None, IsSome, refl, sym, ap, ◌∙◌, subst, arith}
 use Rattle.std.specs.BTreeMap.{get}
 use Rattle.std.specs.Ordering.{nat_cmp}
 use Rattle.std.proofs.lemmas.Bool.Decides.{leb_tells, nat_tests}
@@ -12,17 +12,17 @@ use Rattle.cbl_base.specs.declared.faults.RunFault.{RunFault}
 use Rattle.store_turns.specs.declared.frame.Frame.{Frame}
 use Rattle.store_turns.specs.declared.outcome.Outcome.{Outcome}
 use Rattle.store_turns.specs.declared.outcome.Outcome.TheVariants.{Value}
-use Rattle.store_turns.specs.Meaning.{Each, IsMeaning, come_to, outcome_of, rule_value, the_one, is_empty, graph_of, inputs_in, layer_of, uses_in, values_of}
+use Rattle.store_turns.specs.Meaning.{come_to, outcome_of, rule_value, the_one, is_empty, graph_of, inputs_in, layer_of, uses_in, values_of}
 use Rattle.store_turns.specs.Waits.{Wait, waits, SameElsewhere}
 use Rattle.store_turns.specs.Telling.{positions, places_in, IsTold}
-use Rattle.store_turns.specs.Touch.{differs, cost, touch}
+use Rattle.store_turns.specs.Touch.{differs, cost}
 use Rattle.store_turns.specs.Turns.{rank}
 use Rattle.store_turns.proofs.Differs.{same_value}
 use Rattle.store_turns.proofs.NextTurn.{at_position, not_in_own, nonempty}
-use Rattle.store_build.specs.Frames.{cell_of, held_of}
+use Rattle.store_build.specs.Frames.{cell_of}
 use Rattle.store_build.specs.Kept.{IsKept}
 use Rattle.inc_store.specs.declared.changed.NodeChange.{NodeChange}
-use Rattle.inc_store.specs.Course.{with_outcome, lost_by, change_of, changed_at, turn_outcome, helds_after, lost_or, NotBefore, first_front, outcome_now}
+use Rattle.inc_store.specs.Course.{with_outcome, lost_by, change_of, changed_at, turn_outcome, helds_after, NotBefore, first_front}
 use Rattle.inc_store.specs.Moves.{moved_to, is_moved, trace_of}
 use Rattle.inc_store.specs.Stores.{IsWithin}
 use Rattle.inc_store.proofs.CourseStep.{not_lost}

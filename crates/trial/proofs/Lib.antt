@@ -1,3 +1,4 @@
+pub mod ListedChanges
 pub mod Imagined
 pub mod Roots
 pub mod Stops

@@ -1,5 +1,5 @@
 -- A trial's move is the move of a commit that is only imagined.
-use Rattle.std.proofs.Common.{◌≡◌, ◌≢◌, ◌⊎◌, inl, inr, ℕ, ℤ, ◌+◌, ◌-◌, ◌*◌, ◌<◌, ◌≤◌, Bool, true, false, cond, nat_eq, nat_lt, ◌||◌, List, [], ◌∷◌, map, length, slice_index_or, Option, Some, None, refl, sym, ap, ◌∙◌, subst, arith}
+use Rattle.std.proofs.Common.{◌≡◌, ◌≢◌, inl, inr, ℕ, ℤ, ◌+◌, ◌-◌, ◌*◌, ◌<◌, ◌≤◌, Bool, true, false, cond, nat_eq, nat_lt, ◌||◌, List, [], ◌∷◌, length, slice_index_or, Option, Some, None, refl, sym, ap, ◌∙◌, subst, arith}
 use Rattle.std.specs.BTreeMap.{get}
 use Rattle.std.specs.Ordering.{nat_cmp}
 use Rattle.std.proofs.lemmas.Bool.Decides.{eqb_tells, leb_tells}
@@ -8,26 +8,25 @@ use Rattle.cbl_base.specs.NodeLaw.{Rule}
 use Rattle.cbl_base.specs.declared.ids.VarId.{VarId}
 use Rattle.cbl_base.specs.declared.input.Input.{Input}
 use Rattle.cbl_base.specs.declared.input.Input.TheVariants.{Int}
-use Rattle.cbl_base.specs.declared.faults.RunFault.{RunFault}
 use Rattle.store_turns.specs.declared.frame.Frame.{Frame}
 use Rattle.store_turns.specs.declared.outcome.Outcome.TheVariants.{Value}
-use Rattle.store_turns.specs.Meaning.{graph_of, inputs_in, layer_of, uses_in, values_of}
+use Rattle.store_turns.specs.Meaning.{graph_of, inputs_in, layer_of, uses_in}
 use Rattle.store_turns.specs.Waits.{waits}
 use Rattle.store_turns.specs.Telling.{positions, places_in, IsTold}
 use Rattle.store_turns.specs.Touch.{differs}
 use Rattle.store_turns.proofs.Differs.{same_value}
 use Rattle.store_turns.proofs.NextTurn.{nonempty}
-use Rattle.store_build.specs.Frames.{cell_of, held_of}
+use Rattle.store_build.specs.Frames.{cell_of}
 use Rattle.store_build.specs.Kept.{IsKept}
-use Rattle.inc_store.specs.Course.{with_outcome, lost_by, change_of, InCourse, NotBefore, first_front}
+use Rattle.inc_store.specs.Course.{with_outcome, lost_by, change_of, NotBefore, first_front}
 use Rattle.inc_store.specs.Moves.{AreMoves, LaterThanMoves, moved_to, is_moved, trace_of}
 use Rattle.inc_store.specs.Stores.{IsWithin}
 use Rattle.inc_store.proofs.CourseStep.{not_lost, other_cell}
-use Rattle.inc_store.proofs.MoveSteps.{higher, in_frame, kind_move, unlost_move, limit_move, move_step, moves_over, started}
+use Rattle.inc_store.proofs.MoveSteps.{higher, kind_move, limit_move, move_step, moves_over, started}
 use Rattle.inc_store.proofs.NodeLists.{values_all}
 use Rattle.trial.specs.declared.overlay.Overlay.{Overlay}
 use Rattle.trial.specs.Overlays.{IsEmpty, noted, root_by}
-use Rattle.trial.specs.Course.{Asked, InProbe, AreRoots, course_of}
+use Rattle.trial.specs.Course.{Asked, InProbe, course_of}
 use Rattle.trial.proofs.Roots.{still_roots}
 
 module _ (rules : List Rule) (nodes : List (List Input)) (frame : Frame) (cells : List Input) (kept : IsKept rules nodes frame cells) (ask : Asked) (v : Overlay) (steps : ℕ)

@@ -1,5 +1,5 @@
 -- When nothing waits up to the target, all up to there have come to what they come to after the moves.
-use Rattle.std.proofs.Common.{◌≡◌, ◌≢◌, inl, inr, ℕ, ◌+◌, ◌*◌, ◌<◌, ◌≤◌, Bool, true, false, List, length, Option, Some, None, IsSome, refl, sym, ap, ◌∙◌, subst, arith}
+use Rattle.std.proofs.Common.{◌≡◌, inl, inr, ℕ, ◌+◌, ◌<◌, ◌≤◌, Bool, true, false, List, length, Option, None, IsSome, refl, sym, ap, ◌∙◌, subst, arith}
 use Rattle.std.specs.BTreeMap.{BTreeMap, get}
 use Rattle.std.specs.Ordering.{nat_cmp}
 use Rattle.std.proofs.lemmas.Bool.Decides.{leb_tells}
@@ -22,7 +22,7 @@ use Rattle.inc_store.specs.Moves.{moved_to, trace_of}
 use Rattle.inc_store.proofs.Limits.{outcome_final}
 use Rattle.trial.specs.declared.overlay.Overlay.{Overlay}
 use Rattle.trial.specs.Overlays.{new_or}
-use Rattle.trial.specs.Course.{Asked, InProbe, IsKnown, course_of, outcome_in}
+use Rattle.trial.specs.Course.{Asked, InProbe, IsKnown, course_of}
 use Rattle.trial.proofs.Imagined.{newest_is}
 
 module _ (rules : List Rule) (nodes : List (List Input)) (frame : Frame) (cells : List Input) (kept : IsKept rules nodes frame cells) (ask : Asked) (v : Overlay) (front steps : ℕ)

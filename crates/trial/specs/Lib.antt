@@ -1,3 +1,4 @@
 pub mod Differences
 pub mod Overlays
+pub mod ChangeLists
 pub mod Course

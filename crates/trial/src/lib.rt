@@ -7,6 +7,7 @@
 #![tactic(auto)]
 
 mod asking;
+mod changes;
 mod ending;
 mod fault;
 mod moving;

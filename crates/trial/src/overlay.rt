@@ -5,6 +5,7 @@ ghost use Rattle.std.specs.Ordering.{nat_cmp};
 ghost use Rattle.inc_store.specs.Course.{changed_at};
 ghost use Rattle.trial.specs.Overlays.{IsEmpty, lesser};
 
+use crate::changes::Changes;
 use cbl_base::{NoMemory, NodeId, NodeValue, RunFault, Steps};
 use inc_store::NodeChange;
 use std::alloc::Global;
@@ -19,7 +20,7 @@ pub struct Overlay {
     /// The ids without a value, each with its fault where that is its own.
     pub(crate) lost: BTreeMap<u32, Option<RunFault>>,
     /// The values that are others.
-    pub(crate) changes: BTreeMap<u32, NodeChange>,
+    pub(crate) changes: Changes,
     /// The least failing node below each id that uses a lost one, and its fault.
     pub(crate) roots: BTreeMap<u32, (u32, RunFault)>,
 }
@@ -32,7 +33,7 @@ impl Overlay {
         Overlay {
             waiting: Waiting::new(alloc),
             lost: BTreeMap::new(alloc),
-            changes: BTreeMap::new(alloc),
+            changes: Changes::new(alloc),
             roots: BTreeMap::new(alloc),
         }
     }
@@ -53,7 +54,7 @@ impl Overlay {
         ensures steps { steps.new ≡ steps.old + 1 }
     {
         steps.tick();
-        self.changes.get(&id)
+        self.changes.get(id)
     }
 
     /// Whether an id has no value, and its fault where that is its own. One step.
@@ -91,8 +92,7 @@ impl Overlay {
     {
         steps.tick();
         let node = NodeId(id);
-        self.changes.insert(id, NodeChange { node, old, new })?;
-        Ok(())
+        self.changes.set(NodeChange { node, old, new })
     }
 
     /// The id has no value from now on. One step.

@@ -43,6 +43,7 @@ fn turn<N: NodeRule, L: Ledger>(
         return Ok(None);
     };
     if is_past(turn, target) {
+        overlay.waiting.give_back(pending);
         return Ok(None);
     }
     let frame = store.frame();

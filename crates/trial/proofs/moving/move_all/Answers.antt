@@ -1,8 +1,8 @@
-use Rattle.std.proofs.Common.{ℤ, pos, ◌≡◌, ◌+◌, ◌-◌, ◌*◌, ◌<◌, ◌≤◌, All, List, length, drop, get_or, map, sym, ap, ◌∙◌, subst, arith}
+use Rattle.std.proofs.Common.{ℤ, pos, ◌+◌, ◌-◌, ◌*◌, ◌<◌, All, List, length, drop, get_or, map, sym, ap, ◌∙◌, subst, arith}
 use Rattle.cbl_base.specs.declared.ids.VarId.{VarId}
 use Rattle.cbl_base.specs.Inputs.{kind_of}
 use Rattle.store_turns.specs.declared.frame.Frame.{Frame}
-use Rattle.store_turns.specs.Meaning.{graph_of, uses_in, layer_of}
+use Rattle.store_turns.specs.Meaning.{uses_in}
 use Rattle.store_build.specs.Frames.{cell_of}
 use Rattle.inc_store.specs.Course.{first_front}
 use Rattle.inc_store.specs.Moves.{AreMoves, LaterThanMoves, moved_to}

@@ -1,4 +1,4 @@
-use Rattle.std.proofs.Common.{rules, map, refl, arith}
+use Rattle.std.proofs.Common.{rules, map, arith}
 use Rattle.trial.proofs.OneMove.{first_state}
 use Rattle.trial.proofs.trial_calls.answer.Goals as goal
 

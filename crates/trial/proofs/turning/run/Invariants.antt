@@ -1,4 +1,4 @@
-use Rattle.std.proofs.Common.{◌≡◌, ◌+◌, ◌-◌, ◌*◌, ◌≤◌}
+use Rattle.std.proofs.Common.{◌+◌, ◌-◌, ◌≤◌}
 use Rattle.store_turns.specs.Meaning.{layer_of}
 use Rattle.inc_store.specs.Course.{NotBefore, first_front}
 use Rattle.inc_store.specs.Views.{rules_in}

@@ -1,11 +1,7 @@
-use Rattle.std.proofs.Common.{rules, ◌≡◌, ℕ, ◌+◌, ◌*◌, ◌<◌, ◌≤◌, All, cond, length, map, sym, ap, ◌∙◌, refl, subst, arith, List}
-use Rattle.cbl_base.specs.declared.input.Input.{Input}
+use Rattle.std.proofs.Common.{◌+◌, ◌*◌, ◌<◌, All, length, map, sym, ap, ◌∙◌, refl, subst, arith}
 use Rattle.cbl_base.specs.Inputs.{kind_of}
-use Rattle.cbl_base.specs.declared.ids.NodeId.{NodeId}
 use Rattle.store_turns.specs.declared.frame.Frame.{Frame}
 use Rattle.store_turns.specs.Meaning.{layer_of, uses_in}
-use Rattle.store_turns.specs.Touch.{differs}
-use Rattle.store_turns.specs.Telling.{IsTold, places_in}
 use Rattle.store_turns.specs.Waits.{waits, changes_of}
 use Rattle.trial.proofs.Imagined.{key, changes_asked, one_asked, unlost, kind_asked, next, limit_asked, limit_popped, limit_state, past_all, not_below, is_below}
 use Rattle.trial.proofs.turning.turn.Goals as goal
@@ -110,7 +106,7 @@ returns-clause-turn g c =
 pub returns-clause-course : goal.returns-clause-course
 returns-clause-course g c =
     next (map g.N.NodeRule.rule c.args.store.now.nodes.items) (map g.N.NodeRule.held c.args.store.now.nodes.items) c.args.store.now.frame c.args.store.now.cells c.requires.1.1.1.1.0.2 g.ask c.args.overlay.now c.args.front (c.args.steps.now + 4) c.requires.1.1.1.1.1.0 c.requires.1.1.1.1.1.1
-    c.in-Some.turn.layer c.in-Some.turn.id (changes_of c.in-Some.pending) (waits c.give_back.new.self) c.in-Some.ensures.none c.in-Some.ensures.least (c.give_back.ensures c.in-Some.turn.layer c.in-Some.turn.id ∙ c.in-Some.ensures.here) (λ k i ne. c.give_back.ensures k i ∙ c.in-Some.ensures.elsewhere k i ne)
+    c.in-Some.turn.layer c.in-Some.turn.id (changes_of c.in-Some.pending) (waits c.give_back-2.new.self) c.in-Some.ensures.none c.in-Some.ensures.least (c.give_back-2.ensures c.in-Some.turn.layer c.in-Some.turn.id ∙ c.in-Some.ensures.here) (λ k i ne. c.give_back-2.ensures k i ∙ c.in-Some.ensures.elsewhere k i ne)
     c.in_ok-outcome.outcome c.in_ok-outcome.ensures.outcome c.in_ok-outcome.root c.settle.new.overlay (c.settle.new.steps + 4) c.in_ok-outcome.ensures.root
     (rw (c.frame-frame.ensures, c.read-old.ensures.value) at c.in_ok-settle.ensures.told)
     c.in_ok-settle.ensures.lost_here c.in_ok-settle.ensures.lost_elsewhere
