@@ -1,9 +1,9 @@
 -- Changes of inputs that are all numbers, as changes of numbers.
 use Rattle.std.proofs.Common.{pos, ◌≡◌, ◌++◌, ℕ, zero, suc, ℤ, ◌+◌, ◌<◌, true, false, List, [], ◌∷◌, length, get_or, set, take, refl, ap, sym, ◌∙◌, subst, arith}
-use Rattle.std.specs.Prelude.{Option, Some, None, IsSome, unwrap_or, slice_get, Result, Ok, Err, IsOk}
+use Rattle.std.specs.Prelude.{Option, Some, None, IsSome, All, unwrap_or, slice_get, Result, Ok, Err, IsOk}
 use Rattle.std.proofs.lemmas.Option.{slice_get_within, get_or_from_slice_get}
 use Rattle.std.proofs.lemmas.Bool.{both_ways}
-use Rattle.std.proofs.lemmas.List.{map-set, map-append, take_more, length-set}
+use Rattle.std.proofs.lemmas.List.{map-set, map-append, take_more, take_more_set, length-set}
 use Rattle.std.proofs.lemmas.List.Elements.{filter_map-append}
 use Rattle.std.proofs.lemmas.List.Sums.{fold_more}
 use Rattle.cbl_base.specs.declared.input.Input.{Input}
@@ -121,6 +121,9 @@ held_next inputs cs i r n xs h lt at held is =
 pub read_of_number : (xs : List ℤ) (cs : List Change) (i : ℕ) (r : Change) → AreChanges (as_inputs xs) cs → i < length cs → r ≡ get_or cs i r → IsSome (number_change_of r)
 read_of_number xs cs i r h lt at = is_of_number xs r (subst (λ e. IsChange (as_inputs xs) e) (sym at) (change_at (as_inputs xs) cs i r h lt))
 
+pub all_of_numbers : (xs : List ℤ) (cs : List Change) → AreChanges (as_inputs xs) cs → All (λ c. IsSome (number_change_of c)) cs
+all_of_numbers xs cs h = λ k d lt. is_of_number xs (get_or cs k d) (change_at (as_inputs xs) cs k d h lt)
+
 -- one or two changes of numbers that were read, as a list of them
 pub one_change : (cs : List Change) (r : Change) (n : NumberChange) → length cs ≡ 1 → r ≡ get_or cs 0 r → number_change_of r ≡ Some n → n ∷ [] ≡ number_changes_of cs
 one_change [] r n few at e = absurd (omega (arith, few))
@@ -169,6 +172,11 @@ change_more cs i d n lt e = ap number_changes_of (take_more cs i d lt) ∙ filte
     of_one : (c : Change) (n : NumberChange) → number_change_of c ≡ Some n → number_changes_of (c ∷ []) ≡ n ∷ []
     of_one (IntChange p old new) n e = ap (λ m. m ∷ []) (the_change _ n e)
     of_one (SetChange p added removed) n e = cc
+
+-- and where they are put into an array
+pub few_more : (few : List NumberChange) (cs : List Change) (i : ℕ) (r : Change) (n : NumberChange) → i < length few → i < length cs → r ≡ get_or cs i r → number_change_of r ≡ Some n → take i few ≡ number_changes_of (take i cs)
+    → take (i + 1) (set few i n) ≡ number_changes_of (take (i + 1) cs)
+few_more few cs i r n room lt at e held = take_more_set few i n room ∙ ap (λ t. t ++ n ∷ []) held ∙ sym (change_more cs i r n lt (ap number_change_of (sym at) ∙ e))
 
 -- ---- changes of numbers: each is a change of what stands there at its turn
 pub number_within : (xs : List ℤ) (c : NumberChange) → IsNumberChange xs c → c.place < length xs

@@ -1,5 +1,5 @@
 //! Each node over numbers is a node.
-ghost use Rattle.std.specs.Prelude.{◌≡◌, Some, IsSome, IfOk, IsTrue};
+ghost use Rattle.std.specs.Prelude.{◌≡◌, ◌≤◌, Some, IsSome, All, IfOk, IsTrue, length, take};
 ghost use Rattle.cbl_base.specs.Inputs.{kinds_of, all_numbers, numbers_of};
 ghost use Rattle.cbl_base.specs.NumberRule.{as_value, rule_of_numbers};
 ghost use Rattle.node_base.specs.NumberChanges.{number_change_of, number_changes_of, as_answer};
@@ -58,7 +58,7 @@ impl<N: NumberNode> NodeRule for OverNumbers<N> {
         Ok(())
     }
 
-    // One or two changes take no memory on the way.
+    // Up to eight changes take no memory on the way.
     fn probe(&self, changes: &[Change]) -> Result<NodeValue, NodeFault> {
         match changes.len() {
             1 => {
@@ -68,6 +68,10 @@ impl<N: NumberNode> NodeRule for OverNumbers<N> {
             2 => {
                 let both = [number_change(&changes[0]), number_change(&changes[1])];
                 probed_value(self.node.probe(both.as_slice()))
+            }
+            3..=8 => {
+                let few = few_changes(changes);
+                probed_value(self.node.probe(&few[..changes.len()]))
             }
             _ => {
                 let all = number_changes(self.alloc, changes)?;
@@ -116,6 +120,24 @@ fn number_change(change: &Change) -> NumberChange
         },
         Change::Set { .. } => unreachable!(),
     }
+}
+
+/// At most eight changes that are of numbers, at the start of an array. What stands behind them says
+/// nothing.
+fn few_changes(changes: &[Change]) -> [NumberChange; 8]
+    requires few { length changes.now ≤ 8 }
+    requires numbers { All (λ c. IsSome (number_change_of c)) changes.now }
+    ensures { take (length changes.now) result ≡ number_changes_of changes.now }
+{
+    let mut few = [NumberChange {
+        place: 0,
+        old: 0,
+        new: 0,
+    }; 8];
+    for (index, change) in changes.iter().enumerate() {
+        few[index] = number_change(change);
+    }
+    few
 }
 
 /// Those of the changes that are of numbers.

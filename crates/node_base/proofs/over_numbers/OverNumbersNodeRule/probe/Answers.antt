@@ -1,6 +1,6 @@
 use Rattle.std.proofs.Common.{◌≡◌, ◌∙◌, arith}
 use Rattle.node_base.specs.NumberChanges.{number_changes_of}
-use Rattle.node_base.proofs.ChangeLemmas.{read_of_number, are_number_changes, one_change, two_changes, probed}
+use Rattle.node_base.proofs.ChangeLemmas.{read_of_number, all_of_numbers, are_number_changes, one_change, two_changes, probed}
 use Rattle.node_base.proofs.over_numbers.OverNumbersNodeRule.probe.Goals as goal
 use Rattle.node_base.proofs.over_numbers.OverNumbersNodeRule.probe.Goals.{After-as_slice, After-as_slice-in-2}
 
@@ -35,6 +35,16 @@ probe-requires-in-2-clause-changes g c = rw (both g (goal.at.probe-requires-in-2
 pub returns-in-2 : goal.returns-in-2
 returns-in-2 g c =
     probed (g.N.NumberNode.number_rule c.args.self.now.node) _ _ _ _ _ c.requires.changes (both g (goal.at.returns-in-2 g c).After-as_slice-in-2) c.probe-in-2.ensures c.probed_value-in-2.ensures
+
+pub few_changes-few-requires-clause-numbers : goal.few_changes-few-requires-clause-numbers
+few_changes-few-requires-clause-numbers g c = all_of_numbers _ _ c.requires.changes
+
+pub probe-requires-in-3-to-8-clause-changes : goal.probe-requires-in-3-to-8-clause-changes
+probe-requires-in-3-to-8-clause-changes g c = rw c.few_changes-few.ensures (are_number_changes _ _ c.requires.changes)
+
+pub returns-in-3-to-8 : goal.returns-in-3-to-8
+returns-in-3-to-8 g c =
+    probed (g.N.NumberNode.number_rule c.args.self.now.node) _ _ _ _ _ c.requires.changes c.few_changes-few.ensures c.probe-in-3-to-8.ensures c.probed_value-in-3-to-8.ensures
 
 pub probe-requires-in_default-clause-changes : goal.probe-requires-in_default-clause-changes
 probe-requires-in_default-clause-changes g c =
