@@ -29,7 +29,7 @@ use Rattle.store_turns.specs.Meaning.{Graph, IsMeaning, graph_of, inputs_in, is_
 use Rattle.store_turns.specs.declared.frame.Frame.{Frame}
 use Rattle.store_turns.specs.declared.outcome.Outcome.{Outcome}
 use Rattle.model_store.specs.ModelStores.{Agrees, IsFaultOf, IsStoreOf, values_in}
-use Rattle.model_store.specs.Settings.{AreNodesOf, AreStartsOf, IsSetting, Setting, fresh_in, numbers_after, setting_after, users_in}
+use Rattle.model_store.specs.Settings.{AreNodesOf, AreStartsOf, IsSetting, Setting, fresh_in, numbers_after, after, users_in}
 
 -- ---- the numbers after moves
 length-numbers_after : (ms : List (VarId × ℤ)) (a : List ℤ) → length (numbers_after ms a) ≡ length a
@@ -115,13 +115,13 @@ module _ {N : Type 0} (rule : N → Rule) (held : N → List Input) (ready : N �
   moves_assigned : (setting : Setting) (s : Store N) → IsStoreOf rule held ready setting s → (ms : List (VarId × ℤ)) → AreAssigned (graph_in rule s) (numbers_after ms setting.assignment) (moved_to ms (value_at s))
   moves_assigned setting s is ms = λ id lt free. start_moved setting.assignment (value_at s) id ms (is.assigned id lt free) (free_within setting s is id free)
 
-  pub moves_fault : (setting : Setting) (s : Store N) → IsStoreOf rule held ready setting s → (ms : List (VarId × ℤ)) (stop : StoreFault) → IsStop (graph_in rule s) (moved_to ms (value_at s)) stop → IsFaultOf (setting_after ms setting) stop
+  pub moves_fault : (setting : Setting) (s : Store N) → IsStoreOf rule held ready setting s → (ms : List (VarId × ℤ)) (stop : StoreFault) → IsStop (graph_in rule s) (moved_to ms (value_at s)) stop → IsFaultOf (after ms setting) stop
   moves_fault setting s is ms stop first =
       let given = given_after setting ms is.given in
       stop_fault (users_in setting) setting.model (numbers_after ms setting.assignment) setting.total given.formed given.acyclic given.long (graph_in rule s) (moved_to ms (value_at s)) stop is.holds (moves_assigned setting s is ms) first
 
   moves_kept : (setting : Setting) (old new : Store N) → IsStoreOf rule held ready setting old → (ms : List (VarId × ℤ)) → IsUsable rule held ready new → KeepsNodes rule old new
-      → ((j : ℕ) → j < count_of old → (graph_in rule old).is_free j ≡ true → value_at new j ≡ moved_to ms (value_at old) j) → IsStoreOf rule held ready (setting_after ms setting) new
+      → ((j : ℕ) → j < count_of old → (graph_in rule old).is_free j ≡ true → value_at new j ≡ moved_to ms (value_at old) j) → IsStoreOf rule held ready (after ms setting) new
   moves_kept setting old new is ms usable keeps moved =
       let same : graph_in rule new ≡ graph_in rule old = ap (λ (rs : List Rule). graph_of rs new.frame) keeps.0 ∙ ap (λ (f : Frame). graph_of (map rule old.nodes.items) f) keeps.1 in
       record {
@@ -133,7 +133,7 @@ module _ {N : Type 0} (rule : N → Rule) (held : N → List Input) (ready : N �
       }
 
   pub moves_result : {A : Type 0} (setting : Setting) (old new : Store N) → IsStoreOf rule held ready setting old → (ms : List (VarId × ℤ)) (r : Result A StoreFault) → OnOk r (IsUsable rule held ready new) → OnOk r (KeepsNodes rule old new)
-      → OnOk r ((j : ℕ) → j < count_of old → (graph_in rule old).is_free j ≡ true → value_at new j ≡ moved_to ms (value_at old) j) → OnOk r (IsStoreOf rule held ready (setting_after ms setting) new)
+      → OnOk r ((j : ℕ) → j < count_of old → (graph_in rule old).is_free j ≡ true → value_at new j ≡ moved_to ms (value_at old) j) → OnOk r (IsStoreOf rule held ready (after ms setting) new)
   moves_result setting old new is ms (Ok a) usable keeps moved = moves_kept setting old new is ms usable keeps moved
   moves_result setting old new is ms (Err stop) usable keeps moved = tt
 

@@ -39,8 +39,8 @@ abbrev pub numbers_after : List (VarId × ℤ) → List ℤ → List ℤ
 numbers_after [] a = a
 numbers_after (m ∷ ms) a = slice_set (numbers_after ms a) m.0.index m.1
 
-abbrev pub setting_after : List (VarId × ℤ) → Setting → Setting
-setting_after ms s = record {
+abbrev pub after : List (VarId × ℤ) → Setting → Setting
+after ms s = record {
   viol_of = s.viol_of;
   viol_at = s.viol_at;
   model = s.model;

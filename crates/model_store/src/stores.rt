@@ -1,13 +1,13 @@
 //! Stores of models.
 ghost use Rattle.std.specs.Prelude.{◌≡◌, Ok, length, map, IfOk, IfErr, OnOk, is_ok};
 ghost use Rattle.store_build.specs.Aims.{AreLinked};
-ghost use Rattle.store_build.specs.Stops.{IsStop};
-ghost use Rattle.store_turns.specs.Meaning.{uses_in};
-ghost use Rattle.inc_store.specs.Moves.{AreMoves, is_moved, moved_to};
-ghost use Rattle.inc_store.specs.Stores.{IsWithin, changes_between};
-ghost use Rattle.inc_store.specs.Views.{graph_in, value_at};
-ghost use Rattle.model_store.specs.ModelStores.{Agrees, IsFaultOf, IsStoreOf, StopsAtLeast, values_in};
-ghost use Rattle.model_store.specs.Settings.{AreNodesOf, AreStartsOf, IsSetting, Setting, fresh_in, setting_after};
+ghost use Rattle.inc_store.specs.Moves.{AreMoves};
+ghost use Rattle.inc_store.specs.Stores.{changes_between};
+ghost use Rattle.inc_store.specs.Views.{graph_in};
+ghost use Rattle.model_store.specs.ModelStores.{Agrees, AreFewSteps, IsFaultOf, IsStoreOf};
+ghost use Rattle.model_store.specs.ModelStores.{StopsAt, StopsMoved, values_in};
+ghost use Rattle.model_store.specs.Settings.{AreNodesOf, AreStartsOf, IsSetting, Setting};
+ghost use Rattle.model_store.specs.Settings.{after, fresh_in};
 
 use cbl_base::{NodeRule, Steps, VarId};
 use inc_store::{Changed, LayerEval, Links, Store, StoreFault};
@@ -16,10 +16,9 @@ use std::alloc::Global;
 use std::sync::ledger::Ledger;
 
 /// A store of these nodes, which are a model's, behind the cells of the model's variables. It has the
-/// values that evaluating the model afresh gives. `Node` exactly where that has a fault, which is then this
-/// one, at the node's place: the least node whose own operation fails though all its inputs have values.
-///
-/// It takes what `Store::build` takes.
+/// values that evaluating the model afresh gives. `Node` exactly where that has a fault, which is then
+/// this one, at the node's place: the least node whose own operation fails though all its inputs have
+/// values. It takes what `Store::build` takes.
 pub fn build<N: NodeRule, E: LayerEval<N>>(
     alloc: Global,
     nodes: Vec<N>,
@@ -36,16 +35,16 @@ pub fn build<N: NodeRule, E: LayerEval<N>>(
     ensures store { IfOk result (λ s. IsStoreOf N.rule N.held N.ready setting s) }
     ensures values { IfOk result (λ s. fresh_in setting ≡ Ok (values_in setting s)) }
     ensures fault { IfErr result (λ stop. IsFaultOf setting stop) }
-    ensures least { IfErr result (λ stop. StopsAtLeast (map N.rule nodes.items) start.now links.inputs.items stop) }
+    ensures least { IfErr result (λ stop. StopsAt (map N.rule nodes.items) start.now links.inputs.items stop) }
     ensures agrees { Agrees result (fresh_in setting) }
 {
     Store::build(alloc, nodes, links, start, layers, eval)
 }
 
-/// Moves variables in a store of a model, and gives all values that are others then, in order of id. The
-/// store has the values that evaluating the model afresh after the moves gives. `Node` exactly where that has
-/// a fault, which is then this one, at the node's place: the least node whose own operation fails though all
-/// its inputs have values. After any `Err` the store isn't usable, and only then.
+/// Moves variables in a store of a model, and gives all values that are others then, in order of id.
+/// The store has the values that evaluating the model afresh after the moves gives. `Node` exactly where
+/// that has a fault, which is then this one, at the node's place: the least node whose own operation
+/// fails though all its inputs have values. After any `Err` the store isn't usable, and only then.
 pub fn commit<N: NodeRule, L: Ledger>(
     store: &mut Store<N>,
     moves: &[(VarId, i64)],
@@ -55,13 +54,13 @@ pub fn commit<N: NodeRule, L: Ledger>(
     requires store { IsStoreOf N.rule N.held N.ready setting store.old }
     requires moves { AreMoves (graph_in N.rule store.old) moves.now }
     ensures usable { store.new.is_usable ≡ is_ok result }
-    ensures store { OnOk result (IsStoreOf N.rule N.held N.ready (setting_after moves.now setting) store.new) }
-    ensures values { OnOk result (fresh_in (setting_after moves.now setting) ≡ Ok (values_in setting store.new)) }
+    ensures store { OnOk result (IsStoreOf N.rule N.held N.ready (after moves.now setting) store.new) }
+    ensures values { OnOk result (fresh_in (after moves.now setting) ≡ Ok (values_in setting store.new)) }
     ensures changed { IfOk result (λ c. c.list.items ≡ changes_between 0 store.old.cells store.new.cells) }
-    ensures fault { IfErr result (λ stop. IsFaultOf (setting_after moves.now setting) stop) }
-    ensures least { IfErr result (λ stop. IsStop (graph_in N.rule store.old) (moved_to moves.now (value_at store.old)) stop) }
-    ensures agrees { Agrees result (fresh_in (setting_after moves.now setting)) }
-    ensures steps { IsWithin (graph_in N.rule store.old) (value_at store.old) (moved_to moves.now (value_at store.old)) (is_moved moves.now) (uses_in store.old.frame) steps.old steps.new }
+    ensures fault { IfErr result (λ stop. IsFaultOf (after moves.now setting) stop) }
+    ensures least { IfErr result (λ stop. StopsMoved N.rule store.old moves.now stop) }
+    ensures agrees { Agrees result (fresh_in (after moves.now setting)) }
+    ensures steps { AreFewSteps N.rule store.old moves.now steps.old steps.new }
 {
     store.commit(moves, steps)
 }
