@@ -121,7 +121,7 @@ module _ {Z : Type 0} (users : ℕ → NumberRule) (M : Model) (rules : List Rul
       by id le (inr h) = inr (λ xs fault e. h.2 xs fault (sym (op_behind id h.0 xs (omega (arith, le)) h.1) ∙ e))
 
 -- ---- what holds over the free cells' values holds over the assignment that they hold
-meaning_assigned : (g : Graph) (a : List ℤ) (free : ℕ → Input) (o : ℕ → Outcome) → AreAssigned g a free → IsMeaning g free o → IsMeaning g (start_of a) o
+pub meaning_assigned : (g : Graph) (a : List ℤ) (free : ℕ → Input) (o : ℕ → Outcome) → AreAssigned g a free → IsMeaning g free o → IsMeaning g (start_of a) o
 meaning_assigned g a free o assigned meaning = record {
   cells = λ id lt is. meaning.cells id lt is ∙ ap (λ x. Value x) (assigned id lt is);
   nodes = meaning.nodes;

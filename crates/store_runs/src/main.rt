@@ -1,5 +1,6 @@
 //! Commits moves to stores and asks a trial before each, and says whether all answers are those from scratch: the values of
-//! all ids, what changed, each difference, each fault. What is compared is computed by plain recursion over the graphs.
+//! all ids, what changed, each difference, each fault. Where a commit meets a fault, a store over the same numbers is to
+//! meet it, too. What is compared is computed by plain recursion over the graphs.
 //!
 //! The draws are the same in each run. It claims nothing of graphs that aren't drawn, and counts no steps: that these are at
 //! most four times the touch is proved.
@@ -16,7 +17,8 @@ mod rounds;
 mod stores;
 
 use crate::draws::Draws;
-use crate::graphs::{Shape, graph_of, numbers_of};
+use crate::fresh::{all_came, least_failing};
+use crate::graphs::{Graph, Shape, graph_of, numbers_of};
 use crate::rounds::{Counts, Play, follow};
 use crate::stores::{NoStore, counted_sums, store_of};
 use cbl_base::Steps;
@@ -29,6 +31,7 @@ use trial::Trial;
 /// Nothing was seen yet.
 const NOTHING_SEEN: Counts = Counts {
     stores: 0,
+    failed: 0,
     commits: 0,
     ended: 0,
     probes: 0,
@@ -41,7 +44,27 @@ const NOTHING_SEEN: Counts = Counts {
     differences: 0,
 };
 
-/// Draws a graph of a shape, and makes so many commits in it, in one store after another.
+/// Builds a store over numbers under which a node fails, and notes whether the fault is that of the least
+/// one that does.
+fn build_failing(
+    alloc: Global,
+    graph: &Graph,
+    numbers: &[i64],
+    play: &mut Play<'_>,
+) -> Result<(), NoStore> {
+    let least = least_failing(&all_came(alloc, graph, numbers)?);
+    play.counts.failed = play.counts.failed.saturating_add(1);
+    let count = graph.lists.len().saturating_sub(numbers.len());
+    let nodes = counted_sums(alloc, count, play.calls)?;
+    match store_of(alloc, nodes, &graph.lists, numbers) {
+        Err(NoStore::Overflow(node)) if node == least => {}
+        _ => play.counts.differences = play.counts.differences.saturating_add(1),
+    }
+    Ok(())
+}
+
+/// Draws a graph of a shape, and makes so many commits in it, in one store after another. Where a commit
+/// ends a store, none can be built of the numbers after it.
 fn play_graph<L: Ledger>(
     alloc: Global,
     shape: Shape,
@@ -61,6 +84,9 @@ fn play_graph<L: Ledger>(
         let store = store_of(alloc, nodes, &graph.lists, &play.numbers)?;
         play.counts.stores = play.counts.stores.saturating_add(1);
         follow(alloc, &graph, store, play, steps);
+        if let Some(numbers) = play.failing.take() {
+            build_failing(alloc, &graph, &numbers, play)?;
+        }
     }
     Ok(())
 }
@@ -89,8 +115,9 @@ fn play_shape<R: Print + AllocGlobal, L: Ledger>(
 /// Prints what was seen.
 fn print_seen<R: Print>(rt: &R, name: &str, seen: &Counts) {
     let _told = println!(rt;
-        "{name}: {} stores, {} commits, {} into faults, {} probes, {} into faults; the last: touch {}, steps at most {}, entries {}, of variables {}, calls {}, by a probe {}; differences: {}",
+        "{name}: {} stores, {} builds into faults, {} commits, {} into faults, {} probes, {} into faults; the last: touch {}, steps at most {}, entries {}, of variables {}, calls {}, by a probe {}; differences: {}",
         seen.stores,
+        seen.failed,
         seen.commits,
         seen.ended,
         seen.probes,
@@ -119,6 +146,7 @@ fn play_all<R: Print + AllocGlobal, L: Ledger>(blank: Blank, rt: &R)
         calls: &calls,
         counts: NOTHING_SEEN,
         numbers: Vec::new(rt.alloc()),
+        failing: None,
         left: 0,
         moved: 0,
     };

@@ -18,6 +18,8 @@ use trial::{Trial, TrialFault};
 #[derive(Clone, Copy, Drop)]
 pub(crate) struct Counts {
     pub(crate) stores: u64,
+    /// Builds over numbers under which a node fails.
+    pub(crate) failed: u64,
     pub(crate) commits: u64,
     /// Commits that met a fault and ended their store.
     pub(crate) ended: u64,
@@ -45,6 +47,8 @@ pub(crate) struct Play<'a> {
     pub(crate) counts: Counts,
     /// The numbers of the variables.
     pub(crate) numbers: Vec<i64>,
+    /// The numbers under which a node failed, where the last commit met that fault.
+    pub(crate) failing: Option<Vec<i64>>,
     /// How many commits are left.
     pub(crate) left: u32,
     /// Stores whose values were others behind probes.
@@ -231,6 +235,7 @@ fn commit<N: NodeRule, L: Ledger>(
         Err(StoreFault::Node(node, RunFault::Overflow))
             if least_failing(&round.after) == node.0 && !store.usable() => {
             play.counts.ended = play.counts.ended.saturating_add(1);
+            play.failing = Some(round.numbers);
             false
         }
         Err(_) => {

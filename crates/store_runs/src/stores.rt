@@ -6,7 +6,7 @@ ghost use Rattle.store_runs.specs.Linked.{AreLists, AreWithin};
 ghost use Rattle.store_runs.specs.Numbers.{IsOfNumbers};
 
 use crate::counted::Counted;
-use cbl_base::{NoMemory, NodeId, NodeRule};
+use cbl_base::{NoMemory, NodeId, NodeRule, RunFault};
 use inc_store::{Links, PlainEval, Store, StoreFault};
 use layer_plan::{PlanStop, plan};
 use node_base::OverNumbers;
@@ -17,25 +17,33 @@ use std::sync::atomic::AtomicU64;
 /// A sum, each call of which is counted.
 pub(crate) type CountedSum<'a> = Counted<'a, OverNumbers<Sum>>;
 
-/// There is no store: a node fails, there is no memory, or the lists aren't those of a graph.
+/// There is no store.
 #[derive(Clone, Copy, Drop)]
-pub(crate) struct NoStore;
+pub(crate) enum NoStore {
+    /// This node's sum doesn't fit 64 bits.
+    Overflow(u32),
+    /// A node fails otherwise, there is no memory, or the lists aren't those of a graph.
+    Other,
+}
 
 impl From<NoMemory> for NoStore {
     fn from(_error: NoMemory) -> NoStore {
-        NoStore
+        NoStore::Other
     }
 }
 
 impl From<PlanStop> for NoStore {
     fn from(_stop: PlanStop) -> NoStore {
-        NoStore
+        NoStore::Other
     }
 }
 
 impl From<StoreFault> for NoStore {
-    fn from(_fault: StoreFault) -> NoStore {
-        NoStore
+    fn from(fault: StoreFault) -> NoStore {
+        match fault {
+            StoreFault::Node(node, RunFault::Overflow) => NoStore::Overflow(node.0),
+            _ => NoStore::Other,
+        }
     }
 }
 
@@ -75,7 +83,7 @@ pub(crate) fn store_of<N: NodeRule>(
     ensures { IfOk result (λ s. IsUsable N.rule N.held N.ready s) }
 {
     if !are_lists(lists, numbers.len(), nodes.len()) {
-        return Err(NoStore);
+        return Err(NoStore::Other);
     }
     let layers = plan(alloc, lists)?;
     let links = links_of(alloc, lists)?;
