@@ -31,11 +31,13 @@ pub fn build<N: NodeRule, E: LayerEval<N>>(
     requires given { IsSetting setting }
     requires nodes { AreNodesOf setting (map N.rule nodes.items) links.inputs.items }
     requires start { AreStartsOf setting (map N.rule nodes.items) start.now links.inputs.items }
-    requires layers { AreLinked (map N.rule nodes.items) (length start.now) links.inputs.items layers.now }
+    requires layers { AreLinked (map N.rule nodes.items)
+        (length start.now) links.inputs.items layers.now }
     ensures store { IfOk result (λ s. IsStoreOf N.rule N.held N.ready setting s) }
     ensures values { IfOk result (λ s. fresh_in setting ≡ Ok (values_in setting s)) }
     ensures fault { IfErr result (λ stop. IsFaultOf setting stop) }
-    ensures least { IfErr result (λ stop. StopsAt (map N.rule nodes.items) start.now links.inputs.items stop) }
+    ensures least { IfErr result (λ stop.
+        StopsAt (map N.rule nodes.items) start.now links.inputs.items stop) }
     ensures agrees { Agrees result (fresh_in setting) }
 {
     Store::build(alloc, nodes, links, start, layers, eval)
@@ -54,9 +56,12 @@ pub fn commit<N: NodeRule, L: Ledger>(
     requires store { IsStoreOf N.rule N.held N.ready setting store.old }
     requires moves { AreMoves (graph_in N.rule store.old) moves.now }
     ensures usable { store.new.is_usable ≡ is_ok result }
-    ensures store { OnOk result (IsStoreOf N.rule N.held N.ready (after moves.now setting) store.new) }
-    ensures values { OnOk result (fresh_in (after moves.now setting) ≡ Ok (values_in setting store.new)) }
-    ensures changed { IfOk result (λ c. c.list.items ≡ changes_between 0 store.old.cells store.new.cells) }
+    ensures store { OnOk result (IsStoreOf N.rule N.held N.ready
+        (after moves.now setting) store.new) }
+    ensures values { OnOk result (fresh_in (after moves.now setting) ≡
+        Ok (values_in setting store.new)) }
+    ensures changed { IfOk result (λ c.
+        c.list.items ≡ changes_between 0 store.old.cells store.new.cells) }
     ensures fault { IfErr result (λ stop. IsFaultOf (after moves.now setting) stop) }
     ensures least { IfErr result (λ stop. StopsMoved N.rule store.old moves.now stop) }
     ensures agrees { Agrees result (fresh_in (after moves.now setting)) }

@@ -63,7 +63,8 @@ pub(crate) fn counted_sums<'a>(
     count: usize,
     calls: &'a AtomicU64,
 ) -> Result<Vec<CountedSum<'a>>, NoMemory>
-    ensures { IfOk result (λ v. All (λ n. IsOfNumbers (⟦<CountedSum<'a> as NodeRule>⟧.rule n)) v.items) }
+    ensures { IfOk result (λ v. All (λ n.
+        IsOfNumbers (⟦<CountedSum<'a> as NodeRule>⟧.rule n)) v.items) }
 {
     let mut nodes = Vec::new(alloc);
     for _node in 0..count {
