@@ -13,7 +13,7 @@ ghost use Rattle.inc_store.specs.Course.{lost_by, change_of};
 ghost use Rattle.trial.specs.Overlays.{noted};
 
 use crate::overlay::Overlay;
-use cbl_base::{Input, NoMemory, NodeId, NodeValue, RunFault, Steps};
+use cbl_base::{NoMemory, NodeId, NodeValue, RunFault, Steps};
 use std::alloc::Global;
 use std::sync::ledger::Ledger;
 use store_turns::{Frame, Outcome, Turn, copy_of, tell};
@@ -171,16 +171,9 @@ fn keep_value<L: Ledger>(
     ensures change_elsewhere { OnOk result ((j : ℕ) → j ≢ id → get nat_cmp overlay.new.changes j ≡ get nat_cmp overlay.old.changes j) }
     ensures steps { steps.new ≤ steps.old + 1 }
 {
-    if !other {
-        return Ok(());
+    if other {
+        let before = copy_of(alloc, old)?;
+        overlay.change(id, before, value, steps)?;
     }
-    match (old, &value) {
-        (Input::Int(before), Input::Int(after)) => {
-            overlay.change(id, Input::Int(*before), Input::Int(*after), steps)
-        }
-        _ => {
-            let before = copy_of(alloc, old)?;
-            overlay.change(id, before, value, steps)
-        }
-    }
+    Ok(())
 }
