@@ -108,6 +108,7 @@ impl Waiting {
 
     /// The first that waits, by layer and then by id, which waits no more. What waited for it is taken.
     /// `None` exactly where nothing waits. One step.
+    #[inline(always)]
     pub fn pop<L: Ledger>(&mut self, steps: &mut Steps<L>) -> Option<Turn>
         ensures none { MatchOption result ((l i : ℕ) → waits self.old l i ≡ None) (λ t. waits self.old t.layer t.id ≡ Some (taken_of self.new)) }
         ensures least { MatchOption result (Unit {0}) (λ t. (l i : ℕ) → IsSome (waits self.old l i) → (t.layer < l) ⊎ ((t.layer ≡ l) × (t.id ≤ i))) }
@@ -186,6 +187,7 @@ impl Waiting {
     }
 
     /// A change waits for a node for which nothing waited.
+    #[inline(always)]
     fn push_first(&mut self, turn: Turn, change: Change) -> Result<(), NoMemory>
         requires { waits self.old turn.layer turn.id ≡ None }
         ensures here { OnOk result (waits self.new turn.layer turn.id ≡ Some (Some (change ∷ []))) }
