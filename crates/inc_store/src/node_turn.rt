@@ -3,7 +3,7 @@ ghost use Rattle.std.specs.Prelude.{◌≡◌, ◌≢◌, ℕ, ◌+◌, ◌-◌,
 ghost use Rattle.cbl_base.specs.declared.input.Change.{Change};
 ghost use Rattle.cbl_base.specs.Changes.{AreChanges, after_changes};
 ghost use Rattle.store_turns.specs.Meaning.{outcome_of, rule_value, inputs_in};
-ghost use Rattle.store_turns.specs.Waits.{changes_of};
+ghost use Rattle.store_turns.specs.Waits.{taken_of};
 ghost use Rattle.store_turns.specs.Touch.{cost};
 ghost use Rattle.store_turns.specs.declared.outcome.Outcome.TheVariants.{Value};
 ghost use Rattle.store_build.specs.Frames.{cell_of};
@@ -14,17 +14,17 @@ use cbl_base::{Change, NoMemory, NodeRule, Steps};
 use std::alloc::Global;
 use std::sync::ledger::Ledger;
 use store_build::value_of;
-use store_turns::{Frame, Outcome, Pending, copy_of};
+use store_turns::{Frame, Outcome, Waiting, copy_of};
 
-/// What an id comes to in its turn, by what waited for it. At most as many steps as there are changes,
-/// and one more.
+/// What an id comes to in its turn, by what waited for it, which is taken. At most as many steps as there
+/// are changes, and one more.
 pub(crate) fn outcome_of<N: NodeRule, L: Ledger>(
     alloc: Global,
     frame: &Frame,
     nodes: &mut Vec<N>,
     cells: &Cells,
     id: u32,
-    pending: Pending,
+    waiting: &Waiting,
     steps: &mut Steps<L>,
 ) -> Result<Outcome, NoMemory>
     requires ready { All N.ready nodes.old.items }
@@ -32,20 +32,20 @@ pub(crate) fn outcome_of<N: NodeRule, L: Ledger>(
     requires cells { length cells.now ≡ length frame.now.inputs.items }
     requires count { frame.now.first + vec_len nodes.old ≡ length frame.now.inputs.items }
     requires one { nat_lt id frame.now.first ≡ true → (i : ℕ) × (inputs_in frame.now id ≡ i ∷ []) × (i < length frame.now.inputs.items) }
-    requires changes { nat_lt id frame.now.first ≡ false → (cs : List Change) → changes_of pending ≡ Some cs → AreChanges (slice_index_or (map N.held nodes.old.items) (id - frame.now.first) []) cs }
+    requires changes { nat_lt id frame.now.first ≡ false → (cs : List Change) → taken_of waiting.now ≡ Some cs → AreChanges (slice_index_or (map N.held nodes.old.items) (id - frame.now.first) []) cs }
     ensures ready { OnOk result (All N.ready nodes.new.items) }
     ensures rules { OnOk result (map N.rule nodes.new.items ≡ map N.rule nodes.old.items) }
-    ensures held { OnOk result (map N.held nodes.new.items ≡ helds_after frame.now id (changes_of pending) (map N.held nodes.old.items)) }
-    ensures outcome { IfOk result (λ o. o ≡ turn_outcome (map N.rule nodes.old.items) (map N.held nodes.old.items) frame.now cells.now id (changes_of pending)) }
-    ensures steps { steps.new + 3 ≤ steps.old + cost (Some (changes_of pending)) }
+    ensures held { OnOk result (map N.held nodes.new.items ≡ helds_after frame.now id (taken_of waiting.now) (map N.held nodes.old.items)) }
+    ensures outcome { IfOk result (λ o. o ≡ turn_outcome (map N.rule nodes.old.items) (map N.held nodes.old.items) frame.now cells.now id (taken_of waiting.now)) }
+    ensures steps { steps.new + 3 ≤ steps.old + cost (Some (taken_of waiting.now)) }
 {
-    match pending {
-        Pending::Below => Ok(Outcome::Missing),
-        Pending::Changed(changes) => {
+    match waiting.taken() {
+        None => Ok(Outcome::Missing),
+        Some(changes) => {
             if id < frame.first {
                 copied(alloc, frame, cells, id, steps)
             } else {
-                apply_to(alloc, nodes, (id - frame.first) as usize, &changes, steps)
+                apply_to(alloc, nodes, (id - frame.first) as usize, changes, steps)
             }
         }
     }

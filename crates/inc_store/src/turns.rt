@@ -36,10 +36,10 @@ fn turn<N: NodeRule, L: Ledger>(
     ensures limit { IsWithin (graph_of (map N.rule nodes.old.items) frame.now) trace.before trace.target trace.moved (uses_in frame.now) trace.base steps.new }
     ensures over { IfOk result (λ r. MatchOption r (((l i : ℕ) → waits course.old.waiting l i ≡ None) × (map N.held nodes.new.items ≡ map N.held nodes.old.items) × (cells.new ≡ cells.old) × (course.new.lost ≡ course.old.lost) × (course.new.changes ≡ course.old.changes) × (steps.new ≡ steps.old + 1)) (λ t. (t.layer ≡ layer_of frame.now t.id) × (t.id < length frame.now.inputs.items) × (front ≤ rank (layer_of frame.now) t.id))) }
 {
-    let Some((turn, pending)) = course.waiting.pop(steps) else {
+    let Some(turn) = course.waiting.pop(steps) else {
         return Ok(None);
     };
-    let outcome = outcome_of(alloc, frame, nodes, cells, turn.id, pending, steps)?;
+    let outcome = outcome_of(alloc, frame, nodes, cells, turn.id, &course.waiting, steps)?;
     settle(frame, cells, course, turn.id, outcome, steps)?;
     Ok(Some(turn))
 }

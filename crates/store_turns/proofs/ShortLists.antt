@@ -1,12 +1,15 @@
 -- What waits in a list, each turn once.
-use Rattle.std.proofs.Common.{◌≡◌, ℕ, zero, suc, ◌+◌, ◌-◌, ◌<◌, ◌≤◌, Bool, true, false, not, ◌||◌, ◌&&◌, cond, List, [], ◌∷◌, ◌++◌, length, take, get_or, slice_set, swap_remove, Option, Some, None, IsSome, refl, sym, ap, ◌∙◌, subst, inl, inr, arith, add-one, ◌⊎◌, Result, Ok, Err, OnOk, MatchBool}
+use Rattle.std.proofs.Common.{◌≡◌, ℕ, zero, suc, ◌+◌, ◌-◌, ◌<◌, ◌≤◌, Bool, true, false, not, ◌||◌, ◌&&◌, cond, List, [], ◌∷◌, ◌++◌, length, take, get_or, slice_set, swap, swap_remove, Option, Some, None, IsSome, refl, sym, ap, ◌∙◌, subst, inl, inr, arith, add-one, ◌⊎◌, Result, Ok, Err, OnOk, MatchBool}
 use Rattle.std.specs.BTreeMap.{is_at}
+use Rattle.std.specs.Option.{option_map}
 use Rattle.std.proofs.lemmas.Bool.{cases_Bool, cond-true, cond-false}
-use Rattle.std.proofs.lemmas.List.{get_or_default, take_more, take_all}
+use Rattle.std.proofs.lemmas.List.{get_or_default, get_or-set_same, length-set, length-take, take-set, take_more, take_more_set, take_all}
+use Rattle.std.proofs.lemmas.List.Edits.{swap_is}
+use Rattle.cbl_base.specs.declared.input.Change.{Change}
 use Rattle.store_turns.specs.declared.waiting.Turn.{Turn}
 use Rattle.store_turns.specs.declared.waiting.Pending.{Pending}
 use Rattle.store_turns.specs.declared.waiting.Pending.TheVariants.{Below}
-use Rattle.store_turns.specs.Entries.{turn_cmp, look, stands_in, are_distinct, turn_at, pending_at, NotAfter, IsBefore, IsLeast, Puts}
+use Rattle.store_turns.specs.Entries.{turn_cmp, changes_of, look, stands_in, are_distinct, turn_at, pending_at, NotAfter, IsBefore, IsLeast, Puts, SameBut}
 use Rattle.store_turns.proofs.TurnOrder.{same_turn, turn_is, apart, no_later, later, before_not_after}
 
 -- ---- the head of a list
@@ -188,9 +191,6 @@ distinct_front (e ∷ es) fs h =
     let own = distinct_head e (es ++ fs) h in
     both (stands_in e.0 es) (are_distinct es) (stands_front e.0 es fs own.0) (distinct_front es fs own.1)
 
-pub distinct_left : (es es' fs : List (Turn × Pending)) → are_distinct es ≡ true → es ≡ es' ++ fs → are_distinct es' ≡ true
-distinct_left es es' fs h e = distinct_front es' fs (ap (λ (xs : List (Turn × Pending)). are_distinct xs) (sym e) ∙ h)
-
 -- ---- another thing at a place
 stands_kept : (u : Turn) (es : List (Turn × Pending)) (p : ℕ) (d : Turn × Pending) (q : Pending) → stands_in u (slice_set es p ((get_or es p d).0, q)) ≡ stands_in u es
 stands_kept u [] p d q = refl
@@ -365,6 +365,94 @@ swapped es es' p r h lt read e =
 
 pub taken_found : (es : List (Turn × Pending)) (p : ℕ) (r : Turn × Pending) → are_distinct es ≡ true → p < length es → r ≡ get_or es p r → look r.0 es ≡ Some r.1
 taken_found es p r h lt read = ap (λ (e : Turn × Pending). look e.0 es) read ∙ found_at es p r h lt ∙ ap (λ (e : Turn × Pending). Some e.1) (sym read)
+
+-- ---- the first so many of a list
+pub in_all : (n : ℕ) (es : List (Turn × Pending)) (p : ℕ) → p < length (take n es) → p < length es
+in_all n es p lt = let k = length-take n es in omega (arith, k, lt)
+
+pub in_front : (n : ℕ) (es : List (Turn × Pending)) (p : ℕ) → p < length (take n es) → p < n
+in_front n es p lt = let k = length-take n es in omega (arith, k, lt)
+
+set_in : (n p : ℕ) (es : List (Turn × Pending)) (x : Turn × Pending) → take n (slice_set es p x) ≡ slice_set (take n es) p x
+set_in zero p es x = refl
+set_in (suc n) p [] x = refl
+set_in (suc n) zero (e ∷ es) x = refl
+set_in (suc n) (suc p) (e ∷ es) x = ap (λ (xs : List (Turn × Pending)). e ∷ xs) (set_in n p es x)
+
+get_in : (n p : ℕ) (es : List (Turn × Pending)) (d : Turn × Pending) → p < length (take n es) → get_or es p d ≡ get_or (take n es) p d
+get_in zero p es d lt = absurd (omega arith)
+get_in (suc n) p [] d lt = absurd (omega arith)
+get_in (suc n) zero (e ∷ es) d lt = refl
+get_in (suc n) (suc p) (e ∷ es) d lt = get_in n p es d (omega arith)
+
+pub read_in : (n : ℕ) (es : List (Turn × Pending)) (p : ℕ) (r : Turn × Pending) → p < length (take n es) → r ≡ get_or es p r → r ≡ get_or (take n es) p r
+read_in n es p r lt read = read ∙ get_in n p es r lt
+
+front_front : (n : ℕ) (es fs : List (Turn × Pending)) → n ≤ length es → take n (es ++ fs) ≡ take n es
+front_front zero es fs le = refl
+front_front (suc n) [] fs le = absurd (omega arith)
+front_front (suc n) (e ∷ es) fs le = ap (λ (xs : List (Turn × Pending)). e ∷ xs) (front_front n es fs (omega arith))
+
+-- ---- an entry behind the first so many
+pub room_same : (n : ℕ) (es es' fs : List (Turn × Pending)) (b : Bool) → n ≤ length es → es' ≡ cond b (es ++ fs) es → take n es' ≡ take n es
+room_same n es es' fs true le e = ap (λ (xs : List (Turn × Pending)). take n xs) e ∙ front_front n es fs le
+room_same n es es' fs false le e = ap (λ (xs : List (Turn × Pending)). take n xs) e
+
+pub distinct_behind : (n : ℕ) (es : List (Turn × Pending)) (x : Turn × Pending) → are_distinct (take n es) ≡ true → are_distinct (take n (slice_set es n x)) ≡ true
+distinct_behind n es x h = ap (λ (xs : List (Turn × Pending)). are_distinct xs) (take-set es n x) ∙ h
+
+one_more : (n : ℕ) (es : List (Turn × Pending)) (t : Turn) (p : Pending) → n < length es → look t (take n es) ≡ None → Puts t (Some p) (take n es) (take (n + 1) (slice_set es n (t, p)))
+one_more n es t p lt none = pushed t p (take n es) (take (n + 1) (slice_set es n (t, p))) none (take_more_set es n (t, p) lt)
+
+pub one_more_here : (n : ℕ) (old es : List (Turn × Pending)) (t : Turn) (p : Pending) (cs : Option (List Change)) → n < length es → take n es ≡ old → look t old ≡ None → changes_of p ≡ cs → option_map changes_of (look t (take (n + 1) (slice_set es n (t, p)))) ≡ Some cs
+one_more_here n old es t p cs lt same none is =
+    ap (λ (o : Option Pending). option_map changes_of o) (one_more n es t p lt (ap (λ (xs : List (Turn × Pending)). look t xs) same ∙ none)).0 ∙ ap (λ (o : Option (List Change)). Some o) is
+
+pub one_more_other : (n : ℕ) (old es : List (Turn × Pending)) (t : Turn) (p : Pending) → n < length es → take n es ≡ old → look t old ≡ None → SameBut t old (take (n + 1) (slice_set es n (t, p)))
+one_more_other n old es t p lt same none =
+    subst (λ (xs : List (Turn × Pending)). SameBut t xs (take (n + 1) (slice_set es n (t, p)))) same (one_more n es t p lt (ap (λ (xs : List (Turn × Pending)). look t xs) same ∙ none)).1
+
+pub distinct_one_more : (n : ℕ) (old es : List (Turn × Pending)) (t : Turn) (p : Pending) → n < length es → take n es ≡ old → look t old ≡ None → are_distinct old ≡ true → are_distinct (take (n + 1) (slice_set es n (t, p))) ≡ true
+distinct_one_more n old es t p lt same none h =
+    distinct_pushed t p (take n es) (take (n + 1) (slice_set es n (t, p))) true (ap (λ (xs : List (Turn × Pending)). look t xs) same ∙ none) (ap (λ (xs : List (Turn × Pending)). are_distinct xs) same ∙ h) (take_more_set es n (t, p) lt)
+
+-- ---- another thing at a place of the first so many
+module _ (n : ℕ) (es : List (Turn × Pending)) (p : ℕ) (r : Turn × Pending) (q : Pending) (lt : p < length (take n es)) (read : r ≡ get_or es p r) (h : are_distinct (take n es) ≡ true) where
+  pub distinct_written_in : are_distinct (take n (slice_set es p (r.0, q))) ≡ true
+  distinct_written_in = ap (λ (xs : List (Turn × Pending)). are_distinct xs) (set_in n p es (r.0, q)) ∙ distinct_written (take n es) p r q h (read_in n es p r lt read)
+
+  pub written_in : Puts (turn_at (take n es) p) (Some q) (take n es) (take n (slice_set es p (r.0, q)))
+  written_in = subst (λ (xs : List (Turn × Pending)). Puts (turn_at (take n es) p) (Some q) (take n es) xs) (sym (set_in n p es (r.0, q))) (written (take n es) p r q h lt (read_in n es p r lt read))
+
+-- ---- the last of the first so many in place of another, which goes behind them
+module _ (m n : ℕ) (es es' : List (Turn × Pending)) (p : ℕ) (r : Turn × Pending) (le : m ≤ length es) (one : m ≡ n + 1) (lt : p < length (take m es)) (read : r ≡ get_or es p r) (e : es' ≡ swap es p n) where
+  behind_is : es' ≡ slice_set (slice_set es p (get_or es n r)) n (get_or es p r)
+  behind_is = e ∙ sym (swap_is es p n r (in_all m es p lt) (omega (arith, le, one)))
+
+  left_is : take n es' ≡ swap_remove (take m es) p r
+  left_is =
+      ap (λ (xs : List (Turn × Pending)). take n xs) behind_is
+      ∙ take-set (slice_set es p (get_or es n r)) n (get_or es p r)
+      ∙ set_in n p es (get_or es n r)
+      ∙ sym (swapped_is (take n es) (get_or es n r) r p)
+      ∙ ap (λ (xs : List (Turn × Pending)). swap_remove xs p r) (sym (take_more es n r (omega (arith, le, one))))
+      ∙ ap (λ (k : ℕ). swap_remove (take k es) p r) (sym one)
+
+  pub distinct_left : are_distinct (take m es) ≡ true → are_distinct (take n es') ≡ true
+  distinct_left h = distinct_swapped (take m es) (take n es') p r h lt left_is
+
+  pub left : are_distinct (take m es) ≡ true → Puts r.0 None (take m es) (take n es')
+  left h = swapped (take m es) (take n es') p r h lt (read_in m es p r lt read) left_is
+
+  goes_behind : get_or es' n none_yet ≡ r
+  goes_behind =
+      ap (λ (xs : List (Turn × Pending)). get_or xs n none_yet) behind_is
+      ∙ get_or-set_same (slice_set es p (get_or es n r)) n (get_or es p r) none_yet (let k = length-set es p (get_or es n r) in omega (arith, k, le, one))
+      ∙ sym read
+
+  pub left_found : are_distinct (take m es) ≡ true → look r.0 (take m es) ≡ Some (pending_at es' n)
+  unfolding none_yet
+  left_found h = taken_found (take m es) p r h lt (read_in m es p r lt read) ∙ ap (λ (x : Turn × Pending). Some x.1) (sym goes_behind)
 
 pub when_ok : {T E : Type 0} (r : Result T E) (P Q : Type 0) → (P → Q) → OnOk r P → OnOk r Q
 when_ok (Ok x) P Q f h = f h

@@ -119,3 +119,9 @@ before_or_later a b c (inl l) (inl k) = inl (omega (arith, l, k))
 before_or_later a b c (inl l) (inr k) = inl (omega (arith, l, k.0))
 before_or_later a b c (inr l) (inl k) = inl (omega (arith, l.0, k))
 before_or_later a b c (inr l) (inr k) = inr (l.0 ∙ k.0, omega (arith, l.1, k.1))
+
+pub before_and_after : (a b c : Turn) → IsBefore a b → NotAfter b c → IsBefore a c
+before_and_after a b c (inl l) (inl k) = inl (omega (arith, l, k))
+before_and_after a b c (inl l) (inr k) = inl (omega (arith, l, k.0))
+before_and_after a b c (inr l) (inl k) = inl (omega (arith, l.0, k))
+before_and_after a b c (inr l) (inr k) = inr (l.0 ∙ k.0, omega (arith, l.1, k.1))

@@ -1,14 +1,16 @@
 -- What waits in the short list or in the map.
-use Rattle.std.proofs.Common.{◌≡◌, ◌≢◌, ℕ, Bool, true, false, List, [], Option, Some, None, IsSome, IfSome, MatchOption, MatchBool, refl, sym, ap, ◌∙◌, subst, inl, inr, ◌⊎◌}
+use Rattle.std.proofs.Common.{◌≡◌, ◌≢◌, ℕ, Bool, true, false, List, [], take, Option, Some, None, IsSome, IfSome, MatchOption, MatchBool, refl, sym, ap, ◌∙◌, subst, inl, inr, ◌⊎◌}
 use Rattle.std.specs.Option.{option_map}
-use Rattle.std.specs.BTreeMap.{is_at}
+use Rattle.std.specs.BTreeMap.{get, is_at}
 use Rattle.std.specs.Ordering.{is_gt}
 use Rattle.cbl_base.specs.declared.input.Change.{Change}
 use Rattle.store_turns.specs.declared.waiting.Turn.{Turn}
 use Rattle.store_turns.specs.declared.waiting.Pending.{Pending}
-use Rattle.store_turns.specs.Waits.{turn_cmp, look, or_later, changes_of, and_change, NotAfter, IsBefore, IsLeast}
+use Rattle.store_turns.specs.declared.waiting.Waiting.{Waiting}
+use Rattle.store_turns.specs.declared.short_list.ShortList.{ShortList}
+use Rattle.store_turns.specs.Waits.{turn_cmp, look, or_later, changes_of, and_change, NotAfter, IsBefore, IsLeast, IsFirst, IsFarFirst, IsGone, waits}
 use Rattle.store_turns.specs.Entries.{Puts}
-use Rattle.store_turns.proofs.TurnOrder.{other_turn, not_after, later, before_not_after, not_both_ways, before_or_later}
+use Rattle.store_turns.proofs.TurnOrder.{other_turn, no_later, not_after, later, before_not_after, not_both_ways, before_or_later, before_and_after}
 
 -- what waits for a turn
 abbrev at : List (Turn × Pending) → (Turn → Option Pending) → Turn → Option (Option (List Change))
@@ -47,35 +49,67 @@ none_or_some : (o : Option Pending) → (o ≡ None) ⊎ IsSome o
 none_or_some None = inl refl
 none_or_some (Some p) = inr (some_of (Some p) p refl)
 
--- ---- the first of the map, where it has one before the least of the list
-module _ (near : List (Turn × Pending)) (far : Turn → Option Pending) (t : Turn) (least : IsLeast t near) (early : (x : Turn) × IsSome (far x) × IsBefore x t) where
-  is_early : (u : Turn) → ((q : Turn) → IsSome (far q) → is_gt (turn_cmp u q) ≡ false) → IsBefore u t
-  is_early u low = before_or_later u early.0 t (not_after u early.0 (low early.0 early.1)) early.2
-
-  not_near : (u : Turn) → IsBefore u t → look u near ≡ None
-  not_near u before =
-      elim (none_or_some (look u near)) [
+-- ---- the first of the map, where it is before all of the list
+module _ (near : List (Turn × Pending)) (far far' : Turn → Option Pending) (t : Turn) (cs : Option (List Change)) (is : IsFarFirst far far' t cs) (ahead : (u : Turn) → IsSome (look u near) → IsBefore t u) where
+  not_near : look t near ≡ None
+  not_near =
+      elim (none_or_some (look t near)) [
         | inl e ↦ e
-        | inr s ↦ absurd (not_both_ways u t before (least u s))
+        | inr s ↦ absurd (not_both_ways t t (ahead t s) (no_later t))
       ]
 
-  pub far_first : (r : Option (Turn × Pending)) → IfSome r (λ p. far p.0 ≡ Some p.1) → IfSome r (λ p. (q : Turn) → IsSome (far q) → is_gt (turn_cmp p.0 q) ≡ false) → IfSome r (λ p. (at near far p.0 ≡ Some (changes_of p.1)) × ((l i : ℕ) → IsSome (at near far (turn l i)) → NotAfter p.0 (turn l i)))
-  far_first None value low = tt
-  far_first (Some p) value low =
-      let before = is_early p.0 low in (
-        ap (λ (o : Option Pending). option_map changes_of (or_later o (far p.0))) (not_near p.0 before) ∙ ap (λ (o : Option Pending). option_map changes_of o) value,
-        λ l i s. elim (one_there (look (turn l i) near) (far (turn l i)) s) [
-          | inl k ↦ later p.0 t (turn l i) (before_not_after p.0 t before) (least (turn l i) k)
-          | inr k ↦ not_after p.0 (turn l i) (low (turn l i) k)
-        ],
-      )
-
-  pub far_gone : (far' : Turn → Option Pending) (r : Option (Turn × Pending)) → IfSome r (λ p. (q : Turn) → IsSome (far q) → is_gt (turn_cmp p.0 q) ≡ false) → IfSome r (λ p. (far' p.0 ≡ None) × ((q : Turn) → is_at (turn_cmp p.0) q ≡ false → far' q ≡ far q)) → IfSome r (λ p. (at near far' p.0 ≡ None) × ((l i : ℕ) → (l ≡ p.0.layer → i ≢ p.0.id) → at near far' (turn l i) ≡ at near far (turn l i)))
-  far_gone far' None low updates = tt
-  far_gone far' (Some p) low updates = (
-    ap (λ (o : Option Pending). option_map changes_of (or_later o (far' p.0))) (not_near p.0 (is_early p.0 low)) ∙ ap (λ (o : Option Pending). option_map changes_of o) updates.0,
-    λ l i ne. ap (λ (o : Option Pending). option_map changes_of (or_later (look (turn l i) near) o)) (updates.1 (turn l i) (other_turn p.0 (turn l i) ne)),
+  pub far_first : (at near far t ≡ Some cs) × ((l i : ℕ) → IsSome (at near far (turn l i)) → NotAfter t (turn l i))
+  far_first = (
+    ap (λ (o : Option Pending). option_map changes_of (or_later o (far t))) not_near ∙ is.0,
+    λ l i s. elim (one_there (look (turn l i) near) (far (turn l i)) s) [
+      | inl k ↦ before_not_after t (turn l i) (ahead (turn l i) k)
+      | inr k ↦ is.1 (turn l i) k
+    ],
   )
+
+  pub far_gone : (at near far' t ≡ None) × ((l i : ℕ) → (l ≡ t.layer → i ≢ t.id) → at near far' (turn l i) ≡ at near far (turn l i))
+  far_gone = (
+    ap (λ (o : Option Pending). option_map changes_of (or_later o (far' t))) not_near ∙ ap (λ (o : Option Pending). option_map changes_of o) is.2,
+    λ l i ne. ap (λ (o : Option Pending). option_map changes_of (or_later (look (turn l i) near) o)) (is.3 (turn l i) (other_turn t (turn l i) ne)),
+  )
+
+-- the list is empty, or one of the map is before its first
+pub none_ahead : (near : List (Turn × Pending)) (t : Turn) → near ≡ [] → (u : Turn) → IsSome (look u near) → IsBefore t u
+none_ahead near t empty u s = absurd (nothing (subst (λ (xs : List (Turn × Pending)). IsSome (look u xs)) empty s))
+  where
+    nothing : IsSome {T = Pending} None → ⊥
+    nothing h = cc
+
+pub one_ahead : (near : List (Turn × Pending)) (far : Turn → Option Pending) (first t : Turn) → IsLeast first near → ((x : Turn) × IsSome (far x) × IsBefore x first) → ((u : Turn) → IsSome (far u) → NotAfter t u) → (u : Turn) → IsSome (look u near) → IsBefore t u
+one_ahead near far first t least early low u s = before_and_after t first u (before_or_later t early.0 first (low early.0 early.1) early.2) (least u s)
+
+-- what the map had first is the first of all, and is gone then
+module _ (w w' : Waiting) (same : w'.near ≡ w.near) where
+  as_seen : (u : Turn) → option_map changes_of (or_later (look u (take w'.near.live w'.near.entries.items)) (get turn_cmp w'.far u)) ≡ option_map changes_of (or_later (look u (take w.near.live w.near.entries.items)) (get turn_cmp w'.far u))
+  as_seen u = ap (λ (s : ShortList). option_map changes_of (or_later (look u (take s.live s.entries.items)) (get turn_cmp w'.far u))) same
+
+  pub popped : (t : Turn) (cs : Option (List Change)) → IsFarFirst (λ u. get turn_cmp w.far u) (λ u. get turn_cmp w'.far u) t cs → ((u : Turn) → IsSome (look u (take w.near.live w.near.entries.items)) → IsBefore t u) → IsFirst w t cs × IsGone w w' t
+  popped t cs is ahead =
+      let gone = far_gone (take w.near.live w.near.entries.items) (λ u. get turn_cmp w.far u) (λ u. get turn_cmp w'.far u) t cs is ahead in
+      (far_first (take w.near.live w.near.entries.items) (λ u. get turn_cmp w.far u) (λ u. get turn_cmp w'.far u) t cs is ahead, (as_seen t ∙ gone.0, λ l i ne. as_seen (turn l i) ∙ gone.1 l i ne))
+
+  pub popped_alone : (r : Option Turn) (cs : Option (List Change)) → take w.near.live w.near.entries.items ≡ [] → MatchOption r ((u : Turn) → get turn_cmp w.far u ≡ None) (λ t. IsFarFirst (λ u. get turn_cmp w.far u) (λ u. get turn_cmp w'.far u) t cs) → MatchOption r ((l i : ℕ) → waits w l i ≡ None) (λ t. IsFirst w t cs × IsGone w w' t)
+  popped_alone None cs empty h = λ l i.
+      ap (λ (xs : List (Turn × Pending)). option_map changes_of (or_later (look (turn l i) xs) (get turn_cmp w.far (turn l i)))) empty ∙ ap (λ (o : Option Pending). option_map changes_of o) (h (turn l i))
+  popped_alone (Some t) cs empty h = popped t cs h (none_ahead (take w.near.live w.near.entries.items) t empty)
+
+pub match_map : {A : Type 0} (r : Option A) (N M : Type 0) (P Q : A → Type 0) → (N → M) → ((x : A) → P x → Q x) → MatchOption r N P → MatchOption r M Q
+match_map None N M P Q f g h = f h
+match_map (Some x) N M P Q f g h = g x h
+
+-- the first of a map, as it is told
+pub far_first_is : (far far' : Turn → Option Pending) (t : Turn) (p : Pending) (cs : Option (List Change)) → far t ≡ Some p → changes_of p ≡ cs → ((q : Turn) → IsSome (far q) → is_gt (turn_cmp t q) ≡ false) → far' t ≡ None → ((q : Turn) → is_at (turn_cmp t) q ≡ false → far' q ≡ far q) → IsFarFirst far far' t cs
+far_first_is far far' t p cs value is low none others = (
+  ap (λ (o : Option Pending). option_map changes_of o) value ∙ ap (λ (o : Option (List Change)). Some o) is,
+  λ u s. not_after t u (low u s),
+  none,
+  others,
+)
 
 -- ---- one of the list, which the map lacks, too
 pub near_gone : (near near' : List (Turn × Pending)) (far far' : Turn → Option Pending) (t u : Turn) → u ≡ t → Puts t None near near' → far' u ≡ None → ((q : Turn) → is_at (turn_cmp u) q ≡ false → far' q ≡ far q) → (at near' far' t ≡ None) × ((l i : ℕ) → (l ≡ t.layer → i ≢ t.id) → at near' far' (turn l i) ≡ at near far (turn l i))
@@ -86,23 +120,11 @@ near_gone near near' far far' t u same puts none others = (
       ∙ ap (λ (o : Option Pending). option_map changes_of (or_later (look (turn l i) near) o)) (others (turn l i) (ap (λ (x : Turn). is_at (turn_cmp x) (turn l i)) same ∙ other_turn t (turn l i) ne)),
 )
 
--- ---- the map alone
-pub far_least : (near : List (Turn × Pending)) (far : Turn → Option Pending) (r : Option (Turn × Pending)) → near ≡ [] → IfSome r (λ p. (q : Turn) → IsSome (far q) → is_gt (turn_cmp p.0 q) ≡ false) → MatchOption r (Unit {0}) (λ p. (l i : ℕ) → IsSome (at near far (turn l i)) → NotAfter p.0 (turn l i))
-far_least near far None empty low = tt
-far_least near far (Some p) empty low = λ l i s.
-    elim (one_there (look (turn l i) near) (far (turn l i)) s) [
-      | inl k ↦ absurd (nothing (subst (λ (xs : List (Turn × Pending)). IsSome (look (turn l i) xs)) empty k))
-      | inr k ↦ not_after p.0 (turn l i) (low (turn l i) k)
-    ]
-  where
-    nothing : IsSome {T = Pending} None → ⊥
-    nothing h = cc
-
 -- ---- the first of a map, and a turn
 pub tells_first : (far : Turn → Option Pending) (b : Bool) (f t : Turn) (p : Pending) → far f ≡ Some p → ((q : Turn) → IsSome (far q) → is_gt (turn_cmp f q) ≡ false) → MatchBool b (IsBefore f t) (NotAfter t f) → MatchBool b ((x : Turn) × IsSome (far x) × IsBefore x t) ((x : Turn) → IsSome (far x) → NotAfter t x)
 tells_first far true f t p value low h = (f, some_of (far f) p value, h)
 tells_first far false f t p value low h = λ x s. later t f x h (not_after f x (low x s))
 
-pub when_some : {A : Type 0} (r : Option A) (P Q : A → Type 0) → ((x : A) → P x → Q x) → IfSome r P → IfSome r Q
-when_some None P Q f h = tt
-when_some (Some x) P Q f h = f x h
+pub when_some : {A : Type 0} (r : Option A) (N : Type 0) (P Q : A → Type 0) → ((x : A) → P x → Q x) → MatchOption r N P → IfSome r Q
+when_some None N P Q f h = tt
+when_some (Some x) N P Q f h = f x h

@@ -18,4 +18,4 @@ pub use frame::Frame;
 pub use outcome::{Outcome, copy_of, same};
 pub use set_changes::{change_to, without};
 pub use telling::tell;
-pub use waiting::{Pending, Turn, Waiting};
+pub use waiting::{Turn, Waiting};

@@ -1,5 +1,5 @@
 //! A short list of nodes that wait, in no order.
-ghost use Rattle.std.specs.Prelude.{◌≡◌, ◌+◌, ◌*◌, ◌<◌, true, [], Some, None, length, IfOk, OnOk, MatchOption, MatchBool};
+ghost use Rattle.std.specs.Prelude.{◌≡◌, ◌+◌, ◌*◌, ◌<◌, ◌≤◌, true, [], ◌∷◌, take, Some, None, length, OnOk, MatchOption, MatchBool, option_copied};
 ghost use Rattle.std.specs.Option.{option_map};
 ghost use Rattle.std.specs.BTreeMap.{is_at};
 ghost use Rattle.store_turns.specs.Entries.{are_distinct, changes_of, and_change, look, turn_at, pending_at, turn_cmp, IsBefore, IsLeast, NotAfter, Puts, SameBut};
@@ -9,35 +9,46 @@ use cbl_base::{Change, NoMemory};
 use std::alloc::Global;
 use std::mem;
 
-/// Nodes that wait, each once, in no order.
+/// Nodes that wait, each once, in no order: the first so many entries. What stands behind them waits no more,
+/// and its memory serves again.
 #[derive(Drop)]
 pub(crate) struct ShortList {
     entries: Vec<(Turn, Pending)>,
-    ghost distinct: { are_distinct entries.items ≡ true },
+    live: usize,
+    ghost within: { live ≤ length entries.items },
+    ghost distinct: { are_distinct (take live entries.items) ≡ true },
 }
 
 impl ShortList {
     /// Nothing waits.
     pub(crate) fn new(alloc: Global) -> ShortList
-        ensures { result.entries.items ≡ [] }
+        ensures { result.live ≡ 0 }
     {
         ShortList {
             entries: Vec::new(alloc),
+            live: 0,
         }
+    }
+
+    /// Nothing waits from now on.
+    pub(crate) fn clear(&mut self)
+        ensures { self.new.live ≡ 0 }
+    {
+        self.live = 0;
     }
 
     /// How many nodes wait.
     pub(crate) fn len(&self) -> usize
-        ensures { result ≡ length self.now.entries.items }
+        ensures { result ≡ self.now.live }
     {
-        self.entries.len()
+        self.live
     }
 
     /// The place of a node.
     pub(crate) fn place_of(&self, turn: Turn) -> Option<usize>
-        ensures { MatchOption result (look turn self.now.entries.items ≡ None) (λ place. (place < length self.now.entries.items) × (turn_at self.now.entries.items place ≡ turn)) }
+        ensures { MatchOption result (look turn (take self.now.live self.now.entries.items) ≡ None) (λ place. (place < length (take self.now.live self.now.entries.items)) × (turn_at (take self.now.live self.now.entries.items) place ≡ turn)) }
     {
-        for (place, entry) in self.entries.iter().enumerate() {
+        for (place, entry) in self.entries[..self.live].iter().enumerate() {
             if is_same(turn, entry.0) {
                 return Some(place);
             }
@@ -47,14 +58,14 @@ impl ShortList {
 
     /// The place of the first node by layer and then by id.
     pub(crate) fn first(&self) -> Option<usize>
-        ensures { MatchOption result (self.now.entries.items ≡ []) (λ place. (place < length self.now.entries.items) × IsLeast (turn_at self.now.entries.items place) self.now.entries.items) }
+        ensures { MatchOption result (take self.now.live self.now.entries.items ≡ []) (λ place. (place < length (take self.now.live self.now.entries.items)) × IsLeast (turn_at (take self.now.live self.now.entries.items) place) (take self.now.live self.now.entries.items)) }
     {
-        if self.entries.is_empty() {
+        if self.live == 0 {
             return None;
         }
         let mut first = 0;
         let mut least = self.entries[0].0;
-        for (place, entry) in self.entries.iter().enumerate() {
+        for (place, entry) in self.entries[..self.live].iter().enumerate() {
             if is_before(entry.0, least) {
                 first = place;
                 least = entry.0;
@@ -63,60 +74,127 @@ impl ShortList {
         Some(first)
     }
 
-    /// The last of the list waits no more.
-    pub(crate) fn take_last(&mut self) -> Option<Pending>
-        ensures { MatchOption result (self.new.entries.items ≡ []) (λ _. length self.new.entries.items < length self.old.entries.items) }
-    {
-        match self.entries.pop() {
-            None => None,
-            Some((_, pending)) => Some(pending),
-        }
-    }
-
     /// The turn at a place.
     pub(crate) fn turn(&self, place: usize) -> Turn
-        requires { place < length self.now.entries.items }
-        ensures { result ≡ turn_at self.now.entries.items place }
+        requires { place < length (take self.now.live self.now.entries.items) }
+        ensures { result ≡ turn_at (take self.now.live self.now.entries.items) place }
     {
         self.entries[place].0
     }
 
-    /// This waits for a node for which nothing waited.
-    pub(crate) fn put(&mut self, turn: Turn, pending: Pending) -> Result<(), NoMemory>
-        requires { look turn self.old.entries.items ≡ None }
-        ensures { OnOk result (Puts turn (Some pending) self.old.entries.items self.new.entries.items) }
+    /// A change waits for a node for which nothing waited.
+    pub(crate) fn begin(
+        &mut self,
+        alloc: Global,
+        turn: Turn,
+        change: Change,
+    ) -> Result<(), NoMemory>
+        requires { look turn (take self.old.live self.old.entries.items) ≡ None }
+        ensures here { OnOk result (option_map changes_of (look turn (take self.new.live self.new.entries.items)) ≡ Some (Some (change ∷ []))) }
+        ensures elsewhere { OnOk result (SameBut turn (take self.old.live self.old.entries.items) (take self.new.live self.new.entries.items)) }
     {
-        self.entries.push((turn, pending))?;
+        self.make_room()?;
+        let entry = &mut self.entries[self.live];
+        entry.0 = turn;
+        begin_with(alloc, &mut entry.1, change)?;
+        self.live += 1;
+        Ok(())
+    }
+
+    /// An input of a node for which nothing waited has no value.
+    pub(crate) fn begin_blocked(&mut self, turn: Turn) -> Result<(), NoMemory>
+        requires { look turn (take self.old.live self.old.entries.items) ≡ None }
+        ensures here { OnOk result (option_map changes_of (look turn (take self.new.live self.new.entries.items)) ≡ Some None) }
+        ensures elsewhere { OnOk result (SameBut turn (take self.old.live self.old.entries.items) (take self.new.live self.new.entries.items)) }
+    {
+        self.make_room()?;
+        self.entries[self.live] = (turn, Pending::Below);
+        self.live += 1;
+        Ok(())
+    }
+
+    /// An entry stands behind those that wait.
+    fn make_room(&mut self) -> Result<(), NoMemory>
+        ensures room { OnOk result (self.new.live < length self.new.entries.items) }
+        ensures live { self.new.live ≡ self.old.live }
+        ensures same { take self.new.live self.new.entries.items ≡ take self.old.live self.old.entries.items }
+    {
+        if self.live == self.entries.len() {
+            let turn = Turn { layer: 0, id: 0 };
+            self.entries.push((turn, Pending::Below))?;
+        }
         Ok(())
     }
 
     /// One more change waits for the node at a place.
     pub(crate) fn add(&mut self, place: usize, change: Change) -> Result<(), NoMemory>
-        requires { place < length self.old.entries.items }
-        ensures before { look (turn_at self.old.entries.items place) self.old.entries.items ≡ Some (pending_at self.old.entries.items place) }
-        ensures here { OnOk result (option_map changes_of (look (turn_at self.old.entries.items place) self.new.entries.items) ≡ Some (and_change change (Some (changes_of (pending_at self.old.entries.items place))))) }
-        ensures elsewhere { OnOk result (SameBut (turn_at self.old.entries.items place) self.old.entries.items self.new.entries.items) }
+        requires { place < length (take self.old.live self.old.entries.items) }
+        ensures before { look (turn_at (take self.old.live self.old.entries.items) place) (take self.old.live self.old.entries.items) ≡ Some (pending_at (take self.old.live self.old.entries.items) place) }
+        ensures here { OnOk result (option_map changes_of (look (turn_at (take self.old.live self.old.entries.items) place) (take self.new.live self.new.entries.items)) ≡ Some (and_change change (Some (changes_of (pending_at (take self.old.live self.old.entries.items) place))))) }
+        ensures elsewhere { OnOk result (SameBut (turn_at (take self.old.live self.old.entries.items) place) (take self.old.live self.old.entries.items) (take self.new.live self.new.entries.items)) }
     {
         add_to(&mut self.entries[place].1, change)
     }
 
     /// An input of the node at a place has no value. It answers what waited.
     pub(crate) fn block(&mut self, place: usize) -> Pending
-        requires { place < length self.old.entries.items }
-        ensures here { option_map changes_of (look (turn_at self.old.entries.items place) self.new.entries.items) ≡ Some None }
-        ensures elsewhere { SameBut (turn_at self.old.entries.items place) self.old.entries.items self.new.entries.items }
+        requires { place < length (take self.old.live self.old.entries.items) }
+        ensures here { option_map changes_of (look (turn_at (take self.old.live self.old.entries.items) place) (take self.new.live self.new.entries.items)) ≡ Some None }
+        ensures elsewhere { SameBut (turn_at (take self.old.live self.old.entries.items) place) (take self.old.live self.old.entries.items) (take self.new.live self.new.entries.items) }
     {
         mem::replace(&mut self.entries[place].1, Pending::Below)
     }
 
-    /// The node at a place waits no more.
-    pub(crate) fn take(&mut self, place: usize) -> (Turn, Pending)
-        requires { place < length self.old.entries.items }
-        ensures turn { result.0 ≡ turn_at self.old.entries.items place }
-        ensures before { look result.0 self.old.entries.items ≡ Some result.1 }
-        ensures after { Puts result.0 None self.old.entries.items self.new.entries.items }
+    /// The node at a place waits no more. What waited stands behind those that wait.
+    pub(crate) fn take(&mut self, place: usize) -> Turn
+        requires { place < length (take self.old.live self.old.entries.items) }
+        ensures turn { result ≡ turn_at (take self.old.live self.old.entries.items) place }
+        ensures before { look result (take self.old.live self.old.entries.items) ≡ Some (pending_at self.new.entries.items self.new.live) }
+        ensures after { Puts result None (take self.old.live self.old.entries.items) (take self.new.live self.new.entries.items) }
     {
-        self.entries.swap_remove(place)
+        let turn = self.entries[place].0;
+        self.live -= 1;
+        self.entries.swap(place, self.live);
+        turn
+    }
+
+    /// The changes that stand behind those that wait.
+    pub(crate) fn taken(&self) -> Option<&[Change]>
+        ensures { option_copied result ≡ changes_of (pending_at self.now.entries.items self.now.live) }
+    {
+        match self.entries.get(self.live) {
+            Some(entry) => changes_in(&entry.1),
+            None => None,
+        }
+    }
+}
+
+/// The changes that wait, and `None` where an input has no value.
+pub(crate) fn changes_in(pending: &Pending) -> Option<&[Change]>
+    ensures { option_copied result ≡ changes_of pending.now }
+{
+    match pending {
+        Pending::Changed(list) => Some(list.as_slice()),
+        Pending::Below => None,
+    }
+}
+
+/// One change waits, whatever waited before.
+fn begin_with(alloc: Global, pending: &mut Pending, change: Change) -> Result<(), NoMemory>
+    ensures { OnOk result (changes_of pending.new ≡ Some (change ∷ [])) }
+{
+    match pending {
+        Pending::Changed(list) => {
+            list.clear();
+            list.push(change)?;
+            Ok(())
+        }
+        Pending::Below => {
+            let mut list = Vec::new(alloc);
+            list.push(change)?;
+            *pending = Pending::Changed(list);
+            Ok(())
+        }
     }
 }
 
@@ -125,8 +203,8 @@ pub(crate) fn add_to(pending: &mut Pending, change: Change) -> Result<(), NoMemo
     ensures { OnOk result (changes_of pending.new ≡ and_change change (Some (changes_of pending.old))) }
 {
     match pending {
-        Pending::Changed(list) => {
-            list.push(change)?;
+        Pending::Changed(changes) => {
+            changes.push(change)?;
             Ok(())
         }
         Pending::Below => Ok(()),

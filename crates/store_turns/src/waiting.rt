@@ -1,12 +1,13 @@
 //! The nodes that wait for their turn.
-ghost use Rattle.std.specs.Prelude.{◌≡◌, ℕ, ◌+◌, ◌<◌, ◌≤◌, ◌⊎◌, [], ◌∷◌, None, Some, IsSome, IfSome, OnOk, MatchOption, MatchBool, length};
+ghost use Rattle.std.specs.Prelude.{◌≡◌, ℕ, ◌+◌, ◌<◌, ◌≤◌, ◌⊎◌, [], ◌∷◌, take, None, Some, IsSome, IfSome, OnOk, MatchOption, MatchBool, length, option_copied};
 ghost use Rattle.std.specs.BTreeMap.{get};
-ghost use Rattle.store_turns.specs.Waits.{waits, changes_of, and_change, turn_cmp, look, turn_at, NotAfter, IsBefore, IsLeast, SameElsewhere, IsFirst, IsGone};
+ghost use Rattle.store_turns.specs.Waits.{waits, taken_of, changes_of, and_change, turn_cmp, look, turn_at, NotAfter, IsBefore, IsLeast, SameElsewhere, IsFirst, IsFarFirst, IsGone};
 
-use crate::short_list::{ShortList, add_to, is_before};
+use crate::short_list::{ShortList, add_to, changes_in, is_before};
 use cbl_base::{Change, NoMemory, Steps};
 use std::alloc::Global;
 use std::collections::BTreeMap;
+use std::mem;
 use std::sync::ledger::Ledger;
 
 /// Whose turn it is: a node of a layer.
@@ -27,12 +28,16 @@ pub enum Pending {
 const FEW: usize = 16;
 
 /// The nodes that wait, by layer and then by id. Each call of them is a step. The first few stand in a short
-/// list, in no order, and those for which it has no room in a map. Lists of changes that were given back serve
-/// again.
+/// list, in no order, and those for which it has no room in a map. What waited last for a node stays until
+/// something else waits, and the memory of it serves again.
 #[derive(Drop)]
 pub struct Waiting {
     near: ShortList,
     far: BTreeMap<Turn, Pending>,
+    /// What waited for the node of the map that was taken last.
+    out: Pending,
+    /// Whether the node that was taken last was one of the map.
+    is_far: bool,
     spare: Vec<Vec<Change>>,
     alloc: Global,
 }
@@ -45,6 +50,8 @@ impl Waiting {
         Waiting {
             near: ShortList::new(alloc),
             far: BTreeMap::new(alloc),
+            out: Pending::Below,
+            is_far: false,
             spare: Vec::new(alloc),
             alloc,
         }
@@ -54,17 +61,8 @@ impl Waiting {
     pub fn clear(&mut self)
         ensures { (l i : ℕ) → waits self.new l i ≡ None }
     {
-        while let Some(pending) = self.near.take_last() {
-            keep(&mut self.spare, pending);
-        }
+        self.near.clear();
         self.far.clear();
-    }
-
-    /// What waited is needed no more, and its memory serves again.
-    pub fn give_back(&mut self, pending: Pending)
-        ensures { (l i : ℕ) → waits self.new l i ≡ waits self.old l i }
-    {
-        keep(&mut self.spare, pending);
     }
 
     /// Where what waits takes its memory.
@@ -108,44 +106,74 @@ impl Waiting {
         }
     }
 
-    /// The first that waits, by layer and then by id, with what waits for it, which waits no more.
+    /// The first that waits, by layer and then by id, which waits no more. What waited for it is taken.
     /// `None` exactly where nothing waits. One step.
-    pub fn pop<L: Ledger>(&mut self, steps: &mut Steps<L>) -> Option<(Turn, Pending)>
-        ensures none { MatchOption result ((l i : ℕ) → waits self.old l i ≡ None) (λ p. waits self.old p.0.layer p.0.id ≡ Some (changes_of p.1)) }
-        ensures least { MatchOption result (Unit {0}) (λ p. (l i : ℕ) → IsSome (waits self.old l i) → (p.0.layer < l) ⊎ ((p.0.layer ≡ l) × (p.0.id ≤ i))) }
-        ensures here { MatchOption result (Unit {0}) (λ p. waits self.new p.0.layer p.0.id ≡ None) }
-        ensures elsewhere { MatchOption result (Unit {0}) (λ p. SameElsewhere (waits self.new) (waits self.old) p.0.layer p.0.id) }
+    #[inline(always)]
+    pub fn pop<L: Ledger>(&mut self, steps: &mut Steps<L>) -> Option<Turn>
+        ensures none { MatchOption result ((l i : ℕ) → waits self.old l i ≡ None) (λ t. waits self.old t.layer t.id ≡ Some (taken_of self.new)) }
+        ensures least { MatchOption result (Unit {0}) (λ t. (l i : ℕ) → IsSome (waits self.old l i) → (t.layer < l) ⊎ ((t.layer ≡ l) × (t.id ≤ i))) }
+        ensures here { MatchOption result (Unit {0}) (λ t. waits self.new t.layer t.id ≡ None) }
+        ensures elsewhere { MatchOption result (Unit {0}) (λ t. SameElsewhere (waits self.new) (waits self.old) t.layer t.id) }
         ensures steps { steps.new ≡ steps.old + 1 }
     {
         steps.tick();
         match self.near.first() {
-            None => self.far.pop_first(),
+            None => self.pop_far(),
             Some(place) => self.pop_from(place),
         }
     }
 
+    /// The changes that waited for the node that was taken last, as long as nothing else waits since. `None`
+    /// where an input of it has no value.
+    pub fn taken(&self) -> Option<&[Change]>
+        ensures { option_copied result ≡ taken_of self.now }
+    {
+        if self.is_far {
+            return changes_in(&self.out);
+        }
+        self.near.taken()
+    }
+
     /// The first that waits, where the first of the short list stands at a place.
-    fn pop_from(&mut self, place: usize) -> Option<(Turn, Pending)>
-        requires place { place < length self.old.near.entries.items }
-        requires least { IsLeast (turn_at self.old.near.entries.items place) self.old.near.entries.items }
-        ensures first { IfSome result (λ p. IsFirst self.old p.0 p.1) }
-        ensures gone { IfSome result (λ p. IsGone self.old self.new p.0) }
+    fn pop_from(&mut self, place: usize) -> Option<Turn>
+        requires place { place < length (take self.old.near.live self.old.near.entries.items) }
+        requires least { IsLeast (turn_at (take self.old.near.live self.old.near.entries.items) place) (take self.old.near.live self.old.near.entries.items) }
+        ensures first { IfSome result (λ t. IsFirst self.old t (taken_of self.new)) }
+        ensures gone { IfSome result (λ t. IsGone self.old self.new t) }
         ensures some { IsSome result }
     {
         if self.far.is_empty() {
+            self.is_far = false;
             return Some(self.near.take(place));
         }
         let turn = self.near.turn(place);
         if is_first_before(&self.far, turn) {
-            return self.far.pop_first();
+            return self.pop_far();
         }
         self.far.remove(&turn);
+        self.is_far = false;
         Some(self.near.take(place))
+    }
+
+    /// The first of the map.
+    fn pop_far(&mut self) -> Option<Turn>
+        ensures near { self.new.near ≡ self.old.near }
+        ensures far { MatchOption result ((u : Turn) → get turn_cmp self.old.far u ≡ None) (λ t. IsFarFirst (λ u. get turn_cmp self.old.far u) (λ u. get turn_cmp self.new.far u) t (taken_of self.new)) }
+    {
+        match self.far.pop_first() {
+            None => None,
+            Some((turn, pending)) => {
+                let before = mem::replace(&mut self.out, pending);
+                keep(&mut self.spare, before);
+                self.is_far = true;
+                Some(turn)
+            }
+        }
     }
 
     /// One more change waits for a node that isn't in the short list.
     fn push_later(&mut self, turn: Turn, change: Change) -> Result<(), NoMemory>
-        requires { look turn self.old.near.entries.items ≡ None }
+        requires { look turn (take self.old.near.live self.old.near.entries.items) ≡ None }
         ensures here { OnOk result (waits self.new turn.layer turn.id ≡ Some (and_change change (waits self.old turn.layer turn.id))) }
         ensures elsewhere { OnOk result (SameElsewhere (waits self.new) (waits self.old) turn.layer turn.id) }
     {
@@ -159,43 +187,56 @@ impl Waiting {
     }
 
     /// A change waits for a node for which nothing waited.
+    #[inline(always)]
     fn push_first(&mut self, turn: Turn, change: Change) -> Result<(), NoMemory>
         requires { waits self.old turn.layer turn.id ≡ None }
         ensures here { OnOk result (waits self.new turn.layer turn.id ≡ Some (Some (change ∷ []))) }
         ensures elsewhere { OnOk result (SameElsewhere (waits self.new) (waits self.old) turn.layer turn.id) }
     {
+        if self.near.len() < FEW {
+            return self.near.begin(self.alloc, turn, change);
+        }
         let mut list = empty_list(self.alloc, &mut self.spare);
         list.push(change)?;
-        self.put(turn, Pending::Changed(list))
+        self.put_far(turn, Pending::Changed(list))
     }
 
     /// An input of a node that isn't in the short list has no value.
     fn block_later(&mut self, turn: Turn) -> Result<(), NoMemory>
-        requires { look turn self.old.near.entries.items ≡ None }
+        requires { look turn (take self.old.near.live self.old.near.entries.items) ≡ None }
         ensures here { OnOk result (waits self.new turn.layer turn.id ≡ Some None) }
         ensures elsewhere { OnOk result (SameElsewhere (waits self.new) (waits self.old) turn.layer turn.id) }
     {
         if self.far.is_empty() {
-            return self.put(turn, Pending::Below);
+            return self.block_first(turn);
         }
         match self.far.remove(&turn) {
-            None => self.put(turn, Pending::Below),
+            None => self.block_first(turn),
             Some(before) => {
                 keep(&mut self.spare, before);
-                self.put(turn, Pending::Below)
+                self.block_first(turn)
             }
         }
     }
 
-    /// This waits for a node for which nothing waited.
-    fn put(&mut self, turn: Turn, pending: Pending) -> Result<(), NoMemory>
+    /// An input of a node for which nothing waited has no value.
+    fn block_first(&mut self, turn: Turn) -> Result<(), NoMemory>
+        requires { waits self.old turn.layer turn.id ≡ None }
+        ensures here { OnOk result (waits self.new turn.layer turn.id ≡ Some None) }
+        ensures elsewhere { OnOk result (SameElsewhere (waits self.new) (waits self.old) turn.layer turn.id) }
+    {
+        if self.near.len() < FEW {
+            return self.near.begin_blocked(turn);
+        }
+        self.put_far(turn, Pending::Below)
+    }
+
+    /// This waits in the map for a node for which nothing waited.
+    fn put_far(&mut self, turn: Turn, pending: Pending) -> Result<(), NoMemory>
         requires { waits self.old turn.layer turn.id ≡ None }
         ensures here { OnOk result (waits self.new turn.layer turn.id ≡ Some (changes_of pending)) }
         ensures elsewhere { OnOk result (SameElsewhere (waits self.new) (waits self.old) turn.layer turn.id) }
     {
-        if self.near.len() < FEW {
-            return self.near.put(turn, pending);
-        }
         self.far.insert(turn, pending)?;
         Ok(())
     }

@@ -5,7 +5,7 @@ ghost use Rattle.std.specs.Ordering.{nat_cmp};
 ghost use Rattle.cbl_base.specs.declared.input.Change.{Change};
 ghost use Rattle.cbl_base.specs.Changes.{AreChanges, after_changes};
 ghost use Rattle.store_turns.specs.Meaning.{outcome_of, rule_value, inputs_in};
-ghost use Rattle.store_turns.specs.Waits.{changes_of};
+ghost use Rattle.store_turns.specs.Waits.{taken_of};
 ghost use Rattle.store_turns.specs.Touch.{cost};
 ghost use Rattle.store_turns.specs.declared.outcome.Outcome.TheVariants.{Value};
 ghost use Rattle.inc_store.specs.Course.{lost_by};
@@ -17,9 +17,10 @@ use cbl_base::{Change, NoMemory, NodeFault, NodeId, NodeRule, NodeValue, RunFaul
 use inc_store::{NodeChange, Store};
 use std::alloc::Global;
 use std::sync::ledger::Ledger;
-use store_turns::{Frame, Outcome, Pending, copy_of};
+use store_turns::{Frame, Outcome, copy_of};
 
-/// What an id comes to in its turn, by what waited for it, and the failing node on which it stands then.
+/// What an id comes to in its turn, by what waited for it, which is taken, and the failing node on which it
+/// stands then.
 /// At most as many steps as there are changes, and one more.
 pub(crate) fn came_to<N: NodeRule, L: Ledger>(
     alloc: Global,
@@ -28,7 +29,6 @@ pub(crate) fn came_to<N: NodeRule, L: Ledger>(
     overlay: &Overlay,
     id: u32,
     old: &NodeValue,
-    pending: &Pending,
     steps: &mut Steps<L>,
 ) -> Result<(Outcome, Option<(u32, RunFault)>), NoMemory>
     requires usable { IsUsable N.rule N.held N.ready store.now }
@@ -36,14 +36,14 @@ pub(crate) fn came_to<N: NodeRule, L: Ledger>(
     requires within { id < count_of store.now }
     requires old { old.now ≡ value_at store.now id }
     requires one { nat_lt id (first_of store.now) ≡ true → (i : ℕ) × (inputs_at store.now id ≡ i ∷ []) }
-    requires changes { nat_lt id (first_of store.now) ≡ false → (cs : List Change) → changes_of pending.now ≡ Some cs → AreChanges (map (value_at store.now) (inputs_at store.now id)) cs }
-    ensures outcome { IfOk result (λ r. r.0 ≡ asked (rules_in N.rule store.now) store.now.frame store.now.cells overlay.now id (changes_of pending.now)) }
+    requires changes { nat_lt id (first_of store.now) ≡ false → (cs : List Change) → taken_of overlay.now.waiting ≡ Some cs → AreChanges (map (value_at store.now) (inputs_at store.now id)) cs }
+    ensures outcome { IfOk result (λ r. r.0 ≡ asked (rules_in N.rule store.now) store.now.frame store.now.cells overlay.now id (taken_of overlay.now.waiting)) }
     ensures root { IfOk result (λ r. r.1 ≡ root_by id (lost_by r.0) (get nat_cmp overlay.now.roots id)) }
-    ensures steps { steps.new + 3 ≤ steps.old + cost (Some (changes_of pending.now)) }
+    ensures steps { steps.new + 3 ≤ steps.old + cost (Some (taken_of overlay.now.waiting)) }
 {
-    match pending {
-        Pending::Below => Ok((Outcome::Missing, overlay.root(id, steps))),
-        Pending::Changed(changes) => {
+    match overlay.waiting.taken() {
+        None => Ok((Outcome::Missing, overlay.root(id, steps))),
+        Some(changes) => {
             if id < frame.first {
                 copied(alloc, frame, overlay, id, old, steps)
             } else {

@@ -39,17 +39,15 @@ fn turn<N: NodeRule, L: Ledger>(
     ensures turn { IfOk result (λ r. MatchOption r (Unit {0}) (λ t. (t.layer ≡ layer_of store.now.frame t.id) × (t.id < count_of store.now) × (front ≤ rank (layer_of store.now.frame) t.id) × (rank (layer_of store.now.frame) t.id ≤ target.layer * 4294967296 + target.id))) }
     ensures over { IfOk result (λ r. MatchOption r (((j : ℕ) → j < count_of store.now → rank (layer_of store.now.frame) j ≤ target.layer * 4294967296 + target.id → waits overlay.old.waiting (layer_of store.now.frame j) j ≡ None) × (overlay.new.lost ≡ overlay.old.lost) × (overlay.new.changes ≡ overlay.old.changes) × (overlay.new.roots ≡ overlay.old.roots) × (steps.new ≡ steps.old + 1)) (λ t. Unit {0})) }
 {
-    let Some((turn, pending)) = overlay.waiting.pop(steps) else {
+    let Some(turn) = overlay.waiting.pop(steps) else {
         return Ok(None);
     };
     if is_past(turn, target) {
-        overlay.waiting.give_back(pending);
         return Ok(None);
     }
     let frame = store.frame();
     let old = store.read(NodeId(turn.id), steps);
-    let (outcome, root) = came_to(alloc, store, frame, overlay, turn.id, old, &pending, steps)?;
-    overlay.waiting.give_back(pending);
+    let (outcome, root) = came_to(alloc, store, frame, overlay, turn.id, old, steps)?;
     settle(alloc, frame, overlay, turn.id, old, outcome, root, steps)?;
     Ok(Some(turn))
 }

@@ -1,4 +1,4 @@
-use Rattle.std.proofs.Common.{ap, ◌∙◌, Option}
+use Rattle.std.proofs.Common.{ap, take, ◌∙◌, Option}
 use Rattle.std.specs.Option.{option_map}
 use Rattle.store_turns.specs.declared.waiting.Turn.{Turn}
 use Rattle.store_turns.specs.declared.waiting.Pending.{Pending}
@@ -9,6 +9,6 @@ use Rattle.store_turns.proofs.waiting.Waiting.block_later.Goals as goal
 
 pub returns-in-Some-clause-elsewhere : goal.returns-in-Some-clause-elsewhere
 returns-in-Some-clause-elsewhere c =
-    when_ok c.put-in-Some.result _ _ (λ e l i ne.
+    when_ok c.block_first-in-Some.result _ _ (λ e l i ne.
     let u : Turn = record { layer = l; id = i } in
-    e l i ne ∙ ap (λ (o : Option Pending). option_map changes_of (or_later (look u c.args.self.now.near.entries.items) o)) (c.remove.ensures.updates.2 u (other_turn c.args.turn u ne))) c.put-in-Some.ensures.elsewhere
+    e l i ne ∙ ap (λ (o : Option Pending). option_map changes_of (or_later (look u (take c.args.self.now.near.live c.args.self.now.near.entries.items)) o)) (c.remove.ensures.updates.2 u (other_turn c.args.turn u ne))) c.block_first-in-Some.ensures.elsewhere

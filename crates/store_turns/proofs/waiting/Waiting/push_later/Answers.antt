@@ -1,4 +1,4 @@
-use Rattle.std.proofs.Common.{ap, sym, Option}
+use Rattle.std.proofs.Common.{ap, take, sym, Option}
 use Rattle.std.specs.Option.{option_map}
 use Rattle.store_turns.specs.declared.waiting.Turn.{Turn}
 use Rattle.store_turns.specs.declared.waiting.Pending.{Pending}
@@ -13,4 +13,4 @@ returns-in-Some-clause-elsewhere c =
     let writes = (c.get_mut.follows.holds c.add_to.new.pending).3 (some_of _ c.in-Some.pending.now (sym c.in-Some.ensures.value)) in
     when_ok c.add_to.result _ _ (λ e l i ne.
     let u : Turn = record { layer = l; id = i } in
-    ap (λ (o : Option Pending). option_map changes_of (or_later (look u c.args.self.now.near.entries.items) o)) (writes.2 u (other_turn c.args.turn u ne))) c.add_to.ensures
+    ap (λ (o : Option Pending). option_map changes_of (or_later (look u (take c.args.self.now.near.live c.args.self.now.near.entries.items)) o)) (writes.2 u (other_turn c.args.turn u ne))) c.add_to.ensures
