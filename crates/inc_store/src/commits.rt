@@ -44,10 +44,15 @@ pub(crate) fn commit_moves<N: NodeRule, L: Ledger>(
     requires some { 0 < length moves.now }
     ensures ready { OnOk result (All N.ready nodes.new.items) }
     ensures rules { OnOk result (map N.rule nodes.new.items ≡ map N.rule nodes.old.items) }
-    ensures kept { OnOk result (IsKept given.rules (map N.held nodes.new.items) frame.now cells.new) }
-    ensures moved { OnOk result ((j : ℕ) → j < length frame.now.inputs.items → (graph_of given.rules frame.now).is_free j ≡ true → cell_of cells.new j ≡ given.trace.target j) }
-    ensures changed { IfOk result (λ changed. changed.list.items ≡ changes_between 0 cells.old cells.new) }
-    ensures fault { IfErr result (λ stop. IsStop (graph_of given.rules frame.now) given.trace.target stop) }
+    ensures kept { OnOk result (IsKept given.rules
+        (map N.held nodes.new.items) frame.now cells.new) }
+    ensures moved { OnOk result ((j : ℕ) → j < length frame.now.inputs.items →
+        (graph_of given.rules frame.now).is_free j ≡ true →
+        cell_of cells.new j ≡ given.trace.target j) }
+    ensures changed { IfOk result (λ changed.
+        changed.list.items ≡ changes_between 0 cells.old cells.new) }
+    ensures fault { IfErr result (λ stop.
+        IsStop (graph_of given.rules frame.now) given.trace.target stop) }
     ensures steps { IsWithin (graph_of given.rules frame.now) given.trace.before given.trace.target given.trace.moved (uses_in frame.now) given.trace.base steps.new }
 {
     let mut course = Course::new(alloc);
@@ -82,7 +87,8 @@ fn move_all<L: Ledger>(
     requires frame { IsFrame given.rules frame.now given.trace.kinds }
     requires moves { AreMoves (graph_of given.rules frame.now) moves.now }
     requires target { (j : ℕ) → given.trace.target j ≡ moved_to moves.now given.trace.before j }
-    requires course { InCourse given.rules given.helds frame.now given.trace cells.old course.old (LaterThanMoves frame.now moves.now) (steps.old + 2 * length moves.now + 1) }
+    requires course { InCourse given.rules given.helds frame.now given.trace cells.old course.old
+        (LaterThanMoves frame.now moves.now) (steps.old + 2 * length moves.now + 1) }
     ensures course { OnOk result (InCourse given.rules given.helds frame.now given.trace cells.new course.new (NotBefore first_front (layer_of frame.now)) (steps.new + 1)) }
     ensures limit { IsWithin (graph_of given.rules frame.now) given.trace.before given.trace.target given.trace.moved (uses_in frame.now) given.trace.base steps.new }
 {

@@ -60,13 +60,18 @@ pub(crate) fn settle<L: Ledger>(
     requires users { All (λ u. u.0.0 < length frame.now.layers.items) (uses_in frame.now id) }
     requires kinds { (x : Input) → outcome ≡ Value x → kind_of x ≡ kind_of (cell_of cells.old id) }
     requires unlost { get nat_cmp course.old.lost id ≡ None }
-    ensures told { OnOk result (IsTold (layer_of frame.now) (uses_in frame.now id) (cell_of cells.old id) outcome (waits course.old.waiting) (waits course.new.waiting)) }
+    ensures told { OnOk result (IsTold (layer_of frame.now) (uses_in frame.now id)
+        (cell_of cells.old id) outcome (waits course.old.waiting) (waits course.new.waiting)) }
     ensures cells { OnOk result (cells.new ≡ with_outcome cells.old id outcome) }
     ensures lost_here { OnOk result (get nat_cmp course.new.lost id ≡ lost_by outcome) }
-    ensures lost_elsewhere { OnOk result ((j : ℕ) → j ≢ id → get nat_cmp course.new.lost j ≡ get nat_cmp course.old.lost j) }
-    ensures change_here { OnOk result (get nat_cmp course.new.changes id ≡ change_of id outcome (cell_of cells.old id) (get nat_cmp course.old.changes id)) }
-    ensures change_elsewhere { OnOk result ((j : ℕ) → j ≢ id → get nat_cmp course.new.changes j ≡ get nat_cmp course.old.changes j) }
-    ensures steps { steps.new ≤ steps.old + 2 + 2 * cond (differs outcome (cell_of cells.old id)) (length (uses_in frame.now id)) 0 }
+    ensures lost_elsewhere { OnOk result ((j : ℕ) → j ≢ id →
+        get nat_cmp course.new.lost j ≡ get nat_cmp course.old.lost j) }
+    ensures change_here { OnOk result (get nat_cmp course.new.changes id ≡
+        change_of id outcome (cell_of cells.old id) (get nat_cmp course.old.changes id)) }
+    ensures change_elsewhere { OnOk result ((j : ℕ) → j ≢ id →
+        get nat_cmp course.new.changes j ≡ get nat_cmp course.old.changes j) }
+    ensures steps { steps.new ≤ steps.old + 2 + 2 * cond (differs outcome (cell_of cells.old id))
+        (length (uses_in frame.now id)) 0 }
 {
     let uses = frame.uses[id as usize].as_slice();
     let other = tell(
@@ -96,9 +101,12 @@ fn keep<L: Ledger>(
     ensures waiting { OnOk result (course.new.waiting ≡ course.old.waiting) }
     ensures cells { OnOk result (cells.new ≡ with_outcome cells.old id outcome) }
     ensures lost_here { OnOk result (get nat_cmp course.new.lost id ≡ lost_by outcome) }
-    ensures lost_elsewhere { OnOk result ((j : ℕ) → j ≢ id → get nat_cmp course.new.lost j ≡ get nat_cmp course.old.lost j) }
-    ensures change_here { OnOk result (get nat_cmp course.new.changes id ≡ change_of id outcome (cell_of cells.old id) (get nat_cmp course.old.changes id)) }
-    ensures change_elsewhere { OnOk result ((j : ℕ) → j ≢ id → get nat_cmp course.new.changes j ≡ get nat_cmp course.old.changes j) }
+    ensures lost_elsewhere { OnOk result ((j : ℕ) → j ≢ id →
+        get nat_cmp course.new.lost j ≡ get nat_cmp course.old.lost j) }
+    ensures change_here { OnOk result (get nat_cmp course.new.changes id ≡
+        change_of id outcome (cell_of cells.old id) (get nat_cmp course.old.changes id)) }
+    ensures change_elsewhere { OnOk result ((j : ℕ) → j ≢ id →
+        get nat_cmp course.new.changes j ≡ get nat_cmp course.old.changes j) }
     ensures steps { steps.new ≤ steps.old + 1 }
 {
     match outcome {
@@ -128,8 +136,10 @@ fn keep_value<L: Ledger>(
     ensures waiting { OnOk result (course.new.waiting ≡ course.old.waiting) }
     ensures lost { OnOk result (course.new.lost ≡ course.old.lost) }
     ensures cells { OnOk result (cells.new ≡ with_outcome cells.old id (Value value)) }
-    ensures change_here { OnOk result (get nat_cmp course.new.changes id ≡ change_of id (Value value) (cell_of cells.old id) (get nat_cmp course.old.changes id)) }
-    ensures change_elsewhere { OnOk result ((j : ℕ) → j ≢ id → get nat_cmp course.new.changes j ≡ get nat_cmp course.old.changes j) }
+    ensures change_here { OnOk result (get nat_cmp course.new.changes id ≡
+        change_of id (Value value) (cell_of cells.old id) (get nat_cmp course.old.changes id)) }
+    ensures change_elsewhere { OnOk result ((j : ℕ) → j ≢ id →
+        get nat_cmp course.new.changes j ≡ get nat_cmp course.old.changes j) }
     ensures steps { steps.new ≤ steps.old + 1 }
 {
     let alloc = course.waiting.alloc();

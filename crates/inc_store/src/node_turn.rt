@@ -31,12 +31,18 @@ pub(crate) fn outcome_of<N: NodeRule, L: Ledger>(
     requires within { id < length frame.now.inputs.items }
     requires cells { length cells.now ≡ length frame.now.inputs.items }
     requires count { frame.now.first + vec_len nodes.old ≡ length frame.now.inputs.items }
-    requires one { nat_lt id frame.now.first ≡ true → (i : ℕ) × (inputs_in frame.now id ≡ i ∷ []) × (i < length frame.now.inputs.items) }
-    requires changes { nat_lt id frame.now.first ≡ false → (cs : List Change) → taken_of waiting.now ≡ Some cs → AreChanges (slice_index_or (map N.held nodes.old.items) (id - frame.now.first) []) cs }
+    requires one { nat_lt id frame.now.first ≡ true →
+        (i : ℕ) × (inputs_in frame.now id ≡ i ∷ []) × (i < length frame.now.inputs.items) }
+    requires changes { nat_lt id frame.now.first ≡ false → (cs : List Change) →
+        taken_of waiting.now ≡ Some cs → AreChanges
+        (slice_index_or (map N.held nodes.old.items) (id - frame.now.first) []) cs }
     ensures ready { OnOk result (All N.ready nodes.new.items) }
     ensures rules { OnOk result (map N.rule nodes.new.items ≡ map N.rule nodes.old.items) }
-    ensures held { OnOk result (map N.held nodes.new.items ≡ helds_after frame.now id (taken_of waiting.now) (map N.held nodes.old.items)) }
-    ensures outcome { IfOk result (λ o. o ≡ turn_outcome (map N.rule nodes.old.items) (map N.held nodes.old.items) frame.now cells.now id (taken_of waiting.now)) }
+    ensures held { OnOk result (map N.held nodes.new.items ≡
+        helds_after frame.now id (taken_of waiting.now) (map N.held nodes.old.items)) }
+    ensures outcome { IfOk result (λ o.
+        o ≡ turn_outcome (map N.rule nodes.old.items)
+        (map N.held nodes.old.items) frame.now cells.now id (taken_of waiting.now)) }
     ensures steps { steps.new + 3 ≤ steps.old + cost (Some (taken_of waiting.now)) }
 {
     match waiting.taken() {
@@ -61,7 +67,8 @@ fn copied<L: Ledger>(
 ) -> Result<Outcome, NoMemory>
     requires within { id < length frame.now.inputs.items }
     requires one { (i : ℕ) × (inputs_in frame.now id ≡ i ∷ []) × (i < length cells.now) }
-    ensures outcome { IfOk result (λ o. o ≡ Value (cell_of cells.now (slice_index_or (inputs_in frame.now id) 0 0))) }
+    ensures outcome { IfOk result (λ o.
+        o ≡ Value (cell_of cells.now (slice_index_or (inputs_in frame.now id) 0 0))) }
     ensures steps { steps.new ≡ steps.old + 1 }
 {
     let input = frame.inputs[id as usize][0];
@@ -82,8 +89,12 @@ fn apply_to<N: NodeRule, L: Ledger>(
     requires changes { AreChanges (slice_index_or (map N.held nodes.old.items) at []) changes.now }
     ensures ready { OnOk result (All N.ready nodes.new.items) }
     ensures rules { OnOk result (map N.rule nodes.new.items ≡ map N.rule nodes.old.items) }
-    ensures held { OnOk result (map N.held nodes.new.items ≡ slice_set (map N.held nodes.old.items) at (after_changes (slice_index_or (map N.held nodes.old.items) at []) changes.now)) }
-    ensures value { IfOk result (λ o. o ≡ outcome_of (rule_value (slice_get (map N.rule nodes.old.items) at) (after_changes (slice_index_or (map N.held nodes.old.items) at []) changes.now))) }
+    ensures held { OnOk result (map N.held nodes.new.items ≡
+        slice_set (map N.held nodes.old.items) at
+        (after_changes (slice_index_or (map N.held nodes.old.items) at []) changes.now)) }
+    ensures value { IfOk result (λ o. o ≡
+        outcome_of (rule_value (slice_get (map N.rule nodes.old.items) at)
+        (after_changes (slice_index_or (map N.held nodes.old.items) at []) changes.now))) }
     ensures steps { steps.new ≤ steps.old + (length changes.now + 1) }
 {
     tick_each(changes, steps);

@@ -45,15 +45,25 @@ impl<N: NodeRule> Store<N> {
         layers: &Layers,
         eval: &E,
     ) -> Result<Store<N>, StoreFault>
-        requires linked { AreLinked (map N.rule nodes.items) (length start.now) links.inputs.items layers.now }
-        requires takes { (o : ℕ → Outcome) → IsMeaning (graph_over (map N.rule nodes.items) (length start.now) links.inputs.items) (start_of start.now) o → Takes (map N.rule nodes.items) (length start.now) links.inputs.items o }
+        requires linked { AreLinked (map N.rule nodes.items)
+            (length start.now) links.inputs.items layers.now }
+        requires takes { (o : ℕ → Outcome) →
+            IsMeaning (graph_over (map N.rule nodes.items) (length start.now) links.inputs.items)
+            (start_of start.now) o → Takes (map N.rule nodes.items)
+            (length start.now) links.inputs.items o }
         ensures usable { IfOk result (λ s. IsUsable N.rule N.held N.ready s) }
         ensures rules { IfOk result (λ s. rules_in N.rule s ≡ map N.rule nodes.items) }
         ensures first { IfOk result (λ s. first_of s ≡ length start.now) }
-        ensures graph { IfOk result (λ s. graph_in N.rule s ≡ graph_over (map N.rule nodes.items) (length start.now) links.inputs.items) }
+        ensures graph { IfOk result (λ s.
+            graph_in N.rule s ≡ graph_over (map N.rule nodes.items)
+            (length start.now) links.inputs.items) }
         ensures layers { IfOk result (λ s. (j : ℕ) → layer_of s.frame j ≡ layer_at layers.now j) }
-        ensures free { IfOk result (λ s. (j : ℕ) → j < length links.inputs.items → (graph_over (map N.rule nodes.items) (length start.now) links.inputs.items).is_free j ≡ true → value_at s j ≡ start_of start.now j) }
-        ensures fault { IfErr result (λ stop. IsStop (graph_over (map N.rule nodes.items) (length start.now) links.inputs.items) (start_of start.now) stop) }
+        ensures free { IfOk result (λ s. (j : ℕ) → j < length links.inputs.items →
+            (graph_over (map N.rule nodes.items) (length start.now) links.inputs.items).is_free j ≡
+            true → value_at s j ≡ start_of start.now j) }
+        ensures fault { IfErr result (λ stop.
+            IsStop (graph_over (map N.rule nodes.items) (length start.now) links.inputs.items)
+            (start_of start.now) stop) }
     {
         let parts = parts_of(alloc, nodes, links, start, layers, eval)?;
         Ok(Store {
@@ -96,10 +106,16 @@ impl<N: NodeRule> Store<N> {
         ensures usable { self.new.is_usable ≡ is_ok result }
         ensures kept { OnOk result (IsUsable N.rule N.held N.ready self.new) }
         ensures nodes { OnOk result (KeepsNodes N.rule self.old self.new) }
-        ensures moved { OnOk result ((j : ℕ) → j < count_of self.old → (graph_in N.rule self.old).is_free j ≡ true → value_at self.new j ≡ moved_to moves.now (value_at self.old) j) }
-        ensures changed { IfOk result (λ changed. changed.list.items ≡ changes_between 0 self.old.cells self.new.cells) }
-        ensures fault { IfErr result (λ stop. IsStop (graph_in N.rule self.old) (moved_to moves.now (value_at self.old)) stop) }
-        ensures steps { IsWithin (graph_in N.rule self.old) (value_at self.old) (moved_to moves.now (value_at self.old)) (is_moved moves.now) (uses_in self.old.frame) steps.old steps.new }
+        ensures moved { OnOk result ((j : ℕ) → j < count_of self.old →
+            (graph_in N.rule self.old).is_free j ≡ true →
+            value_at self.new j ≡ moved_to moves.now (value_at self.old) j) }
+        ensures changed { IfOk result (λ changed.
+            changed.list.items ≡ changes_between 0 self.old.cells self.new.cells) }
+        ensures fault { IfErr result (λ stop.
+            IsStop (graph_in N.rule self.old) (moved_to moves.now (value_at self.old)) stop) }
+        ensures steps { IsWithin (graph_in N.rule self.old) (value_at self.old)
+            (moved_to moves.now (value_at self.old)) (is_moved moves.now)
+            (uses_in self.old.frame) steps.old steps.new }
     {
         if moves.is_empty() {
             return Ok(Changed {
@@ -126,7 +142,8 @@ impl<N: NodeRule> Store<N> {
         requires past { first_of self.now ≤ node.0 }
         requires within { node.0 < count_of self.now }
         ensures ready { N.ready result.now }
-        ensures rule { slice_get (rules_in N.rule self.now) (node.0 - first_of self.now) ≡ Some (N.rule result.now) }
+        ensures rule { slice_get (rules_in N.rule self.now) (node.0 - first_of self.now) ≡
+            Some (N.rule result.now) }
         ensures held { N.held result.now ≡ map (value_at self.now) (inputs_at self.now node.0) }
     {
         &self.nodes[(node.0 - self.frame.first) as usize]
@@ -152,7 +169,8 @@ impl<N: NodeRule> Store<N> {
         requires usable { IsUsable N.rule N.held N.ready self.now }
         requires within { node.0 < count_of self.now }
         ensures frame { result.now ≡ uses_in self.now.frame node.0 }
-        ensures places { (j : ℕ) → places_in j result.now ≡ positions node.0 (inputs_at self.now j) }
+        ensures places { (j : ℕ) → places_in j result.now ≡
+            positions node.0 (inputs_at self.now j) }
     {
         &self.frame.uses[node.0 as usize]
     }

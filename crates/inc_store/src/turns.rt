@@ -28,13 +28,25 @@ fn turn<N: NodeRule, L: Ledger>(
     ghost trace: { Trace }
     requires ready { All N.ready nodes.old.items }
     requires frame { IsFrame (map N.rule nodes.old.items) frame.now trace.kinds }
-    requires course { InCourse (map N.rule nodes.old.items) (map N.held nodes.old.items) frame.now trace cells.old course.old (NotBefore front (layer_of frame.now)) (steps.old + 1) }
+    requires course { InCourse (map N.rule nodes.old.items)
+        (map N.held nodes.old.items) frame.now trace cells.old course.old
+        (NotBefore front (layer_of frame.now)) (steps.old + 1) }
     requires front { first_front ≤ front }
     ensures ready { OnOk result (All N.ready nodes.new.items) }
     ensures rules { OnOk result (map N.rule nodes.new.items ≡ map N.rule nodes.old.items) }
-    ensures course { IfOk result (λ r. MatchOption r (Unit {0}) (λ t. InCourse (map N.rule nodes.old.items) (map N.held nodes.new.items) frame.now trace cells.new course.new (NotBefore (rank (layer_of frame.now) t.id + 1) (layer_of frame.now)) (steps.new + 1))) }
-    ensures limit { IsWithin (graph_of (map N.rule nodes.old.items) frame.now) trace.before trace.target trace.moved (uses_in frame.now) trace.base steps.new }
-    ensures over { IfOk result (λ r. MatchOption r (((l i : ℕ) → waits course.old.waiting l i ≡ None) × (map N.held nodes.new.items ≡ map N.held nodes.old.items) × (cells.new ≡ cells.old) × (course.new.lost ≡ course.old.lost) × (course.new.changes ≡ course.old.changes) × (steps.new ≡ steps.old + 1)) (λ t. (t.layer ≡ layer_of frame.now t.id) × (t.id < length frame.now.inputs.items) × (front ≤ rank (layer_of frame.now) t.id))) }
+    ensures course { IfOk result (λ r.
+        MatchOption r (Unit {0}) (λ t. InCourse (map N.rule nodes.old.items)
+        (map N.held nodes.new.items) frame.now trace cells.new course.new
+        (NotBefore (rank (layer_of frame.now) t.id + 1) (layer_of frame.now)) (steps.new + 1))) }
+    ensures limit { IsWithin (graph_of
+        (map N.rule nodes.old.items) frame.now) trace.before trace.target trace.moved
+        (uses_in frame.now) trace.base steps.new }
+    ensures over { IfOk result (λ r. MatchOption r (((l i : ℕ) →
+        waits course.old.waiting l i ≡ None) ×
+        (map N.held nodes.new.items ≡ map N.held nodes.old.items) × (cells.new ≡ cells.old) ×
+        (course.new.lost ≡ course.old.lost) × (course.new.changes ≡ course.old.changes) ×
+        (steps.new ≡ steps.old + 1)) (λ t. (t.layer ≡ layer_of frame.now t.id) ×
+        (t.id < length frame.now.inputs.items) × (front ≤ rank (layer_of frame.now) t.id))) }
 {
     let Some(turn) = course.waiting.pop(steps) else {
         return Ok(None);
@@ -56,11 +68,16 @@ pub(crate) fn run<N: NodeRule, L: Ledger>(
     ghost trace: { Trace }
     requires ready { All N.ready nodes.old.items }
     requires frame { IsFrame (map N.rule nodes.old.items) frame.now trace.kinds }
-    requires course { InCourse (map N.rule nodes.old.items) (map N.held nodes.old.items) frame.now trace cells.old course.old (NotBefore first_front (layer_of frame.now)) (steps.old + 1) }
+    requires course { InCourse (map N.rule nodes.old.items)
+        (map N.held nodes.old.items) frame.now trace cells.old course.old
+        (NotBefore first_front (layer_of frame.now)) (steps.old + 1) }
     ensures ready { OnOk result (All N.ready nodes.new.items) }
     ensures rules { OnOk result (map N.rule nodes.new.items ≡ map N.rule nodes.old.items) }
-    ensures limit { IsWithin (graph_of (map N.rule nodes.old.items) frame.now) trace.before trace.target trace.moved (uses_in frame.now) trace.base steps.new }
-    ensures over { OnOk result (IsOver (map N.rule nodes.old.items) (map N.held nodes.new.items) frame.now trace cells.new course.new steps.new) }
+    ensures limit { IsWithin (graph_of
+        (map N.rule nodes.old.items) frame.now) trace.before trace.target trace.moved
+        (uses_in frame.now) trace.base steps.new }
+    ensures over { OnOk result (IsOver (map N.rule nodes.old.items)
+        (map N.held nodes.new.items) frame.now trace cells.new course.new steps.new) }
 {
     let mut front: u128 = 4294967296;
     loop {

@@ -46,7 +46,9 @@ impl ShortList {
 
     /// The place of a node.
     pub(crate) fn place_of(&self, turn: Turn) -> Option<usize>
-        ensures { MatchOption result (look turn (take self.now.live self.now.entries.items) ≡ None) (λ place. (place < length (take self.now.live self.now.entries.items)) × (turn_at (take self.now.live self.now.entries.items) place ≡ turn)) }
+        ensures { MatchOption result (look turn (take self.now.live self.now.entries.items) ≡ None)
+            (λ place. (place < length (take self.now.live self.now.entries.items)) ×
+            (turn_at (take self.now.live self.now.entries.items) place ≡ turn)) }
     {
         for (place, entry) in self.entries[..self.live].iter().enumerate() {
             if is_same(turn, entry.0) {
@@ -58,7 +60,10 @@ impl ShortList {
 
     /// The place of the first node by layer and then by id.
     pub(crate) fn first(&self) -> Option<usize>
-        ensures { MatchOption result (take self.now.live self.now.entries.items ≡ []) (λ place. (place < length (take self.now.live self.now.entries.items)) × IsLeast (turn_at (take self.now.live self.now.entries.items) place) (take self.now.live self.now.entries.items)) }
+        ensures { MatchOption result (take self.now.live self.now.entries.items ≡ []) (λ place.
+            (place < length (take self.now.live self.now.entries.items)) ×
+            IsLeast (turn_at (take self.now.live self.now.entries.items) place)
+            (take self.now.live self.now.entries.items)) }
     {
         if self.live == 0 {
             return None;
@@ -90,8 +95,10 @@ impl ShortList {
         change: Change,
     ) -> Result<(), NoMemory>
         requires { look turn (take self.old.live self.old.entries.items) ≡ None }
-        ensures here { OnOk result (option_map changes_of (look turn (take self.new.live self.new.entries.items)) ≡ Some (Some (change ∷ []))) }
-        ensures elsewhere { OnOk result (SameBut turn (take self.old.live self.old.entries.items) (take self.new.live self.new.entries.items)) }
+        ensures here { OnOk result (option_map changes_of
+            (look turn (take self.new.live self.new.entries.items)) ≡ Some (Some (change ∷ []))) }
+        ensures elsewhere { OnOk result (SameBut turn (take self.old.live self.old.entries.items)
+            (take self.new.live self.new.entries.items)) }
     {
         self.make_room()?;
         let entry = &mut self.entries[self.live];
@@ -104,8 +111,10 @@ impl ShortList {
     /// An input of a node for which nothing waited has no value.
     pub(crate) fn begin_blocked(&mut self, turn: Turn) -> Result<(), NoMemory>
         requires { look turn (take self.old.live self.old.entries.items) ≡ None }
-        ensures here { OnOk result (option_map changes_of (look turn (take self.new.live self.new.entries.items)) ≡ Some None) }
-        ensures elsewhere { OnOk result (SameBut turn (take self.old.live self.old.entries.items) (take self.new.live self.new.entries.items)) }
+        ensures here { OnOk result (option_map changes_of
+            (look turn (take self.new.live self.new.entries.items)) ≡ Some None) }
+        ensures elsewhere { OnOk result (SameBut turn (take self.old.live self.old.entries.items)
+            (take self.new.live self.new.entries.items)) }
     {
         self.make_room()?;
         self.entries[self.live] = (turn, Pending::Below);
@@ -117,7 +126,8 @@ impl ShortList {
     fn make_room(&mut self) -> Result<(), NoMemory>
         ensures room { OnOk result (self.new.live < length self.new.entries.items) }
         ensures live { self.new.live ≡ self.old.live }
-        ensures same { take self.new.live self.new.entries.items ≡ take self.old.live self.old.entries.items }
+        ensures same { take self.new.live self.new.entries.items ≡
+            take self.old.live self.old.entries.items }
     {
         if self.live == self.entries.len() {
             let turn = Turn { layer: 0, id: 0 };
@@ -129,9 +139,18 @@ impl ShortList {
     /// One more change waits for the node at a place.
     pub(crate) fn add(&mut self, place: usize, change: Change) -> Result<(), NoMemory>
         requires { place < length (take self.old.live self.old.entries.items) }
-        ensures before { look (turn_at (take self.old.live self.old.entries.items) place) (take self.old.live self.old.entries.items) ≡ Some (pending_at (take self.old.live self.old.entries.items) place) }
-        ensures here { OnOk result (option_map changes_of (look (turn_at (take self.old.live self.old.entries.items) place) (take self.new.live self.new.entries.items)) ≡ Some (and_change change (Some (changes_of (pending_at (take self.old.live self.old.entries.items) place))))) }
-        ensures elsewhere { OnOk result (SameBut (turn_at (take self.old.live self.old.entries.items) place) (take self.old.live self.old.entries.items) (take self.new.live self.new.entries.items)) }
+        ensures before { look (turn_at (take self.old.live self.old.entries.items) place)
+            (take self.old.live self.old.entries.items) ≡
+            Some (pending_at (take self.old.live self.old.entries.items) place) }
+        ensures here { OnOk result (option_map changes_of
+            (look (turn_at (take self.old.live self.old.entries.items) place)
+            (take self.new.live self.new.entries.items)) ≡
+            Some (and_change change (Some (changes_of
+            (pending_at (take self.old.live self.old.entries.items) place))))) }
+        ensures elsewhere { OnOk result (SameBut
+            (turn_at (take self.old.live self.old.entries.items) place)
+            (take self.old.live self.old.entries.items)
+            (take self.new.live self.new.entries.items)) }
     {
         add_to(&mut self.entries[place].1, change)
     }
@@ -139,8 +158,12 @@ impl ShortList {
     /// An input of the node at a place has no value. It answers what waited.
     pub(crate) fn block(&mut self, place: usize) -> Pending
         requires { place < length (take self.old.live self.old.entries.items) }
-        ensures here { option_map changes_of (look (turn_at (take self.old.live self.old.entries.items) place) (take self.new.live self.new.entries.items)) ≡ Some None }
-        ensures elsewhere { SameBut (turn_at (take self.old.live self.old.entries.items) place) (take self.old.live self.old.entries.items) (take self.new.live self.new.entries.items) }
+        ensures here { option_map changes_of
+            (look (turn_at (take self.old.live self.old.entries.items) place)
+            (take self.new.live self.new.entries.items)) ≡ Some None }
+        ensures elsewhere { SameBut (turn_at (take self.old.live self.old.entries.items) place)
+            (take self.old.live self.old.entries.items)
+            (take self.new.live self.new.entries.items) }
     {
         mem::replace(&mut self.entries[place].1, Pending::Below)
     }
@@ -149,8 +172,10 @@ impl ShortList {
     pub(crate) fn take(&mut self, place: usize) -> Turn
         requires { place < length (take self.old.live self.old.entries.items) }
         ensures turn { result ≡ turn_at (take self.old.live self.old.entries.items) place }
-        ensures before { look result (take self.old.live self.old.entries.items) ≡ Some (pending_at self.new.entries.items self.new.live) }
-        ensures after { Puts result None (take self.old.live self.old.entries.items) (take self.new.live self.new.entries.items) }
+        ensures before { look result (take self.old.live self.old.entries.items) ≡
+            Some (pending_at self.new.entries.items self.new.live) }
+        ensures after { Puts result None (take self.old.live self.old.entries.items)
+            (take self.new.live self.new.entries.items) }
     {
         let turn = self.entries[place].0;
         self.live -= 1;
@@ -160,7 +185,8 @@ impl ShortList {
 
     /// The changes that stand behind those that wait.
     pub(crate) fn taken(&self) -> Option<&[Change]>
-        ensures { option_copied result ≡ changes_of (pending_at self.now.entries.items self.now.live) }
+        ensures { option_copied result ≡ changes_of
+            (pending_at self.now.entries.items self.now.live) }
     {
         match self.entries.get(self.live) {
             Some(entry) => changes_in(&entry.1),
@@ -200,7 +226,8 @@ fn begin_with(alloc: Global, pending: &mut Pending, change: Change) -> Result<()
 
 /// With one more change.
 pub(crate) fn add_to(pending: &mut Pending, change: Change) -> Result<(), NoMemory>
-    ensures { OnOk result (changes_of pending.new ≡ and_change change (Some (changes_of pending.old))) }
+    ensures { OnOk result (changes_of pending.new ≡
+        and_change change (Some (changes_of pending.old))) }
 {
     match pending {
         Pending::Changed(changes) => {

@@ -26,8 +26,10 @@ pub fn tell<L: Ledger>(
     requires users { All (λ u. u.0.0 < length layers.now) uses.now }
     requires kinds { (x : Input) → outcome.now ≡ Value x → kind_of x ≡ kind_of old.now }
     ensures answer { IfOk result (λ r. r ≡ differs outcome.now old.now) }
-    ensures told { OnOk result (IsTold (layer_in layers.now) uses.now old.now outcome.now (waits waiting.old) (waits waiting.new)) }
-    ensures steps { steps.new ≤ steps.old + 2 * cond (differs outcome.now old.now) (length uses.now) 0 }
+    ensures told { OnOk result (IsTold (layer_in layers.now) uses.now old.now outcome.now
+        (waits waiting.old) (waits waiting.new)) }
+    ensures steps { steps.new ≤ steps.old + 2 * cond (differs outcome.now old.now)
+        (length uses.now) 0 }
 {
     match outcome {
         Outcome::Value(new) => tell_value(waiting, layers, uses, old, new, steps),
@@ -49,8 +51,10 @@ fn tell_value<L: Ledger>(
     requires users { All (λ u. u.0.0 < length layers.now) uses.now }
     requires kinds { kind_of new.now ≡ kind_of old.now }
     ensures answer { IfOk result (λ r. r ≡ differs (Value new.now) old.now) }
-    ensures told { OnOk result (IsTold (layer_in layers.now) uses.now old.now (Value new.now) (waits waiting.old) (waits waiting.new)) }
-    ensures steps { steps.new ≤ steps.old + 2 * cond (differs (Value new.now) old.now) (length uses.now) 0 }
+    ensures told { OnOk result (IsTold (layer_in layers.now) uses.now old.now (Value new.now)
+        (waits waiting.old) (waits waiting.new)) }
+    ensures steps { steps.new ≤ steps.old + 2 * cond (differs (Value new.now) old.now)
+        (length uses.now) 0 }
 {
     if same(old, new) {
         return Ok(false);
@@ -70,8 +74,12 @@ fn push_all<L: Ledger>(
 ) -> Result<(), NoMemory>
     requires users { All (λ u. u.0.0 < length layers.now) uses.now }
     requires kinds { kind_of new.now ≡ kind_of old.now }
-    ensures here { OnOk result ((j : ℕ) → waits waiting.new (layer_in layers.now j) j ≡ pushed (map (λ p. change_to p old.now new.now) (places_in j uses.now)) (waits waiting.old (layer_in layers.now j) j)) }
-    ensures elsewhere { OnOk result ((l j : ℕ) → l ≢ layer_in layers.now j → waits waiting.new l j ≡ waits waiting.old l j) }
+    ensures here { OnOk result ((j : ℕ) →
+        waits waiting.new (layer_in layers.now j) j ≡
+        pushed (map (λ p. change_to p old.now new.now) (places_in j uses.now))
+        (waits waiting.old (layer_in layers.now j) j)) }
+    ensures elsewhere { OnOk result ((l j : ℕ) → l ≢ layer_in layers.now j →
+        waits waiting.new l j ≡ waits waiting.old l j) }
     ensures steps { steps.new ≤ steps.old + 2 * length uses.now }
 {
     let alloc = waiting.alloc();
@@ -92,8 +100,11 @@ fn block_all<L: Ledger>(
 ) -> Result<bool, NoMemory>
     requires users { All (λ u. u.0.0 < length layers.now) uses.now }
     ensures answer { IfOk result (λ r. r ≡ true) }
-    ensures here { OnOk result ((j : ℕ) → waits waiting.new (layer_in layers.now j) j ≡ blocked (places_in j uses.now) (waits waiting.old (layer_in layers.now j) j)) }
-    ensures elsewhere { OnOk result ((l j : ℕ) → l ≢ layer_in layers.now j → waits waiting.new l j ≡ waits waiting.old l j) }
+    ensures here { OnOk result ((j : ℕ) →
+        waits waiting.new (layer_in layers.now j) j ≡
+        blocked (places_in j uses.now) (waits waiting.old (layer_in layers.now j) j)) }
+    ensures elsewhere { OnOk result ((l j : ℕ) → l ≢ layer_in layers.now j →
+        waits waiting.new l j ≡ waits waiting.old l j) }
     ensures steps { steps.new ≤ steps.old + length uses.now }
 {
     for (id, _) in uses {

@@ -77,8 +77,10 @@ impl Waiting {
         change: Change,
         steps: &mut Steps<L>,
     ) -> Result<(), NoMemory>
-        ensures here { OnOk result (waits self.new turn.layer turn.id ≡ Some (and_change change (waits self.old turn.layer turn.id))) }
-        ensures elsewhere { OnOk result (SameElsewhere (waits self.new) (waits self.old) turn.layer turn.id) }
+        ensures here { OnOk result (waits self.new turn.layer turn.id ≡
+            Some (and_change change (waits self.old turn.layer turn.id))) }
+        ensures elsewhere { OnOk result (SameElsewhere (waits self.new)
+            (waits self.old) turn.layer turn.id) }
         ensures steps { steps.new ≡ steps.old + 2 }
     {
         steps.tick();
@@ -92,7 +94,8 @@ impl Waiting {
     /// An input of the node has no value. One step.
     pub fn block<L: Ledger>(&mut self, turn: Turn, steps: &mut Steps<L>) -> Result<(), NoMemory>
         ensures here { OnOk result (waits self.new turn.layer turn.id ≡ Some None) }
-        ensures elsewhere { OnOk result (SameElsewhere (waits self.new) (waits self.old) turn.layer turn.id) }
+        ensures elsewhere { OnOk result (SameElsewhere (waits self.new)
+            (waits self.old) turn.layer turn.id) }
         ensures steps { steps.new ≡ steps.old + 1 }
     {
         steps.tick();
@@ -110,10 +113,14 @@ impl Waiting {
     /// `None` exactly where nothing waits. One step.
     #[inline(always)]
     pub fn pop<L: Ledger>(&mut self, steps: &mut Steps<L>) -> Option<Turn>
-        ensures none { MatchOption result ((l i : ℕ) → waits self.old l i ≡ None) (λ t. waits self.old t.layer t.id ≡ Some (taken_of self.new)) }
-        ensures least { MatchOption result (Unit {0}) (λ t. (l i : ℕ) → IsSome (waits self.old l i) → (t.layer < l) ⊎ ((t.layer ≡ l) × (t.id ≤ i))) }
+        ensures none { MatchOption result ((l i : ℕ) →
+            waits self.old l i ≡ None) (λ t.
+            waits self.old t.layer t.id ≡ Some (taken_of self.new)) }
+        ensures least { MatchOption result (Unit {0}) (λ t. (l i : ℕ) →
+            IsSome (waits self.old l i) → (t.layer < l) ⊎ ((t.layer ≡ l) × (t.id ≤ i))) }
         ensures here { MatchOption result (Unit {0}) (λ t. waits self.new t.layer t.id ≡ None) }
-        ensures elsewhere { MatchOption result (Unit {0}) (λ t. SameElsewhere (waits self.new) (waits self.old) t.layer t.id) }
+        ensures elsewhere { MatchOption result (Unit {0}) (λ t.
+            SameElsewhere (waits self.new) (waits self.old) t.layer t.id) }
         ensures steps { steps.new ≡ steps.old + 1 }
     {
         steps.tick();
@@ -137,7 +144,9 @@ impl Waiting {
     /// The first that waits, where the first of the short list stands at a place.
     fn pop_from(&mut self, place: usize) -> Option<Turn>
         requires place { place < length (take self.old.near.live self.old.near.entries.items) }
-        requires least { IsLeast (turn_at (take self.old.near.live self.old.near.entries.items) place) (take self.old.near.live self.old.near.entries.items) }
+        requires least { IsLeast (turn_at
+            (take self.old.near.live self.old.near.entries.items) place)
+            (take self.old.near.live self.old.near.entries.items) }
         ensures first { IfSome result (λ t. IsFirst self.old t (taken_of self.new)) }
         ensures gone { IfSome result (λ t. IsGone self.old self.new t) }
         ensures some { IsSome result }
@@ -158,7 +167,10 @@ impl Waiting {
     /// The first of the map.
     fn pop_far(&mut self) -> Option<Turn>
         ensures near { self.new.near ≡ self.old.near }
-        ensures far { MatchOption result ((u : Turn) → get turn_cmp self.old.far u ≡ None) (λ t. IsFarFirst (λ u. get turn_cmp self.old.far u) (λ u. get turn_cmp self.new.far u) t (taken_of self.new)) }
+        ensures far { MatchOption result ((u : Turn) →
+            get turn_cmp self.old.far u ≡ None) (λ t.
+            IsFarFirst (λ u. get turn_cmp self.old.far u) (λ u.
+            get turn_cmp self.new.far u) t (taken_of self.new)) }
     {
         match self.far.pop_first() {
             None => None,
@@ -174,8 +186,10 @@ impl Waiting {
     /// One more change waits for a node that isn't in the short list.
     fn push_later(&mut self, turn: Turn, change: Change) -> Result<(), NoMemory>
         requires { look turn (take self.old.near.live self.old.near.entries.items) ≡ None }
-        ensures here { OnOk result (waits self.new turn.layer turn.id ≡ Some (and_change change (waits self.old turn.layer turn.id))) }
-        ensures elsewhere { OnOk result (SameElsewhere (waits self.new) (waits self.old) turn.layer turn.id) }
+        ensures here { OnOk result (waits self.new turn.layer turn.id ≡
+            Some (and_change change (waits self.old turn.layer turn.id))) }
+        ensures elsewhere { OnOk result (SameElsewhere (waits self.new)
+            (waits self.old) turn.layer turn.id) }
     {
         if self.far.is_empty() {
             return self.push_first(turn, change);
@@ -191,7 +205,8 @@ impl Waiting {
     fn push_first(&mut self, turn: Turn, change: Change) -> Result<(), NoMemory>
         requires { waits self.old turn.layer turn.id ≡ None }
         ensures here { OnOk result (waits self.new turn.layer turn.id ≡ Some (Some (change ∷ []))) }
-        ensures elsewhere { OnOk result (SameElsewhere (waits self.new) (waits self.old) turn.layer turn.id) }
+        ensures elsewhere { OnOk result (SameElsewhere (waits self.new)
+            (waits self.old) turn.layer turn.id) }
     {
         if self.near.len() < FEW {
             return self.near.begin(self.alloc, turn, change);
@@ -205,7 +220,8 @@ impl Waiting {
     fn block_later(&mut self, turn: Turn) -> Result<(), NoMemory>
         requires { look turn (take self.old.near.live self.old.near.entries.items) ≡ None }
         ensures here { OnOk result (waits self.new turn.layer turn.id ≡ Some None) }
-        ensures elsewhere { OnOk result (SameElsewhere (waits self.new) (waits self.old) turn.layer turn.id) }
+        ensures elsewhere { OnOk result (SameElsewhere (waits self.new)
+            (waits self.old) turn.layer turn.id) }
     {
         if self.far.is_empty() {
             return self.block_first(turn);
@@ -223,7 +239,8 @@ impl Waiting {
     fn block_first(&mut self, turn: Turn) -> Result<(), NoMemory>
         requires { waits self.old turn.layer turn.id ≡ None }
         ensures here { OnOk result (waits self.new turn.layer turn.id ≡ Some None) }
-        ensures elsewhere { OnOk result (SameElsewhere (waits self.new) (waits self.old) turn.layer turn.id) }
+        ensures elsewhere { OnOk result (SameElsewhere (waits self.new)
+            (waits self.old) turn.layer turn.id) }
     {
         if self.near.len() < FEW {
             return self.near.begin_blocked(turn);
@@ -235,7 +252,8 @@ impl Waiting {
     fn put_far(&mut self, turn: Turn, pending: Pending) -> Result<(), NoMemory>
         requires { waits self.old turn.layer turn.id ≡ None }
         ensures here { OnOk result (waits self.new turn.layer turn.id ≡ Some (changes_of pending)) }
-        ensures elsewhere { OnOk result (SameElsewhere (waits self.new) (waits self.old) turn.layer turn.id) }
+        ensures elsewhere { OnOk result (SameElsewhere (waits self.new)
+            (waits self.old) turn.layer turn.id) }
     {
         self.far.insert(turn, pending)?;
         Ok(())
@@ -244,7 +262,8 @@ impl Waiting {
 
 /// Whether the first in a map is before a turn.
 fn is_first_before(far: &BTreeMap<Turn, Pending>, turn: Turn) -> bool
-    ensures { MatchBool result ((t : Turn) × IsSome (get turn_cmp far.now t) × IsBefore t turn) ((t : Turn) → IsSome (get turn_cmp far.now t) → NotAfter turn t) }
+    ensures { MatchBool result ((t : Turn) × IsSome (get turn_cmp far.now t) ×
+        IsBefore t turn) ((t : Turn) → IsSome (get turn_cmp far.now t) → NotAfter turn t) }
 {
     match far.first_key_value() {
         None => false,

@@ -35,10 +35,16 @@ pub(crate) fn came_to<N: NodeRule, L: Ledger>(
     requires frame { frame.now ≡ store.now.frame }
     requires within { id < count_of store.now }
     requires old { old.now ≡ value_at store.now id }
-    requires one { nat_lt id (first_of store.now) ≡ true → (i : ℕ) × (inputs_at store.now id ≡ i ∷ []) }
-    requires changes { nat_lt id (first_of store.now) ≡ false → (cs : List Change) → taken_of overlay.now.waiting ≡ Some cs → AreChanges (map (value_at store.now) (inputs_at store.now id)) cs }
-    ensures outcome { IfOk result (λ r. r.0 ≡ asked (rules_in N.rule store.now) store.now.frame store.now.cells overlay.now id (taken_of overlay.now.waiting)) }
-    ensures root { IfOk result (λ r. r.1 ≡ root_by id (lost_by r.0) (get nat_cmp overlay.now.roots id)) }
+    requires one { nat_lt id (first_of store.now) ≡ true →
+        (i : ℕ) × (inputs_at store.now id ≡ i ∷ []) }
+    requires changes { nat_lt id (first_of store.now) ≡ false → (cs : List Change) →
+        taken_of overlay.now.waiting ≡ Some cs →
+        AreChanges (map (value_at store.now) (inputs_at store.now id)) cs }
+    ensures outcome { IfOk result (λ r.
+        r.0 ≡ asked (rules_in N.rule store.now) store.now.frame store.now.cells overlay.now id
+        (taken_of overlay.now.waiting)) }
+    ensures root { IfOk result (λ r. r.1 ≡
+        root_by id (lost_by r.0) (get nat_cmp overlay.now.roots id)) }
     ensures steps { steps.new + 3 ≤ steps.old + cost (Some (taken_of overlay.now.waiting)) }
 {
     match overlay.waiting.taken() {
@@ -64,7 +70,9 @@ fn copied<L: Ledger>(
 ) -> Result<(Outcome, Option<(u32, RunFault)>), NoMemory>
     requires within { id < length frame.now.inputs.items }
     requires one { (i : ℕ) × (inputs_in frame.now id ≡ i ∷ []) }
-    ensures outcome { IfOk result (λ r. r.0 ≡ Value (new_or (get nat_cmp overlay.now.changes (slice_index_or (inputs_in frame.now id) 0 0)) old.now)) }
+    ensures outcome { IfOk result (λ r.
+        r.0 ≡ Value (new_or (get nat_cmp overlay.now.changes
+        (slice_index_or (inputs_in frame.now id) 0 0)) old.now)) }
     ensures root { IfOk result (λ r. r.1 ≡ None) }
     ensures steps { steps.new ≡ steps.old + 1 }
 {
@@ -94,7 +102,10 @@ fn probed<N: NodeRule, L: Ledger>(
     requires within { id < count_of store.now }
     requires past { first_of store.now ≤ id }
     requires changes { AreChanges (map (value_at store.now) (inputs_at store.now id)) changes.now }
-    ensures outcome { IfOk result (λ r. r.0 ≡ outcome_of (rule_value (slice_get (rules_in N.rule store.now) (id - first_of store.now)) (after_changes (map (value_at store.now) (inputs_at store.now id)) changes.now))) }
+    ensures outcome { IfOk result (λ r.
+        r.0 ≡ outcome_of (rule_value (slice_get (rules_in N.rule store.now)
+        (id - first_of store.now)) (after_changes
+        (map (value_at store.now) (inputs_at store.now id)) changes.now))) }
     ensures root { IfOk result (λ r. r.1 ≡ root_by id (lost_by r.0) None) }
     ensures steps { steps.new ≡ steps.old + (length changes.now + 1) }
 {

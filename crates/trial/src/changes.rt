@@ -67,7 +67,8 @@ impl Changes {
     /// The node of this change has it from now on.
     pub(crate) fn set(&mut self, change: NodeChange) -> Result<(), NoMemory>
         ensures here { OnOk result (get nat_cmp self.new change.node.0 ≡ Some change) }
-        ensures elsewhere { OnOk result ((j : ℕ) → j ≢ change.node.0 → get nat_cmp self.new j ≡ get nat_cmp self.old j) }
+        ensures elsewhere { OnOk result ((j : ℕ) → j ≢ change.node.0 →
+            get nat_cmp self.new j ≡ get nat_cmp self.old j) }
     {
         put(&mut self.items, &mut self.places, change)
     }
@@ -76,7 +77,8 @@ impl Changes {
 /// The place of an id's change, if there is one.
 fn place_of(items: &[NodeChange], places: &[u32], id: u32) -> Option<usize>
     requires { ArePlaced items.now places.now }
-    ensures { MatchOption result (get nat_cmp (map_of items.now) id ≡ None) (IsPlaceOf items.now id) }
+    ensures { MatchOption result (get nat_cmp (map_of items.now) id ≡ None)
+        (IsPlaceOf items.now id) }
 {
     if places.len() <= id as usize {
         return None;
@@ -101,7 +103,8 @@ fn put(
     requires { ArePlaced items.old.items places.old.items }
     ensures placed { ArePlaced items.new.items places.new.items }
     ensures here { OnOk result (get nat_cmp (map_of items.new.items) change.node.0 ≡ Some change) }
-    ensures elsewhere { OnOk result ((j : ℕ) → j ≢ change.node.0 → get nat_cmp (map_of items.new.items) j ≡ get nat_cmp (map_of items.old.items) j) }
+    ensures elsewhere { OnOk result ((j : ℕ) → j ≢ change.node.0 →
+        get nat_cmp (map_of items.new.items) j ≡ get nat_cmp (map_of items.old.items) j) }
 {
     match place_of(items, places, change.node.0) {
         Some(place) => {
@@ -122,7 +125,8 @@ fn add(
     requires absent { get nat_cmp (map_of items.old.items) change.node.0 ≡ None }
     ensures placed { ArePlaced items.new.items places.new.items }
     ensures here { OnOk result (get nat_cmp (map_of items.new.items) change.node.0 ≡ Some change) }
-    ensures elsewhere { OnOk result ((j : ℕ) → j ≢ change.node.0 → get nat_cmp (map_of items.new.items) j ≡ get nat_cmp (map_of items.old.items) j) }
+    ensures elsewhere { OnOk result ((j : ℕ) → j ≢ change.node.0 →
+        get nat_cmp (map_of items.new.items) j ≡ get nat_cmp (map_of items.old.items) j) }
 {
     lead(places, change.node.0, items.len())?;
     items.push(change)?;
@@ -133,7 +137,8 @@ fn add(
 /// doesn't fit 32 bits.
 fn lead(places: &mut Vec<u32>, id: u32, place: usize) -> Result<(), NoMemory>
     ensures here { OnOk result (slice_get places.new.items id ≡ Some place) }
-    ensures kept { (j p : ℕ) → j ≢ id → slice_get places.old.items j ≡ Some p → slice_get places.new.items j ≡ Some p }
+    ensures kept { (j p : ℕ) → j ≢ id → slice_get places.old.items j ≡ Some p →
+        slice_get places.new.items j ≡ Some p }
 {
     let Ok(place) = u32::try_from(place) else {
         return Err(NoMemory);
@@ -146,7 +151,8 @@ fn lead(places: &mut Vec<u32>, id: u32, place: usize) -> Result<(), NoMemory>
 /// The table has the id, and leads where it led.
 fn lengthen(places: &mut Vec<u32>, id: u32) -> Result<(), NoMemory>
     ensures long { OnOk result (id < length places.new.items) }
-    ensures kept { (j p : ℕ) → slice_get places.old.items j ≡ Some p → slice_get places.new.items j ≡ Some p }
+    ensures kept { (j p : ℕ) → slice_get places.old.items j ≡ Some p →
+        slice_get places.new.items j ≡ Some p }
 {
     while places.len() <= id as usize {
         places.push(0)?;

@@ -29,8 +29,12 @@ pub(crate) fn conclude<N: NodeRule, L: Ledger>(
     requires target { target.0 < count_of store.now }
     requires number { kind_of (value_at store.now target.0) ≡ number_kind }
     requires known { IsKnown (rules_in N.rule store.now) store.now.frame store.now.cells ask overlay.now.lost overlay.now.changes overlay.now.roots target.0 }
-    ensures difference { IfOk result (λ d. IsDifference (graph_in N.rule store.now) (value_at store.now) (moved_to ask.moves (value_at store.now)) target.0 d) }
-    ensures fault { IfErr result (λ stop. IsRefusal (graph_in N.rule store.now) (value_at store.now) (moved_to ask.moves (value_at store.now)) target.0 stop) }
+    ensures difference { IfOk result (λ d.
+        IsDifference (graph_in N.rule store.now) (value_at store.now)
+        (moved_to ask.moves (value_at store.now)) target.0 d) }
+    ensures fault { IfErr result (λ stop.
+        IsRefusal (graph_in N.rule store.now) (value_at store.now)
+        (moved_to ask.moves (value_at store.now)) target.0 stop) }
     ensures steps { steps.new ≤ steps.old + 3 }
 {
     match root_of(overlay, target.0, steps) {
@@ -64,7 +68,9 @@ fn difference<N: NodeRule, L: Ledger>(
 ) -> Result<i64, RunFault>
     requires usable { IsUsable N.rule N.held N.ready store.now }
     requires target { target.0 < count_of store.now }
-    ensures difference { result ≡ exact (number_of (new_or (get nat_cmp overlay.now.changes target.0) (value_at store.now target.0)) -ℤ number_of (value_at store.now target.0)) }
+    ensures difference { result ≡ exact
+        (number_of (new_or (get nat_cmp overlay.now.changes target.0)
+        (value_at store.now target.0)) -ℤ number_of (value_at store.now target.0)) }
     ensures steps { steps.new ≡ steps.old + 2 }
 {
     let now = store.read(target, steps);

@@ -30,8 +30,12 @@ pub(crate) fn move_all<N: NodeRule, L: Ledger>(
     requires moves { AreMoves (graph_in N.rule store.now) moves.now }
     requires asked { ask.moves ≡ moves.now }
     requires course { InProbe (rules_in N.rule store.now) store.now.frame store.now.cells ask overlay.old (LaterThanMoves store.now.frame moves.now) (steps.old + 2 * length moves.now + 4) }
-    ensures course { OnOk result (InProbe (rules_in N.rule store.now) store.now.frame store.now.cells ask overlay.new (NotBefore first_front (layer_of store.now.frame)) (steps.new + 4)) }
-    ensures limit { IsWithin (graph_in N.rule store.now) (value_at store.now) (moved_to ask.moves (value_at store.now)) (is_moved ask.moves) (uses_in store.now.frame) ask.base steps.new }
+    ensures course { OnOk result (InProbe
+        (rules_in N.rule store.now) store.now.frame store.now.cells ask overlay.new
+        (NotBefore first_front (layer_of store.now.frame)) (steps.new + 4)) }
+    ensures limit { IsWithin (graph_in N.rule store.now) (value_at store.now)
+        (moved_to ask.moves (value_at store.now)) (is_moved ask.moves)
+        (uses_in store.now.frame) ask.base steps.new }
 {
     let frame = store.frame();
     for (var, number) in moves {

@@ -83,8 +83,10 @@ impl Overlay {
         new: NodeValue,
         steps: &mut Steps<L>,
     ) -> Result<(), NoMemory>
-        ensures here { OnOk result (get nat_cmp self.new.changes id ≡ Some (changed_at id old new)) }
-        ensures elsewhere { OnOk result ((j : ℕ) → j ≢ id → get nat_cmp self.new.changes j ≡ get nat_cmp self.old.changes j) }
+        ensures here { OnOk result (get nat_cmp self.new.changes id ≡
+            Some (changed_at id old new)) }
+        ensures elsewhere { OnOk result ((j : ℕ) → j ≢ id →
+            get nat_cmp self.new.changes j ≡ get nat_cmp self.old.changes j) }
         ensures waiting { OnOk result (self.new.waiting ≡ self.old.waiting) }
         ensures lost { OnOk result (self.new.lost ≡ self.old.lost) }
         ensures roots { OnOk result (self.new.roots ≡ self.old.roots) }
@@ -103,7 +105,8 @@ impl Overlay {
         steps: &mut Steps<L>,
     ) -> Result<(), NoMemory>
         ensures here { OnOk result (get nat_cmp self.new.lost id ≡ Some own) }
-        ensures elsewhere { OnOk result ((j : ℕ) → j ≢ id → get nat_cmp self.new.lost j ≡ get nat_cmp self.old.lost j) }
+        ensures elsewhere { OnOk result ((j : ℕ) → j ≢ id →
+            get nat_cmp self.new.lost j ≡ get nat_cmp self.old.lost j) }
         ensures waiting { OnOk result (self.new.waiting ≡ self.old.waiting) }
         ensures changes { OnOk result (self.new.changes ≡ self.old.changes) }
         ensures roots { OnOk result (self.new.roots ≡ self.old.roots) }
@@ -121,8 +124,10 @@ impl Overlay {
         root: Option<(u32, RunFault)>,
         steps: &mut Steps<L>,
     ) -> Result<(), NoMemory>
-        ensures here { OnOk result (get nat_cmp self.new.roots id ≡ lesser root (get nat_cmp self.old.roots id)) }
-        ensures elsewhere { OnOk result ((j : ℕ) → j ≢ id → get nat_cmp self.new.roots j ≡ get nat_cmp self.old.roots j) }
+        ensures here { OnOk result (get nat_cmp self.new.roots id ≡
+            lesser root (get nat_cmp self.old.roots id)) }
+        ensures elsewhere { OnOk result ((j : ℕ) → j ≢ id →
+            get nat_cmp self.new.roots j ≡ get nat_cmp self.old.roots j) }
         ensures waiting { OnOk result (self.new.waiting ≡ self.old.waiting) }
         ensures lost { OnOk result (self.new.lost ≡ self.old.lost) }
         ensures changes { OnOk result (self.new.changes ≡ self.old.changes) }

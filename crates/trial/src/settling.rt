@@ -35,13 +35,20 @@ pub(crate) fn settle<L: Ledger>(
     requires kinds { (x : Input) → outcome ≡ Value x → kind_of x ≡ kind_of old.now }
     requires found { (x : Input) → outcome ≡ Value x → root ≡ None }
     requires unlost { get nat_cmp overlay.old.lost id ≡ None }
-    ensures told { OnOk result (IsTold (layer_of frame.now) (uses_in frame.now id) old.now outcome (waits overlay.old.waiting) (waits overlay.new.waiting)) }
+    ensures told { OnOk result (IsTold (layer_of frame.now) (uses_in frame.now id) old.now outcome
+        (waits overlay.old.waiting) (waits overlay.new.waiting)) }
     ensures lost_here { OnOk result (get nat_cmp overlay.new.lost id ≡ lost_by outcome) }
-    ensures lost_elsewhere { OnOk result ((j : ℕ) → j ≢ id → get nat_cmp overlay.new.lost j ≡ get nat_cmp overlay.old.lost j) }
-    ensures change_here { OnOk result (get nat_cmp overlay.new.changes id ≡ change_of id outcome old.now (get nat_cmp overlay.old.changes id)) }
-    ensures change_elsewhere { OnOk result ((j : ℕ) → j ≢ id → get nat_cmp overlay.new.changes j ≡ get nat_cmp overlay.old.changes j) }
-    ensures roots { OnOk result ((j : ℕ) → get nat_cmp overlay.new.roots j ≡ noted (places_in j (uses_in frame.now id)) root (get nat_cmp overlay.old.roots j)) }
-    ensures steps { steps.new ≤ steps.old + 1 + 2 * cond (differs outcome old.now) (length (uses_in frame.now id)) 0 }
+    ensures lost_elsewhere { OnOk result ((j : ℕ) → j ≢ id →
+        get nat_cmp overlay.new.lost j ≡ get nat_cmp overlay.old.lost j) }
+    ensures change_here { OnOk result (get nat_cmp overlay.new.changes id ≡
+        change_of id outcome old.now (get nat_cmp overlay.old.changes id)) }
+    ensures change_elsewhere { OnOk result ((j : ℕ) → j ≢ id →
+        get nat_cmp overlay.new.changes j ≡ get nat_cmp overlay.old.changes j) }
+    ensures roots { OnOk result ((j : ℕ) →
+        get nat_cmp overlay.new.roots j ≡
+        noted (places_in j (uses_in frame.now id)) root (get nat_cmp overlay.old.roots j)) }
+    ensures steps { steps.new ≤ steps.old + 1 + 2 * cond (differs outcome old.now)
+        (length (uses_in frame.now id)) 0 }
 {
     let uses = frame.uses[id as usize].as_slice();
     let other = spread(frame, overlay, uses, old, &outcome, root, steps)?;
@@ -64,11 +71,15 @@ fn spread<L: Ledger>(
     requires kinds { (x : Input) → outcome.now ≡ Value x → kind_of x ≡ kind_of old.now }
     requires found { (x : Input) → outcome.now ≡ Value x → root ≡ None }
     ensures answer { IfOk result (λ r. r ≡ differs outcome.now old.now) }
-    ensures told { OnOk result (IsTold (layer_of frame.now) uses.now old.now outcome.now (waits overlay.old.waiting) (waits overlay.new.waiting)) }
+    ensures told { OnOk result (IsTold (layer_of frame.now) uses.now old.now outcome.now
+        (waits overlay.old.waiting) (waits overlay.new.waiting)) }
     ensures lost { OnOk result (overlay.new.lost ≡ overlay.old.lost) }
     ensures changes { OnOk result (overlay.new.changes ≡ overlay.old.changes) }
-    ensures roots { OnOk result ((j : ℕ) → get nat_cmp overlay.new.roots j ≡ noted (places_in j uses.now) root (get nat_cmp overlay.old.roots j)) }
-    ensures steps { steps.new ≤ steps.old + 2 * cond (differs outcome.now old.now) (length uses.now) 0 }
+    ensures roots { OnOk result ((j : ℕ) →
+        get nat_cmp overlay.new.roots j ≡
+        noted (places_in j uses.now) root (get nat_cmp overlay.old.roots j)) }
+    ensures steps { steps.new ≤ steps.old + 2 * cond (differs outcome.now old.now)
+        (length uses.now) 0 }
 {
     match outcome {
         Outcome::Value(_) => tell(
@@ -94,11 +105,16 @@ fn block_users<L: Ledger>(
 ) -> Result<bool, NoMemory>
     requires users { All (λ u. u.0.0 < length frame.now.layers.items) uses.now }
     ensures answer { IfOk result (λ r. r ≡ true) }
-    ensures here { OnOk result ((j : ℕ) → waits overlay.new.waiting (layer_of frame.now j) j ≡ blocked (places_in j uses.now) (waits overlay.old.waiting (layer_of frame.now j) j)) }
-    ensures elsewhere { OnOk result ((l j : ℕ) → l ≢ layer_of frame.now j → waits overlay.new.waiting l j ≡ waits overlay.old.waiting l j) }
+    ensures here { OnOk result ((j : ℕ) →
+        waits overlay.new.waiting (layer_of frame.now j) j ≡
+        blocked (places_in j uses.now) (waits overlay.old.waiting (layer_of frame.now j) j)) }
+    ensures elsewhere { OnOk result ((l j : ℕ) → l ≢ layer_of frame.now j →
+        waits overlay.new.waiting l j ≡ waits overlay.old.waiting l j) }
     ensures lost { OnOk result (overlay.new.lost ≡ overlay.old.lost) }
     ensures changes { OnOk result (overlay.new.changes ≡ overlay.old.changes) }
-    ensures roots { OnOk result ((j : ℕ) → get nat_cmp overlay.new.roots j ≡ noted (places_in j uses.now) root (get nat_cmp overlay.old.roots j)) }
+    ensures roots { OnOk result ((j : ℕ) →
+        get nat_cmp overlay.new.roots j ≡
+        noted (places_in j uses.now) root (get nat_cmp overlay.old.roots j)) }
     ensures steps { steps.new ≤ steps.old + 2 * length uses.now }
 {
     for (id, _) in uses {
@@ -135,9 +151,12 @@ fn keep<L: Ledger>(
     ensures waiting { OnOk result (overlay.new.waiting ≡ overlay.old.waiting) }
     ensures roots { OnOk result (overlay.new.roots ≡ overlay.old.roots) }
     ensures lost_here { OnOk result (get nat_cmp overlay.new.lost id ≡ lost_by outcome) }
-    ensures lost_elsewhere { OnOk result ((j : ℕ) → j ≢ id → get nat_cmp overlay.new.lost j ≡ get nat_cmp overlay.old.lost j) }
-    ensures change_here { OnOk result (get nat_cmp overlay.new.changes id ≡ change_of id outcome old.now (get nat_cmp overlay.old.changes id)) }
-    ensures change_elsewhere { OnOk result ((j : ℕ) → j ≢ id → get nat_cmp overlay.new.changes j ≡ get nat_cmp overlay.old.changes j) }
+    ensures lost_elsewhere { OnOk result ((j : ℕ) → j ≢ id →
+        get nat_cmp overlay.new.lost j ≡ get nat_cmp overlay.old.lost j) }
+    ensures change_here { OnOk result (get nat_cmp overlay.new.changes id ≡
+        change_of id outcome old.now (get nat_cmp overlay.old.changes id)) }
+    ensures change_elsewhere { OnOk result ((j : ℕ) → j ≢ id →
+        get nat_cmp overlay.new.changes j ≡ get nat_cmp overlay.old.changes j) }
     ensures steps { steps.new ≤ steps.old + 1 }
 {
     match outcome {
@@ -167,8 +186,10 @@ fn keep_value<L: Ledger>(
     ensures waiting { OnOk result (overlay.new.waiting ≡ overlay.old.waiting) }
     ensures lost { OnOk result (overlay.new.lost ≡ overlay.old.lost) }
     ensures roots { OnOk result (overlay.new.roots ≡ overlay.old.roots) }
-    ensures change_here { OnOk result (get nat_cmp overlay.new.changes id ≡ change_of id (Value value) old.now (get nat_cmp overlay.old.changes id)) }
-    ensures change_elsewhere { OnOk result ((j : ℕ) → j ≢ id → get nat_cmp overlay.new.changes j ≡ get nat_cmp overlay.old.changes j) }
+    ensures change_here { OnOk result (get nat_cmp overlay.new.changes id ≡
+        change_of id (Value value) old.now (get nat_cmp overlay.old.changes id)) }
+    ensures change_elsewhere { OnOk result ((j : ℕ) → j ≢ id →
+        get nat_cmp overlay.new.changes j ≡ get nat_cmp overlay.old.changes j) }
     ensures steps { steps.new ≤ steps.old + 1 }
 {
     if other {

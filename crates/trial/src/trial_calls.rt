@@ -52,9 +52,15 @@ impl Trial {
         requires moves { AreMoves (graph_in N.rule store.now) moves.now }
         requires target { target.0 < count_of store.now }
         requires number { kind_of (value_at store.now target.0) ≡ number_kind }
-        ensures difference { IfOk result (λ d. IsDifference (graph_in N.rule store.now) (value_at store.now) (moved_to moves.now (value_at store.now)) target.0 d) }
-        ensures fault { IfErr result (λ stop. IsRefusal (graph_in N.rule store.now) (value_at store.now) (moved_to moves.now (value_at store.now)) target.0 stop) }
-        ensures steps { IsWithin (graph_in N.rule store.now) (value_at store.now) (moved_to moves.now (value_at store.now)) (is_moved moves.now) (uses_in store.now.frame) steps.old steps.new }
+        ensures difference { IfOk result (λ d.
+            IsDifference (graph_in N.rule store.now) (value_at store.now)
+            (moved_to moves.now (value_at store.now)) target.0 d) }
+        ensures fault { IfErr result (λ stop.
+            IsRefusal (graph_in N.rule store.now) (value_at store.now)
+            (moved_to moves.now (value_at store.now)) target.0 stop) }
+        ensures steps { IsWithin (graph_in N.rule store.now) (value_at store.now)
+            (moved_to moves.now (value_at store.now)) (is_moved moves.now)
+            (uses_in store.now.frame) steps.old steps.new }
     {
         if moves.is_empty() {
             return Ok(0);
@@ -83,9 +89,15 @@ fn answer<N: NodeRule, L: Ledger>(
     requires some { 0 < length moves.now }
     requires target { target.0 < count_of store.now }
     requires number { kind_of (value_at store.now target.0) ≡ number_kind }
-    ensures difference { IfOk result (λ d. IsDifference (graph_in N.rule store.now) (value_at store.now) (moved_to ask.moves (value_at store.now)) target.0 d) }
-    ensures fault { IfErr result (λ stop. IsRefusal (graph_in N.rule store.now) (value_at store.now) (moved_to ask.moves (value_at store.now)) target.0 stop) }
-    ensures steps { IsWithin (graph_in N.rule store.now) (value_at store.now) (moved_to ask.moves (value_at store.now)) (is_moved ask.moves) (uses_in store.now.frame) ask.base steps.new }
+    ensures difference { IfOk result (λ d.
+        IsDifference (graph_in N.rule store.now) (value_at store.now)
+        (moved_to ask.moves (value_at store.now)) target.0 d) }
+    ensures fault { IfErr result (λ stop.
+        IsRefusal (graph_in N.rule store.now) (value_at store.now)
+        (moved_to ask.moves (value_at store.now)) target.0 stop) }
+    ensures steps { IsWithin (graph_in N.rule store.now) (value_at store.now)
+        (moved_to ask.moves (value_at store.now)) (is_moved ask.moves)
+        (uses_in store.now.frame) ask.base steps.new }
 {
     move_all(alloc, store, overlay, moves, steps)?;
     run(alloc, store, overlay, target, steps)?;

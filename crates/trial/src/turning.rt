@@ -34,10 +34,23 @@ fn turn<N: NodeRule, L: Ledger>(
     requires usable { IsUsable N.rule N.held N.ready store.now }
     requires course { InProbe (rules_in N.rule store.now) store.now.frame store.now.cells ask overlay.old (NotBefore front (layer_of store.now.frame)) (steps.old + 4) }
     requires front { first_front ≤ front }
-    ensures course { IfOk result (λ r. MatchOption r (Unit {0}) (λ t. InProbe (rules_in N.rule store.now) store.now.frame store.now.cells ask overlay.new (NotBefore (rank (layer_of store.now.frame) t.id + 1) (layer_of store.now.frame)) (steps.new + 4))) }
-    ensures limit { IsWithin (graph_in N.rule store.now) (value_at store.now) (moved_to ask.moves (value_at store.now)) (is_moved ask.moves) (uses_in store.now.frame) ask.base steps.new }
-    ensures turn { IfOk result (λ r. MatchOption r (Unit {0}) (λ t. (t.layer ≡ layer_of store.now.frame t.id) × (t.id < count_of store.now) × (front ≤ rank (layer_of store.now.frame) t.id) × (rank (layer_of store.now.frame) t.id ≤ target.layer * 4294967296 + target.id))) }
-    ensures over { IfOk result (λ r. MatchOption r (((j : ℕ) → j < count_of store.now → rank (layer_of store.now.frame) j ≤ target.layer * 4294967296 + target.id → waits overlay.old.waiting (layer_of store.now.frame j) j ≡ None) × (overlay.new.lost ≡ overlay.old.lost) × (overlay.new.changes ≡ overlay.old.changes) × (overlay.new.roots ≡ overlay.old.roots) × (steps.new ≡ steps.old + 1)) (λ t. Unit {0})) }
+    ensures course { IfOk result (λ r.
+        MatchOption r (Unit {0}) (λ t. InProbe
+        (rules_in N.rule store.now) store.now.frame store.now.cells ask overlay.new
+        (NotBefore (rank (layer_of store.now.frame) t.id + 1) (layer_of store.now.frame))
+        (steps.new + 4))) }
+    ensures limit { IsWithin (graph_in N.rule store.now) (value_at store.now)
+        (moved_to ask.moves (value_at store.now)) (is_moved ask.moves)
+        (uses_in store.now.frame) ask.base steps.new }
+    ensures turn { IfOk result (λ r. MatchOption r (Unit {0}) (λ t.
+        (t.layer ≡ layer_of store.now.frame t.id) × (t.id < count_of store.now) ×
+        (front ≤ rank (layer_of store.now.frame) t.id) ×
+        (rank (layer_of store.now.frame) t.id ≤ target.layer * 4294967296 + target.id))) }
+    ensures over { IfOk result (λ r. MatchOption r (((j : ℕ) → j < count_of store.now →
+        rank (layer_of store.now.frame) j ≤ target.layer * 4294967296 + target.id →
+        waits overlay.old.waiting (layer_of store.now.frame j) j ≡ None) ×
+        (overlay.new.lost ≡ overlay.old.lost) × (overlay.new.changes ≡ overlay.old.changes) ×
+        (overlay.new.roots ≡ overlay.old.roots) × (steps.new ≡ steps.old + 1)) (λ t. Unit {0})) }
 {
     let Some(turn) = overlay.waiting.pop(steps) else {
         return Ok(None);
@@ -54,7 +67,8 @@ fn turn<N: NodeRule, L: Ledger>(
 
 /// Whether a turn comes after another.
 fn is_past(turn: Turn, other: Turn) -> bool
-    ensures { result ≡ nat_lt (other.layer * 4294967296 + other.id) (turn.layer * 4294967296 + turn.id) }
+    ensures { result ≡ nat_lt (other.layer * 4294967296 + other.id)
+        (turn.layer * 4294967296 + turn.id) }
 {
     rank_of(other) < rank_of(turn)
 }
@@ -79,8 +93,12 @@ pub(crate) fn run<N: NodeRule, L: Ledger>(
     requires target { target.0 < count_of store.now }
     requires course { InProbe (rules_in N.rule store.now) store.now.frame store.now.cells ask overlay.old (NotBefore first_front (layer_of store.now.frame)) (steps.old + 4) }
     ensures known { OnOk result (IsKnown (rules_in N.rule store.now) store.now.frame store.now.cells ask overlay.new.lost overlay.new.changes overlay.new.roots target.0) }
-    ensures spare { OnOk result (IsWithin (graph_in N.rule store.now) (value_at store.now) (moved_to ask.moves (value_at store.now)) (is_moved ask.moves) (uses_in store.now.frame) ask.base (steps.new + 3)) }
-    ensures limit { IsWithin (graph_in N.rule store.now) (value_at store.now) (moved_to ask.moves (value_at store.now)) (is_moved ask.moves) (uses_in store.now.frame) ask.base steps.new }
+    ensures spare { OnOk result (IsWithin (graph_in N.rule store.now) (value_at store.now)
+        (moved_to ask.moves (value_at store.now)) (is_moved ask.moves)
+        (uses_in store.now.frame) ask.base (steps.new + 3)) }
+    ensures limit { IsWithin (graph_in N.rule store.now) (value_at store.now)
+        (moved_to ask.moves (value_at store.now)) (is_moved ask.moves)
+        (uses_in store.now.frame) ask.base steps.new }
 {
     let last = turn_of(store.frame(), target);
     let mut front: u128 = 4294967296;
