@@ -2,6 +2,7 @@
 ghost use Rattle.std.specs.Prelude.{◌≡◌, ◌+◌, ◌*◌, ◌<◌, ◌≤◌, true, [], ◌∷◌, take, Some, None, length, OnOk, MatchOption, MatchBool, option_copied};
 ghost use Rattle.std.specs.Option.{option_map};
 ghost use Rattle.std.specs.BTreeMap.{is_at};
+ghost use Rattle.cbl_base.specs.declared.input.Change.TheVariants.{Int as IntChange};
 ghost use Rattle.store_turns.specs.Entries.{are_distinct, changes_of, and_change, look, turn_at, pending_at, turn_cmp, IsBefore, IsLeast, NotAfter, Puts, SameBut};
 
 use crate::waiting::{Pending, Turn};
@@ -108,6 +109,31 @@ impl ShortList {
         Ok(())
     }
 
+    /// The change of a number waits for a node for which nothing waited.
+    // `begin` would take a made change, which is copied at each call on its way to the list.
+    pub(crate) fn begin_number(
+        &mut self,
+        alloc: Global,
+        turn: Turn,
+        place: u32,
+        old: &i64,
+        new: &i64,
+    ) -> Result<(), NoMemory>
+        requires { look turn (take self.old.live self.old.entries.items) ≡ None }
+        ensures here { OnOk result (option_map changes_of
+            (look turn (take self.new.live self.new.entries.items)) ≡
+            Some (Some (IntChange place old.now new.now ∷ []))) }
+        ensures elsewhere { OnOk result (SameBut turn (take self.old.live self.old.entries.items)
+            (take self.new.live self.new.entries.items)) }
+    {
+        self.make_room()?;
+        let entry = &mut self.entries[self.live];
+        entry.0 = turn;
+        begin_number_with(alloc, &mut entry.1, place, old, new)?;
+        self.live += 1;
+        Ok(())
+    }
+
     /// An input of a node for which nothing waited has no value.
     pub(crate) fn begin_blocked(&mut self, turn: Turn) -> Result<(), NoMemory>
         requires { look turn (take self.old.live self.old.entries.items) ≡ None }
@@ -153,6 +179,32 @@ impl ShortList {
             (take self.new.live self.new.entries.items)) }
     {
         add_to(&mut self.entries[place].1, change)
+    }
+
+    /// The change of a number, at a place of its inputs, waits too for the node that stands at a place of
+    /// the list.
+    pub(crate) fn add_number(
+        &mut self,
+        at: usize,
+        place: u32,
+        old: &i64,
+        new: &i64,
+    ) -> Result<(), NoMemory>
+        requires { at < length (take self.old.live self.old.entries.items) }
+        ensures before { look (turn_at (take self.old.live self.old.entries.items) at)
+            (take self.old.live self.old.entries.items) ≡
+            Some (pending_at (take self.old.live self.old.entries.items) at) }
+        ensures here { OnOk result (option_map changes_of
+            (look (turn_at (take self.old.live self.old.entries.items) at)
+            (take self.new.live self.new.entries.items)) ≡
+            Some (and_change (IntChange place old.now new.now) (Some (changes_of
+            (pending_at (take self.old.live self.old.entries.items) at))))) }
+        ensures elsewhere { OnOk result (SameBut
+            (turn_at (take self.old.live self.old.entries.items) at)
+            (take self.old.live self.old.entries.items)
+            (take self.new.live self.new.entries.items)) }
+    {
+        add_number_to(&mut self.entries[at].1, place, old, new)
     }
 
     /// An input of the node at a place has no value. It answers what waited.
@@ -221,6 +273,58 @@ fn begin_with(alloc: Global, pending: &mut Pending, change: Change) -> Result<()
             *pending = Pending::Changed(list);
             Ok(())
         }
+    }
+}
+
+/// One change of a number waits, whatever waited before.
+fn begin_number_with(
+    alloc: Global,
+    pending: &mut Pending,
+    place: u32,
+    old: &i64,
+    new: &i64,
+) -> Result<(), NoMemory>
+    ensures { OnOk result (changes_of pending.new ≡
+        Some (IntChange place old.now new.now ∷ [])) }
+{
+    match pending {
+        Pending::Changed(list) => {
+            list.clear();
+            list.push(Change::Int {
+                place,
+                old: *old,
+                new: *new,
+            })?;
+            Ok(())
+        }
+        Pending::Below => {
+            let mut list = Vec::new(alloc);
+            list.push(Change::Int {
+                place,
+                old: *old,
+                new: *new,
+            })?;
+            *pending = Pending::Changed(list);
+            Ok(())
+        }
+    }
+}
+
+/// With one more change of a number.
+fn add_number_to(pending: &mut Pending, place: u32, old: &i64, new: &i64) -> Result<(), NoMemory>
+    ensures { OnOk result (changes_of pending.new ≡
+        and_change (IntChange place old.now new.now) (Some (changes_of pending.old))) }
+{
+    match pending {
+        Pending::Changed(changes) => {
+            changes.push(Change::Int {
+                place,
+                old: *old,
+                new: *new,
+            })?;
+            Ok(())
+        }
+        Pending::Below => Ok(()),
     }
 }
 

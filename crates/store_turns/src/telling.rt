@@ -2,6 +2,7 @@
 ghost use Rattle.std.specs.Prelude.{◌≡◌, ◌≢◌, ℕ, ◌+◌, ◌*◌, ◌<◌, ◌≤◌, true, cond, length, map, slice_index_or, IfOk, OnOk, All};
 ghost use Rattle.cbl_base.specs.Inputs.{kind_of};
 ghost use Rattle.cbl_base.specs.declared.input.Input.{Input};
+ghost use Rattle.cbl_base.specs.declared.input.Input.TheVariants.{Int};
 ghost use Rattle.store_turns.specs.declared.outcome.Outcome.TheVariants.{Value};
 ghost use Rattle.store_turns.specs.Waits.{waits};
 ghost use Rattle.store_turns.specs.Touch.{differs};
@@ -10,7 +11,7 @@ ghost use Rattle.store_turns.specs.Telling.{change_to, places_in, pushed, blocke
 use crate::outcome::{Outcome, same};
 use crate::set_changes::change_to;
 use crate::waiting::{Turn, Waiting};
-use cbl_base::{NoMemory, NodeId, NodeValue, Steps};
+use cbl_base::{Input, NoMemory, NodeId, NodeValue, Steps};
 use std::sync::ledger::Ledger;
 
 /// Tells those that use an id that it came to the outcome, where its value was the old one, and answers
@@ -41,6 +42,76 @@ pub fn tell<L: Ledger>(
 /// Tells those that use an id that its value was the old one and is the new one, and answers whether
 /// that is another.
 fn tell_value<L: Ledger>(
+    waiting: &mut Waiting,
+    layers: &[u32],
+    uses: &[(NodeId, u32)],
+    old: &NodeValue,
+    new: &NodeValue,
+    steps: &mut Steps<L>,
+) -> Result<bool, NoMemory>
+    requires users { All (λ u. u.0.0 < length layers.now) uses.now }
+    requires kinds { kind_of new.now ≡ kind_of old.now }
+    ensures answer { IfOk result (λ r. r ≡ differs (Value new.now) old.now) }
+    ensures told { OnOk result (IsTold (layer_in layers.now) uses.now old.now (Value new.now)
+        (waits waiting.old) (waits waiting.new)) }
+    ensures steps { steps.new ≤ steps.old + 2 * cond (differs (Value new.now) old.now)
+        (length uses.now) 0 }
+{
+    match (old, new) {
+        (Input::Int(a), Input::Int(b)) => tell_number(waiting, layers, uses, a, b, steps),
+        _ => tell_any(waiting, layers, uses, old, new, steps),
+    }
+}
+
+/// The same of two numbers, of which no value is made or copied.
+fn tell_number<L: Ledger>(
+    waiting: &mut Waiting,
+    layers: &[u32],
+    uses: &[(NodeId, u32)],
+    old: &i64,
+    new: &i64,
+    steps: &mut Steps<L>,
+) -> Result<bool, NoMemory>
+    requires users { All (λ u. u.0.0 < length layers.now) uses.now }
+    ensures answer { IfOk result (λ r. r ≡ differs (Value (Int new.now)) (Int old.now)) }
+    ensures told { OnOk result (IsTold (layer_in layers.now) uses.now (Int old.now)
+        (Value (Int new.now)) (waits waiting.old) (waits waiting.new)) }
+    ensures steps { steps.new ≤ steps.old + 2 *
+        cond (differs (Value (Int new.now)) (Int old.now)) (length uses.now) 0 }
+{
+    if *old == *new {
+        return Ok(false);
+    }
+    push_numbers(waiting, layers, uses, old, new, steps)?;
+    Ok(true)
+}
+
+/// Each use of an id gets the change from its old number to its new one. Two steps a use.
+fn push_numbers<L: Ledger>(
+    waiting: &mut Waiting,
+    layers: &[u32],
+    uses: &[(NodeId, u32)],
+    old: &i64,
+    new: &i64,
+    steps: &mut Steps<L>,
+) -> Result<(), NoMemory>
+    requires users { All (λ u. u.0.0 < length layers.now) uses.now }
+    ensures here { OnOk result ((j : ℕ) →
+        waits waiting.new (layer_in layers.now j) j ≡
+        pushed (map (λ p. change_to p (Int old.now) (Int new.now)) (places_in j uses.now))
+        (waits waiting.old (layer_in layers.now j) j)) }
+    ensures elsewhere { OnOk result ((l j : ℕ) → l ≢ layer_in layers.now j →
+        waits waiting.new l j ≡ waits waiting.old l j) }
+    ensures steps { steps.new ≤ steps.old + 2 * length uses.now }
+{
+    for (id, place) in uses {
+        waiting.push_number(turn_of(layers, *id), *place, old, new, steps)?;
+    }
+    Ok(())
+}
+
+/// The same of any two values.
+fn tell_any<L: Ledger>(
     waiting: &mut Waiting,
     layers: &[u32],
     uses: &[(NodeId, u32)],

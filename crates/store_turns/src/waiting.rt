@@ -1,6 +1,8 @@
 //! The nodes that wait for their turn.
 ghost use Rattle.std.specs.Prelude.{◌≡◌, ℕ, ◌+◌, ◌<◌, ◌≤◌, ◌⊎◌, [], ◌∷◌, take, None, Some, IsSome, IfSome, OnOk, MatchOption, MatchBool, length, option_copied};
 ghost use Rattle.std.specs.BTreeMap.{get};
+ghost use Rattle.cbl_base.specs.declared.input.Input.TheVariants.{Int};
+ghost use Rattle.store_turns.specs.Telling.{change_to};
 ghost use Rattle.store_turns.specs.Waits.{waits, taken_of, changes_of, and_change, turn_cmp, look, turn_at, NotAfter, IsBefore, IsLeast, SameElsewhere, IsFirst, IsFarFirst, IsGone};
 
 use crate::short_list::{ShortList, add_to, changes_in, is_before};
@@ -88,6 +90,30 @@ impl Waiting {
         match self.near.place_of(turn) {
             Some(place) => self.near.add(place, change),
             None => self.push_later(turn, change),
+        }
+    }
+
+    /// The same, of the change at a place of its inputs from an old number to a new one.
+    pub fn push_number<L: Ledger>(
+        &mut self,
+        turn: Turn,
+        place: u32,
+        old: &i64,
+        new: &i64,
+        steps: &mut Steps<L>,
+    ) -> Result<(), NoMemory>
+        ensures here { OnOk result (waits self.new turn.layer turn.id ≡
+            Some (and_change (change_to place (Int old.now) (Int new.now))
+            (waits self.old turn.layer turn.id))) }
+        ensures elsewhere { OnOk result (SameElsewhere (waits self.new)
+            (waits self.old) turn.layer turn.id) }
+        ensures steps { steps.new ≡ steps.old + 2 }
+    {
+        steps.tick();
+        steps.tick();
+        match self.near.place_of(turn) {
+            Some(at) => self.near.add_number(at, place, old, new),
+            None => self.push_number_later(turn, place, old, new),
         }
     }
 
@@ -200,6 +226,30 @@ impl Waiting {
         }
     }
 
+    /// The change of a number waits for a node that isn't in the short list.
+    #[inline(always)]
+    fn push_number_later(
+        &mut self,
+        turn: Turn,
+        place: u32,
+        old: &i64,
+        new: &i64,
+    ) -> Result<(), NoMemory>
+        requires { look turn (take self.old.near.live self.old.near.entries.items) ≡ None }
+        ensures here { OnOk result (waits self.new turn.layer turn.id ≡
+            Some (and_change (change_to place (Int old.now) (Int new.now))
+            (waits self.old turn.layer turn.id))) }
+        ensures elsewhere { OnOk result (SameElsewhere (waits self.new)
+            (waits self.old) turn.layer turn.id) }
+    {
+        if self.far.is_empty() {
+            if self.near.len() < FEW {
+                return self.near.begin_number(self.alloc, turn, place, old, new);
+            }
+        }
+        self.push_later(turn, number_change(place, old, new))
+    }
+
     /// A change waits for a node for which nothing waited.
     #[inline(always)]
     fn push_first(&mut self, turn: Turn, change: Change) -> Result<(), NoMemory>
@@ -257,6 +307,17 @@ impl Waiting {
     {
         self.far.insert(turn, pending)?;
         Ok(())
+    }
+}
+
+/// The change at a place from an old number to a new one.
+fn number_change(place: u32, old: &i64, new: &i64) -> Change
+    ensures { result ≡ change_to place (Int old.now) (Int new.now) }
+{
+    Change::Int {
+        place,
+        old: *old,
+        new: *new,
     }
 }
 
