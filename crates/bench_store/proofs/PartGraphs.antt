@@ -28,6 +28,8 @@ use Rattle.store_build.specs.Aims.{AreLinked, Takes, graph_over, start_of, layer
 use Rattle.store_build.proofs.NumberGraphs.{IsNumber, all_are_numbers, are_numbers}
 use Rattle.store_build.proofs.PlannedLayers.{rising, lowest}
 use Rattle.inc_store.specs.Moves.{AreMoves}
+use Rattle.bench_store.specs.Lists.{moves_in}
+use Rattle.bench_store.specs.declared.one_list.Moves.{Moves}
 use Rattle.bench_store.specs.Parts.{AreLists, AreMovesBelow, FreeBelow, is_below, is_list, is_none, rule_of_part, taken_by}
 use Rattle.bench_store.specs.declared.parts.Part.{Part}
 use Rattle.bench_store.specs.declared.parts.Part.TheVariants.{Plus, Minus, AllDifferent as Differing, Total}
@@ -240,9 +242,9 @@ module _ (lists : List (Vec ℕ Global)) (cells : ℕ) (parts : List Part) (ok :
             (ap (taken_by p.0) long ∙ ok.taken (id - first) p.0 p.1))
 
 -- moves of the first cells, wherever these are free
-pub moves_of : (n m : ℕ) (g : Graph) (lists : List (Vec (VarId × ℤ) Global)) → FreeBelow m g → n ≤ m → All (λ v. AreMovesBelow n v.items) lists → All (λ v. AreMoves g v.items) lists
+pub moves_of : (n m : ℕ) (g : Graph) (lists : List Moves) → FreeBelow m g → n ≤ m → All (λ v. AreMovesBelow n (moves_in v)) lists → All (λ v. AreMoves g (moves_in v)) lists
 moves_of n m g lists free le all =
-    All-weaker (λ (v : Vec (VarId × ℤ) Global). AreMovesBelow n v.items) (λ (v : Vec (VarId × ℤ) Global). AreMoves g v.items) (λ v h. h g (λ id lt. free id (omega (arith, lt, le)))) lists all
+    All-weaker (λ (v : Moves). AreMovesBelow n (moves_in v)) (λ (v : Moves). AreMoves g (moves_in v)) (λ v h. h g (λ id lt. free id (omega (arith, lt, le)))) lists all
 
-pub more_moves : (n : ℕ) (old new : List (Vec (VarId × ℤ) Global)) (v : Vec (VarId × ℤ) Global) → new ≡ old ++ v ∷ [] → All (λ v. AreMovesBelow n v.items) old → AreMovesBelow n v.items → All (λ v. AreMovesBelow n v.items) new
-more_moves n old new v e all one = subst (λ (vs : List (Vec (VarId × ℤ) Global)). All (λ v. AreMovesBelow n v.items) vs) (sym e) (All-push (λ (v : Vec (VarId × ℤ) Global). AreMovesBelow n v.items) old v all one)
+pub more_moves : (n : ℕ) (old new : List Moves) (v : Moves) → new ≡ old ++ v ∷ [] → All (λ v. AreMovesBelow n (moves_in v)) old → AreMovesBelow n (moves_in v) → All (λ v. AreMovesBelow n (moves_in v)) new
+more_moves n old new v e all one = subst (λ (vs : List Moves). All (λ v. AreMovesBelow n (moves_in v)) vs) (sym e) (All-push (λ (v : Moves). AreMovesBelow n (moves_in v)) old v all one)

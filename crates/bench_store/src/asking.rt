@@ -2,15 +2,17 @@
 ghost use Rattle.std.specs.Prelude.{◌≡◌, ◌<◌, ◌≤◌, true, IfOk, OnOk, All};
 ghost use Rattle.cbl_base.specs.Inputs.{number_kind, kind_of};
 ghost use Rattle.inc_store.specs.Moves.{AreMoves};
+ghost use Rattle.bench_store.specs.Lists.{moves_in};
 ghost use Rattle.inc_store.specs.Views.{IsUsable, graph_in, value_at, count_of};
 
 use crate::draws::Draws;
 use crate::linking::store_of;
 use crate::moves::{Shape, lists_of};
+use crate::one_list::Moves;
 use crate::pieces::Piece;
 use crate::queens::start_of;
 use crate::stop::Stop;
-use cbl_base::{Input, NodeId, NodeRule, Steps, VarId};
+use cbl_base::{Input, NodeId, NodeRule, Steps};
 use inc_store::Store;
 use node_base::OverNumbers;
 use std::alloc::Global;
@@ -33,8 +35,8 @@ struct Times {
 /// A store, and the lists of moves with which it is timed.
 #[derive(Drop)]
 struct Scene {
-    assignments: Vec<Vec<(VarId, i64)>>,
-    swaps: Vec<Vec<(VarId, i64)>>,
+    assignments: Vec<Moves>,
+    swaps: Vec<Moves>,
     store: Store<OverNumbers<Piece>>,
 }
 
@@ -66,8 +68,8 @@ fn scene_of(alloc: Global, count: u32) -> Result<Scene, Stop>
     requires some { 2 ≤ count }
     requires few { count ≤ 1000000 }
     ensures usable { IfOk result (λ s. IsUsable ⟦<OverNumbers<Piece> as NodeRule>⟧.rule ⟦<OverNumbers<Piece> as NodeRule>⟧.held ⟦<OverNumbers<Piece> as NodeRule>⟧.ready s.store) }
-    ensures assignments { IfOk result (λ s. All (λ v. AreMoves (graph_in ⟦<OverNumbers<Piece> as NodeRule>⟧.rule s.store) v.items) s.assignments.items) }
-    ensures swaps { IfOk result (λ s. All (λ v. AreMoves (graph_in ⟦<OverNumbers<Piece> as NodeRule>⟧.rule s.store) v.items) s.swaps.items) }
+    ensures assignments { IfOk result (λ s. All (λ v. AreMoves (graph_in ⟦<OverNumbers<Piece> as NodeRule>⟧.rule s.store) (moves_in v)) s.assignments.items) }
+    ensures swaps { IfOk result (λ s. All (λ v. AreMoves (graph_in ⟦<OverNumbers<Piece> as NodeRule>⟧.rule s.store) (moves_in v)) s.swaps.items) }
 {
     let mut draws = Draws::new();
     let start = start_of(alloc, &mut draws, count)?;
@@ -98,15 +100,15 @@ fn time_store<R: CpuClock, N: NodeRule, L: Ledger>(
     store: &mut Store<N>,
     trial: &mut Trial,
     target: NodeId,
-    assignments: &[Vec<(VarId, i64)>],
-    swaps: &[Vec<(VarId, i64)>],
+    assignments: &[Moves],
+    swaps: &[Moves],
 ) -> Result<Times, Stop>
     requires name { blank.name ≡ L.name }
     requires parts { blank.parts ≡ L.parts }
     requires some { 0 < L.parts }
     requires usable { IsUsable N.rule N.held N.ready store.old }
-    requires assignments { All (λ v. AreMoves (graph_in N.rule store.old) v.items) assignments.now }
-    requires swaps { All (λ v. AreMoves (graph_in N.rule store.old) v.items) swaps.now }
+    requires assignments { All (λ v. AreMoves (graph_in N.rule store.old) (moves_in v)) assignments.now }
+    requires swaps { All (λ v. AreMoves (graph_in N.rule store.old) (moves_in v)) swaps.now }
 {
     let mut steps = Steps::<L>::new(blank);
     if target.0 as usize >= store.frame().inputs.len() {
@@ -138,11 +140,11 @@ fn time_probes<R: CpuClock, N: NodeRule, L: Ledger>(
     store: &Store<N>,
     trial: &mut Trial,
     target: NodeId,
-    lists: &[Vec<(VarId, i64)>],
+    lists: &[Moves],
     steps: &mut Steps<L>,
 ) -> Result<u64, Stop>
     requires usable { IsUsable N.rule N.held N.ready store.now }
-    requires moves { All (λ v. AreMoves (graph_in N.rule store.now) v.items) lists.now }
+    requires moves { All (λ v. AreMoves (graph_in N.rule store.now) (moves_in v)) lists.now }
     requires target { target.0 < count_of store.now }
     requires number { kind_of (value_at store.now target.0) ≡ number_kind }
 {
@@ -160,11 +162,11 @@ fn probe_all<N: NodeRule, L: Ledger>(
     store: &Store<N>,
     trial: &mut Trial,
     target: NodeId,
-    lists: &[Vec<(VarId, i64)>],
+    lists: &[Moves],
     steps: &mut Steps<L>,
 ) -> Result<i64, Stop>
     requires usable { IsUsable N.rule N.held N.ready store.now }
-    requires moves { All (λ v. AreMoves (graph_in N.rule store.now) v.items) lists.now }
+    requires moves { All (λ v. AreMoves (graph_in N.rule store.now) (moves_in v)) lists.now }
     requires target { target.0 < count_of store.now }
     requires number { kind_of (value_at store.now target.0) ≡ number_kind }
 {
@@ -180,11 +182,11 @@ fn probe_all<N: NodeRule, L: Ledger>(
 fn time_commits<R: CpuClock, N: NodeRule, L: Ledger>(
     rt: &R,
     store: &mut Store<N>,
-    lists: &[Vec<(VarId, i64)>],
+    lists: &[Moves],
     steps: &mut Steps<L>,
 ) -> Result<u64, Stop>
     requires usable { IsUsable N.rule N.held N.ready store.old }
-    requires moves { All (λ v. AreMoves (graph_in N.rule store.old) v.items) lists.now }
+    requires moves { All (λ v. AreMoves (graph_in N.rule store.old) (moves_in v)) lists.now }
 {
     let start = rt.process_cpu_time()?;
     let mut sum: i64 = 0;
@@ -198,11 +200,11 @@ fn time_commits<R: CpuClock, N: NodeRule, L: Ledger>(
 /// How many values these commits change.
 fn commit_all<N: NodeRule, L: Ledger>(
     store: &mut Store<N>,
-    lists: &[Vec<(VarId, i64)>],
+    lists: &[Moves],
     steps: &mut Steps<L>,
 ) -> Result<i64, Stop>
     requires usable { IsUsable N.rule N.held N.ready store.old }
-    requires moves { All (λ v. AreMoves (graph_in N.rule store.old) v.items) lists.now }
+    requires moves { All (λ v. AreMoves (graph_in N.rule store.old) (moves_in v)) lists.now }
     ensures usable { OnOk result (IsUsable N.rule N.held N.ready store.new) }
     ensures graph { OnOk result (graph_in N.rule store.new ≡ graph_in N.rule store.old) }
 {

@@ -7,6 +7,7 @@ mod asking;
 mod draws;
 mod linking;
 mod moves;
+mod one_list;
 mod parts;
 mod pieces;
 mod queens;

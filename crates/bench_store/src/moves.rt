@@ -1,8 +1,10 @@
 //! Moves of cells.
 ghost use Rattle.std.specs.Prelude.{◌≡◌, ◌<◌, ◌≤◌, length, IfOk, All};
+ghost use Rattle.bench_store.specs.Lists.{moves_in};
 ghost use Rattle.bench_store.specs.Parts.{AreMovesBelow};
 
 use crate::draws::Draws;
+use crate::one_list::{Moves, one_move, two_moves};
 use cbl_base::{NoMemory, VarId};
 use std::alloc::Global;
 
@@ -23,67 +25,53 @@ pub(crate) fn lists_of(
     shape: Shape,
     start: &[i64],
     count: u32,
-) -> Result<Vec<Vec<(VarId, i64)>>, NoMemory>
+) -> Result<Vec<Moves>, NoMemory>
     requires some { 2 ≤ count }
     requires cells { count ≤ length start.now }
-    ensures { IfOk result (λ lists. All (λ v. AreMovesBelow count v.items) lists.items) }
+    ensures { IfOk result (λ lists. All (λ v. AreMovesBelow count (moves_in v)) lists.items) }
 {
     let mut lists = Vec::new(alloc);
     for _list in 0..LISTS {
-        let moves = one_of(alloc, draws, shape, start, count)?;
-        lists.push(moves)?;
+        lists.push(one_of(draws, shape, start, count))?;
     }
     Ok(lists)
 }
 
 /// One list of such moves.
-fn one_of(
-    alloc: Global,
-    draws: &mut Draws,
-    shape: Shape,
-    start: &[i64],
-    count: u32,
-) -> Result<Vec<(VarId, i64)>, NoMemory>
+fn one_of(draws: &mut Draws, shape: Shape, start: &[i64], count: u32) -> Moves
     requires some { 2 ≤ count }
     requires cells { count ≤ length start.now }
-    ensures { IfOk result (λ moves. AreMovesBelow count moves.items) }
+    ensures { AreMovesBelow count (moves_in result) }
 {
     match shape {
-        Shape::Assignment => assignment(alloc, draws, count),
-        Shape::Swap => swap(alloc, draws, start, count),
+        Shape::Assignment => assignment(draws, count),
+        Shape::Swap => swap(draws, start, count),
     }
 }
 
 /// A cell gets a number below the count.
-fn assignment(alloc: Global, draws: &mut Draws, count: u32) -> Result<Vec<(VarId, i64)>, NoMemory>
+fn assignment(draws: &mut Draws, count: u32) -> Moves
     requires { 0 < count }
-    ensures { IfOk result (λ moves. AreMovesBelow count moves.items) }
+    ensures { AreMovesBelow count (moves_in result) }
 {
     let var = cell(draws.below(count));
     let number = i64::from(draws.below(count));
-    let moves = vec![in alloc; (var, number)]?;
-    Ok(moves)
+    one_move((var, number))
 }
 
 /// A cell of the first half gets the number with which one of the second starts, and that one the other's.
-fn swap(
-    alloc: Global,
-    draws: &mut Draws,
-    start: &[i64],
-    count: u32,
-) -> Result<Vec<(VarId, i64)>, NoMemory>
+fn swap(draws: &mut Draws, start: &[i64], count: u32) -> Moves
     requires some { 2 ≤ count }
     requires cells { count ≤ length start.now }
-    ensures { IfOk result (λ moves. AreMovesBelow count moves.items) }
+    ensures { AreMovesBelow count (moves_in result) }
 {
     let half = count / 2;
     let first = draws.below(half);
     let second = half + draws.below(half);
-    let moves = vec![in alloc;
+    two_moves(
         (cell(first), start[second as usize]),
         (cell(second), start[first as usize]),
-    ]?;
-    Ok(moves)
+    )
 }
 
 /// The variable of a cell.
