@@ -16,6 +16,7 @@ use std::sync::ledger::Ledger;
 
 /// Tells those that use an id that it came to the outcome, where its value was the old one, and answers
 /// whether the outcome is another. At most two steps a use, and none where it isn't.
+#[inline(always)]
 pub fn tell<L: Ledger>(
     waiting: &mut Waiting,
     layers: &[u32],

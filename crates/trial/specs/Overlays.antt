@@ -9,7 +9,7 @@ use Rattle.cbl_base.specs.declared.input.Change.{Change}
 use Rattle.cbl_base.specs.declared.faults.RunFault.{RunFault}
 use Rattle.store_turns.specs.declared.frame.Frame.{Frame}
 use Rattle.store_turns.specs.declared.outcome.Outcome.{Outcome}
-use Rattle.store_turns.specs.declared.outcome.Outcome.TheVariants.{Value, Missing}
+use Rattle.store_turns.specs.declared.outcome.Outcome.TheVariants.{Value, Fails, Missing}
 use Rattle.store_turns.specs.Meaning.{outcome_of, rule_value, inputs_in}
 use Rattle.store_turns.specs.Waits.{waits}
 use Rattle.store_build.specs.Frames.{cell_of}
@@ -37,6 +37,12 @@ root_by j (Some None) below = below
 
 abbrev pub root_in : BTreeMap ℕ (Option RunFault) → BTreeMap ℕ (ℕ × RunFault) → ℕ → Option (ℕ × RunFault)
 root_in lost roots j = root_by j (get nat_cmp lost j) (get nat_cmp roots j)
+
+-- the steps of the look at what is noted of an id that has come to this outcome
+abbrev pub root_steps : Outcome → ℕ
+root_steps (Value x) = 0
+root_steps (Fails fault) = 0
+root_steps Missing = 1
 
 -- the lesser of two, and what is noted where an id is used at these places
 abbrev pub lesser : Option (ℕ × RunFault) → Option (ℕ × RunFault) → Option (ℕ × RunFault)

@@ -1,5 +1,5 @@
 //! What an id comes to in its turn of a trial.
-ghost use Rattle.std.specs.Prelude.{◌≡◌, ℕ, ◌+◌, ◌-◌, ◌<◌, ◌≤◌, true, false, List, [], ◌∷◌, length, map, nat_lt, slice_index_or, slice_get, Some, None, IfOk, option_copied};
+ghost use Rattle.std.specs.Prelude.{◌≡◌, ℕ, ◌+◌, ◌-◌, ◌<◌, ◌≤◌, true, false, List, [], ◌∷◌, length, map, nat_lt, slice_index_or, slice_get, Some, IfOk, option_copied};
 ghost use Rattle.std.specs.BTreeMap.{get};
 ghost use Rattle.std.specs.Ordering.{nat_cmp};
 ghost use Rattle.cbl_base.specs.declared.input.Change.{Change};
@@ -10,7 +10,7 @@ ghost use Rattle.store_turns.specs.Touch.{cost};
 ghost use Rattle.store_turns.specs.declared.outcome.Outcome.TheVariants.{Value};
 ghost use Rattle.inc_store.specs.Course.{lost_by};
 ghost use Rattle.inc_store.specs.Views.{IsUsable, value_at, count_of, first_of, inputs_at, rules_in};
-ghost use Rattle.trial.specs.Overlays.{asked, new_or, root_by};
+ghost use Rattle.trial.specs.Overlays.{asked, new_or, root_by, root_steps};
 
 use crate::overlay::Overlay;
 use cbl_base::{Change, NoMemory, NodeFault, NodeId, NodeRule, NodeValue, RunFault, Steps};
@@ -19,9 +19,8 @@ use std::alloc::Global;
 use std::sync::ledger::Ledger;
 use store_turns::{Frame, Outcome, copy_of};
 
-/// What an id comes to in its turn, by what waited for it, which is taken, and the failing node on which it
-/// stands then.
-/// At most as many steps as there are changes, and one more.
+/// What an id comes to in its turn, by what waited for it, which is taken. At most as many steps as there are
+/// changes, and one more, with that of `root_of`.
 pub(crate) fn came_to<N: NodeRule, L: Ledger>(
     alloc: Global,
     store: &Store<N>,
@@ -30,7 +29,7 @@ pub(crate) fn came_to<N: NodeRule, L: Ledger>(
     id: u32,
     old: &NodeValue,
     steps: &mut Steps<L>,
-) -> Result<(Outcome, Option<(u32, RunFault)>), NoMemory>
+) -> Result<Outcome, NoMemory>
     requires usable { IsUsable N.rule N.held N.ready store.now }
     requires frame { frame.now ≡ store.now.frame }
     requires within { id < count_of store.now }
@@ -41,14 +40,14 @@ pub(crate) fn came_to<N: NodeRule, L: Ledger>(
         taken_of overlay.now.waiting ≡ Some cs →
         AreChanges (map (value_at store.now) (inputs_at store.now id)) cs }
     ensures outcome { IfOk result (λ r.
-        r.0 ≡ asked (rules_in N.rule store.now) store.now.frame store.now.cells overlay.now id
+        r ≡ asked (rules_in N.rule store.now) store.now.frame store.now.cells overlay.now id
         (taken_of overlay.now.waiting)) }
-    ensures root { IfOk result (λ r. r.1 ≡
-        root_by id (lost_by r.0) (get nat_cmp overlay.now.roots id)) }
+    ensures spare { IfOk result (λ r. steps.new + root_steps r + 3 ≤
+        steps.old + cost (Some (taken_of overlay.now.waiting))) }
     ensures steps { steps.new + 3 ≤ steps.old + cost (Some (taken_of overlay.now.waiting)) }
 {
     match overlay.waiting.taken() {
-        None => Ok((Outcome::Missing, overlay.root(id, steps))),
+        None => Ok(Outcome::Missing),
         Some(changes) => {
             if id < frame.first {
                 copied(alloc, frame, overlay, id, old, steps)
@@ -56,6 +55,24 @@ pub(crate) fn came_to<N: NodeRule, L: Ledger>(
                 probed(store, id, changes, steps)
             }
         }
+    }
+}
+
+/// The failing node on which an id stands that has come to this outcome. One step where an input has no value.
+pub(crate) fn root_of<L: Ledger>(
+    overlay: &Overlay,
+    id: u32,
+    outcome: &Outcome,
+    steps: &mut Steps<L>,
+) -> Option<(u32, RunFault)>
+    ensures root { result ≡
+        root_by id (lost_by outcome.now) (get nat_cmp overlay.now.roots id) }
+    ensures steps { steps.new ≡ steps.old + root_steps outcome.now }
+{
+    match outcome {
+        Outcome::Value(_) => None,
+        Outcome::Fails(fault) => Some((id, *fault)),
+        Outcome::Missing => overlay.root(id, steps),
     }
 }
 
@@ -67,18 +84,17 @@ fn copied<L: Ledger>(
     id: u32,
     old: &NodeValue,
     steps: &mut Steps<L>,
-) -> Result<(Outcome, Option<(u32, RunFault)>), NoMemory>
+) -> Result<Outcome, NoMemory>
     requires within { id < length frame.now.inputs.items }
     requires one { (i : ℕ) × (inputs_in frame.now id ≡ i ∷ []) }
     ensures outcome { IfOk result (λ r.
-        r.0 ≡ Value (new_or (get nat_cmp overlay.now.changes
+        r ≡ Value (new_or (get nat_cmp overlay.now.changes
         (slice_index_or (inputs_in frame.now id) 0 0)) old.now)) }
-    ensures root { IfOk result (λ r. r.1 ≡ None) }
     ensures steps { steps.new ≡ steps.old + 1 }
 {
     let input = frame.inputs[id as usize][0];
     let value = copy_of(alloc, newest(overlay.changed(input.0, steps), old))?;
-    Ok((Outcome::Value(value), None))
+    Ok(Outcome::Value(value))
 }
 
 /// The new value, where there is one.
@@ -97,23 +113,22 @@ fn probed<N: NodeRule, L: Ledger>(
     id: u32,
     changes: &[Change],
     steps: &mut Steps<L>,
-) -> Result<(Outcome, Option<(u32, RunFault)>), NoMemory>
+) -> Result<Outcome, NoMemory>
     requires usable { IsUsable N.rule N.held N.ready store.now }
     requires within { id < count_of store.now }
     requires past { first_of store.now ≤ id }
     requires changes { AreChanges (map (value_at store.now) (inputs_at store.now id)) changes.now }
     ensures outcome { IfOk result (λ r.
-        r.0 ≡ outcome_of (rule_value (slice_get (rules_in N.rule store.now)
+        r ≡ outcome_of (rule_value (slice_get (rules_in N.rule store.now)
         (id - first_of store.now)) (after_changes
         (map (value_at store.now) (inputs_at store.now id)) changes.now))) }
-    ensures root { IfOk result (λ r. r.1 ≡ root_by id (lost_by r.0) None) }
     ensures steps { steps.new ≡ steps.old + (length changes.now + 1) }
 {
     tick_each(changes, steps);
     steps.tick();
     match store.node(NodeId(id)).probe(changes) {
-        Ok(value) => Ok((Outcome::Value(value), None)),
-        Err(NodeFault::Run(fault)) => Ok((Outcome::Fails(fault), Some((id, fault)))),
+        Ok(value) => Ok(Outcome::Value(value)),
+        Err(NodeFault::Run(fault)) => Ok(Outcome::Fails(fault)),
         Err(NodeFault::NoMemory) => Err(NoMemory),
     }
 }

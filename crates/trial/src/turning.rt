@@ -11,7 +11,7 @@ ghost use Rattle.inc_store.specs.Stores.{IsWithin};
 ghost use Rattle.inc_store.specs.Views.{IsUsable, graph_in, rules_in, value_at, count_of};
 ghost use Rattle.trial.specs.Course.{Asked, InProbe, IsKnown};
 
-use crate::asking::came_to;
+use crate::asking::{came_to, root_of};
 use crate::overlay::Overlay;
 use crate::settling::{settle, turn_of};
 use cbl_base::{NoMemory, NodeId, NodeRule, Steps};
@@ -60,7 +60,8 @@ fn turn<N: NodeRule, L: Ledger>(
     }
     let frame = store.frame();
     let old = store.read(NodeId(turn.id), steps);
-    let (outcome, root) = came_to(alloc, store, frame, overlay, turn.id, old, steps)?;
+    let outcome = came_to(alloc, store, frame, overlay, turn.id, old, steps)?;
+    let root = root_of(overlay, turn.id, &outcome, steps);
     settle(alloc, frame, overlay, turn.id, old, outcome, root, steps)?;
     Ok(Some(turn))
 }

@@ -87,14 +87,14 @@ returns-in_err-settle-clause-limit g c =
     limit_asked (map g.N.NodeRule.rule c.args.store.now.nodes.items) (map g.N.NodeRule.held c.args.store.now.nodes.items) c.args.store.now.frame c.args.store.now.cells c.requires.1.1.1.1.0.2 g.ask c.args.overlay.now c.args.front (c.args.steps.now + 4) c.requires.1.1.1.1.1.0 c.requires.1.1.1.1.1.1
     c.in-Some.turn.layer c.in-Some.turn.id (taken_of c.pop.new.self) (waits c.pop.new.self) c.in-Some.ensures.none c.in-Some.ensures.least c.in-Some.ensures.here c.in-Some.ensures.elsewhere
     c.in_ok-outcome.outcome c.in_ok-outcome.ensures.outcome c.settle.new.steps
-    (let s = rw (c.frame-frame.ensures, c.read-old.ensures.value) at c.settle.ensures.steps in omega (arith, c.pop.ensures.steps, c.read-old.ensures.steps, c.came_to.ensures.steps, s))
+    (let s = rw (c.frame-frame.ensures, c.read-old.ensures.value) at c.settle.ensures.steps in omega (arith, c.pop.ensures.steps, c.read-old.ensures.steps, c.in_ok-outcome.ensures.spare, c.root_of-root.ensures.steps, s))
 
 pub returns-clause-limit : goal.returns-clause-limit
 returns-clause-limit g c =
     limit_asked (map g.N.NodeRule.rule c.args.store.now.nodes.items) (map g.N.NodeRule.held c.args.store.now.nodes.items) c.args.store.now.frame c.args.store.now.cells c.requires.1.1.1.1.0.2 g.ask c.args.overlay.now c.args.front (c.args.steps.now + 4) c.requires.1.1.1.1.1.0 c.requires.1.1.1.1.1.1
     c.in-Some.turn.layer c.in-Some.turn.id (taken_of c.pop.new.self) (waits c.pop.new.self) c.in-Some.ensures.none c.in-Some.ensures.least c.in-Some.ensures.here c.in-Some.ensures.elsewhere
     c.in_ok-outcome.outcome c.in_ok-outcome.ensures.outcome c.settle.new.steps
-    (let s = rw (c.frame-frame.ensures, c.read-old.ensures.value) at c.settle.ensures.steps in omega (arith, c.pop.ensures.steps, c.read-old.ensures.steps, c.came_to.ensures.steps, s))
+    (let s = rw (c.frame-frame.ensures, c.read-old.ensures.value) at c.settle.ensures.steps in omega (arith, c.pop.ensures.steps, c.read-old.ensures.steps, c.in_ok-outcome.ensures.spare, c.root_of-root.ensures.steps, s))
 
 pub returns-clause-turn : goal.returns-clause-turn
 returns-clause-turn g c =
@@ -107,9 +107,9 @@ pub returns-clause-course : goal.returns-clause-course
 returns-clause-course g c =
     next (map g.N.NodeRule.rule c.args.store.now.nodes.items) (map g.N.NodeRule.held c.args.store.now.nodes.items) c.args.store.now.frame c.args.store.now.cells c.requires.1.1.1.1.0.2 g.ask c.args.overlay.now c.args.front (c.args.steps.now + 4) c.requires.1.1.1.1.1.0 c.requires.1.1.1.1.1.1
     c.in-Some.turn.layer c.in-Some.turn.id (taken_of c.pop.new.self) (waits c.pop.new.self) c.in-Some.ensures.none c.in-Some.ensures.least c.in-Some.ensures.here c.in-Some.ensures.elsewhere
-    c.in_ok-outcome.outcome c.in_ok-outcome.ensures.outcome c.in_ok-outcome.root c.settle.new.overlay (c.settle.new.steps + 4) c.in_ok-outcome.ensures.root
+    c.in_ok-outcome.outcome c.in_ok-outcome.ensures.outcome c.root_of-root.result c.settle.new.overlay (c.settle.new.steps + 4) c.root_of-root.ensures.root
     (rw (c.frame-frame.ensures, c.read-old.ensures.value) at c.in_ok-settle.ensures.told)
     c.in_ok-settle.ensures.lost_here c.in_ok-settle.ensures.lost_elsewhere
     (rw c.read-old.ensures.value at c.in_ok-settle.ensures.change_here) c.in_ok-settle.ensures.change_elsewhere
     (rw c.frame-frame.ensures at c.in_ok-settle.ensures.roots)
-    (let s = rw (c.frame-frame.ensures, c.read-old.ensures.value) at c.settle.ensures.steps in omega (arith, c.pop.ensures.steps, c.read-old.ensures.steps, c.came_to.ensures.steps, s))
+    (let s = rw (c.frame-frame.ensures, c.read-old.ensures.value) at c.settle.ensures.steps in omega (arith, c.pop.ensures.steps, c.read-old.ensures.steps, c.in_ok-outcome.ensures.spare, c.root_of-root.ensures.steps, s))
