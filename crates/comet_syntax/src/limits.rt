@@ -1,6 +1,4 @@
 //! The limits of texts.
 
-use cbl_base::limits::MAX_PROGRAM_BYTES;
-
 /// How many bytes a text has at most.
-pub const MOST_BYTES: usize = MAX_PROGRAM_BYTES;
+pub const MOST_BYTES: usize = 1_048_576;

@@ -1,6 +1,5 @@
 //! What is left of a form.
 ghost use Rattle.std.specs.Prelude.{◌≤◌};
-ghost use Rattle.cbl_base.specs.declared.limits.TheConstants.{MAX_NESTING};
 
 use crate::grammar::Symbol;
 
@@ -10,5 +9,5 @@ pub struct Frame {
     pub first: Symbol,
     pub behind: &'static [Symbol],
     pub depth: usize,
-    ghost low: { depth ≤ MAX_NESTING },
+    ghost low: { depth ≤ 200 },
 }
