@@ -3,6 +3,9 @@
 /// Bytes of a program's text: 1 MiB.
 pub const MAX_PROGRAM_BYTES: usize = 1_048_576;
 
+/// Bytes of data: 16 MiB.
+pub const MAX_DATA_BYTES: usize = 16_777_216;
+
 /// Parts of a program's text that are open at one place.
 pub const MAX_NESTING: u32 = 200;
 

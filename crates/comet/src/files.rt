@@ -8,6 +8,7 @@ ghost use Rattle.comet.specs.Loading.{IsDataStop, IsLoadStop, IsReadStop, IsText
 ghost use Rattle.comet.specs.Output.{data_of};
 
 use crate::report::{Cause, FileRole};
+use cbl_base::limits::MAX_DATA_BYTES;
 use cbl_io::{Files, ReadStop};
 use checked_tree::Checked;
 use comet_front::{TextStop, read_program};
@@ -15,7 +16,7 @@ use comet_syntax::MOST_BYTES;
 use std::alloc::Global;
 
 /// How many bytes of data are read, and one more.
-const MOST_DATA: u64 = 16_777_216;
+const MOST_DATA: u64 = MAX_DATA_BYTES as u64;
 
 /// The first `most + 1` bytes of a file that is read for this role.
 fn read_file<F: Files>(

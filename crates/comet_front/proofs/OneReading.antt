@@ -1,6 +1,7 @@
 -- A text is at most one checked program, or its form is refused at one place for one cause, or its types are.
 use Rattle.std.specs.Prelude.{◌≡◌, ℕ, true, false, List}
 use Rattle.std.proofs.Common.{sym, ◌∙◌, ap, subst}
+use Rattle.cbl_base.specs.declared.limits.TheConstants.{MAX_NESTING}
 use Rattle.cbl_base.specs.declared.place.Place.{Place}
 use Rattle.checked_tree.specs.Tasks.{Whole}
 use Rattle.comet_meaning.specs.Built.{is_built}
@@ -38,8 +39,8 @@ accepted_one p q program other same a b =
 trees_alike : (text : List ℕ) (p q : Program) → HasTree text p → HasTree text q → SameProgram p q
 trees_alike text p q a b =
     let e : a.tokens ≡ b.tokens = list_one a.listed b.listed in
-    let at_b : Spells 200 p b.tokens = subst (λ l. Spells 200 p l) e a.spelled in
-    same_program b.tokens p q (at_any_depth 200 b.tokens p at_b) (at_any_depth 200 b.tokens q b.spelled)
+    let at_b : Spells MAX_NESTING p b.tokens = subst (λ l. Spells MAX_NESTING p l) e a.spelled in
+    same_program b.tokens p q (at_any_depth MAX_NESTING b.tokens p at_b) (at_any_depth MAX_NESTING b.tokens q b.spelled)
 
 pub one_program : (text : List ℕ) (program other : Whole) → HasProgram text program → HasProgram text other → program ≡ other
 one_program text program other a b = accepted_one a.tree b.tree program other (trees_alike text a.tree b.tree a.has b.has) a.typed b.typed
@@ -47,13 +48,13 @@ one_program text program other a b = accepted_one a.tree b.tree program other (t
 tree_not_refused : (text : List ℕ) (p : Program) (place : Place) (cause : FormCause) → HasTree text p → HasNoTree text place cause → ⊥
 tree_not_refused text p place cause a r =
     let e : a.tokens ≡ r.tokens = list_one a.listed r.listed in
-    not_spelled 200 r.tokens r.before r.rest cause p r.refused (subst (λ l. Spells 200 p l) e a.spelled)
+    not_spelled MAX_NESTING r.tokens r.before r.rest cause p r.refused (subst (λ l. Spells MAX_NESTING p l) e a.spelled)
 
 one_stop : (text : List ℕ) (place other : Place) (cause another : FormCause) → HasNoTree text place cause → HasNoTree text other another → (place ≡ other) × (cause ≡ another)
 one_stop text place other cause another r s =
     let e : r.tokens ≡ s.tokens = list_one r.listed s.listed in
     let one : (r.before ≡ s.before) × (r.rest ≡ s.rest) × (cause ≡ another) =
-    one_refusal 200 s.tokens r.before r.rest s.before s.rest cause another (subst (λ l. Refused 200 l r.before r.rest cause) e r.refused) s.refused in
+    one_refusal MAX_NESTING s.tokens r.before r.rest s.before s.rest cause another (subst (λ l. Refused MAX_NESTING l r.before r.rest cause) e r.refused) s.refused in
     (r.place_is ∙ ap (λ l. place_left text l) one.1 ∙ sym s.place_is, one.2)
 
 pub one_refusal_of : (text : List ℕ) (place other : Place) (cause another : FormCause) → IsIllFormed text place cause → IsIllFormed text other another → (place ≡ other) × (cause ≡ another)

@@ -2,6 +2,7 @@
 -- A text that can't be cut into tokens, and one whose tokens no tree within the limit spells, have a cause and a place of their own. A tree with a part that the rules of types and effects refuse has that part's place and code. A well typed program that holds a form that isn't built is refused at 1:1.
 -- A rule of this project, but for the places and causes, which are the language's.
 use Rattle.std.specs.Prelude.{◌≡◌, ℕ, true, false, List, [], ◌∷◌}
+use Rattle.cbl_base.specs.declared.limits.TheConstants.{MAX_NESTING}
 use Rattle.cbl_base.specs.declared.place.Place.{Place}
 use Rattle.checked_tree.specs.declared.statements.Checked.{Checked}
 use Rattle.checked_tree.specs.Tasks.{Whole, program_of}
@@ -19,11 +20,11 @@ use Rattle.comet_types.specs.Program.{judged, accepted, refused}
 use Rattle.comet_front.specs.declared.stop.TextStop.{TextStop}
 use Rattle.comet_front.specs.declared.stop.TextStop.TheVariants.{Fault, IllTyped, NoMemory}
 
--- a tree spells the text's tokens, with nothing nested deeper than 200
+-- a tree spells the text's tokens, with nothing nested deeper than `MAX_NESTING`
 pub record HasTree (text : List ℕ) (tree : Program) : Type 0 where
   pub tokens : List Token
   pub listed : HasTokens text tokens
-  pub spelled : Spells 200 tree tokens
+  pub spelled : Spells MAX_NESTING tree tokens
 
 -- the rules of types and effects accept the tree as this program
 abbrev pub IsAccepted : Program → Whole → Type 0
@@ -47,7 +48,7 @@ pub record HasNoTree (text : List ℕ) (place : Place) (cause : FormCause) : Typ
   pub listed : HasTokens text tokens
   pub before : List Token
   pub rest : List Token
-  pub refused : Refused 200 tokens before rest cause
+  pub refused : Refused MAX_NESTING tokens before rest cause
   pub place_is : place ≡ place_left text rest
 
 -- the text's tree is accepted as a program with a form that isn't built

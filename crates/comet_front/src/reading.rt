@@ -1,5 +1,6 @@
 //! The program of a text.
 ghost use Rattle.std.specs.Prelude.{◌≡◌, ◌≤◌, List, length, drop, IfOk, IfErr};
+ghost use Rattle.cbl_base.specs.declared.limits.TheConstants.{MAX_NESTING};
 ghost use Rattle.checked_tree.specs.Tasks.{program_of};
 ghost use Rattle.comet_syntax.specs.declared.limits.TheConstants.{MOST_BYTES};
 ghost use Rattle.comet_syntax.specs.Tokens.TokenList.{HasTokens};
@@ -74,7 +75,7 @@ fn read_tree(alloc: Global, text: &[u8]) -> Result<Program, TextStop>
 /// The refusal of a text whose tokens are refused.
 fn refusal(text: &[u8], tokens: &[Token], stop: ParseStop) -> TextStop
     requires listed { HasTokens text.now tokens.now }
-    requires refused { IsRefusal 200 tokens.now stop }
+    requires refused { IsRefusal MAX_NESTING tokens.now stop }
     ensures { IsTextStop text.now result }
 {
     match stop {

@@ -1,10 +1,10 @@
 -- The limits of a run. A rule of this project.
 use Rattle.std.specs.Prelude.{ℕ}
-use Rattle.cbl_base.specs.declared.limits.TheConstants.{MAX_CANDIDATES, MAX_TERM_DEPTH, MAX_TERM_NODES, MAX_VARIABLES}
+use Rattle.cbl_base.specs.declared.limits.TheConstants.{MAX_CANDIDATES, MAX_CELLS, MAX_DATA_BYTES, MAX_RUNNING_DEPTH, MAX_TERM_DEPTH, MAX_TERM_NODES, MAX_VARIABLES}
 
 -- how many statements and expressions may be executed inside each other
 abbrev pub most_depth : ℕ
-most_depth = 1000
+most_depth = MAX_RUNNING_DEPTH
 
 abbrev pub most_variables : ℕ
 most_variables = MAX_VARIABLES
@@ -17,11 +17,11 @@ abbrev pub most_terms : ℕ
 most_terms = MAX_TERM_NODES
 
 abbrev pub most_cells : ℕ
-most_cells = 16777216
+most_cells = MAX_CELLS
 
 -- how many bytes of data are read
 abbrev pub most_data : ℕ
-most_data = 16777216
+most_data = MAX_DATA_BYTES
 
 -- how many candidates a selector may have
 abbrev pub most_candidates : ℕ

@@ -3,6 +3,7 @@ use Rattle.std.specs.Prelude.{ℕ, List, [], ◌∷◌, ◌++◌, ◌+◌, ◌-�
 use Rattle.std.proofs.Common.{sym, ◌∙◌, ap, subst, arith}
 use Rattle.std.proofs.lemmas.List.{length-append}
 use Rattle.std.proofs.Math.Seq.{take-append_seam, drop-append_seam}
+use Rattle.cbl_base.specs.declared.limits.TheConstants.{MAX_NESTING}
 use Rattle.comet_syntax.specs.declared.stop.FormCause.{FormCause}
 use Rattle.comet_syntax.specs.declared.stop.FormCause.TheVariants as causes
 use Rattle.comet_syntax.specs.declared.token.Token.{Token}
@@ -20,12 +21,12 @@ use Rattle.comet_parse.specs.declared.stop.ParseStop.TheVariants as refusals
 use Rattle.comet_parse.specs.Refusals.{IsRefusal}
 
 -- the program whose text is the listing is spelled by the tokens
-pub spelled : (ts : List Token) (log : List Event) (p : Program) → Lists 200 ts log → written_program p ≡ shown_all log ts → Spells 200 p ts
+pub spelled : (ts : List Token) (log : List Event) (p : Program) → Lists MAX_NESTING ts log → written_program p ≡ shown_all log ts → Spells MAX_NESTING p ts
 spelled ts log p l e = (l.steps, l.derives, l.is ∙ sym e)
 
 -- and no other program is
-pub spelled_alone : (ts : List Token) (log : List Event) (p : Program) → Lists 200 ts log → written_program p ≡ shown_all log ts → (other : Program) → SpellsAtAnyDepth other ts → SameProgram other p
-spelled_alone ts log p l e other s = same_program ts other p s (at_any_depth 200 ts p (spelled ts log p l e))
+pub spelled_alone : (ts : List Token) (log : List Event) (p : Program) → Lists MAX_NESTING ts log → written_program p ≡ shown_all log ts → (other : Program) → SpellsAtAnyDepth other ts → SameProgram other p
+spelled_alone ts log p l e other s = same_program ts other p s (at_any_depth MAX_NESTING ts p (spelled ts log p l e))
 
 -- the cut of the tokens where they are refused
 record Cut (ts before rest : List Token) (left number : ℕ) : Type 0 where
@@ -33,9 +34,9 @@ record Cut (ts before rest : List Token) (left number : ℕ) : Type 0 where
   back : rest ≡ drop number ts
   size : length ts ≡ length before + length rest
 
-cut_at : (ts before rest : List Token) (left number : ℕ) (cause : FormCause) → Refused 200 ts before rest cause → left ≡ length rest → number ≡ length ts - left → Cut ts before rest left number
+cut_at : (ts before rest : List Token) (left number : ℕ) (cause : FormCause) → Refused MAX_NESTING ts before rest cause → left ≡ length rest → number ≡ length ts - left → Cut ts before rest left number
 cut_at ts before rest left number cause refused left_is is =
-    let cut : ts ≡ before ++ rest = cut_of 200 ts before rest cause refused in
+    let cut : ts ≡ before ++ rest = cut_of MAX_NESTING ts before rest cause refused in
     let size : length ts ≡ length before + length rest = ap length cut ∙ length-append before rest in
     let at : length before ≡ number = omega (arith, size, left_is, is) in
     record {
@@ -45,21 +46,21 @@ cut_at ts before rest left number cause refused left_is is =
     }
 
 -- the tokens are refused where so many are left
-by_cause : (ts before rest : List Token) (left number : ℕ) (cause : FormCause) → Refused 200 ts before rest cause → Cut ts before rest left number → left ≡ length rest → number ≡ length ts - left
-    → IsRefusal 200 ts (refusals.Fault number cause)
+by_cause : (ts before rest : List Token) (left number : ℕ) (cause : FormCause) → Refused MAX_NESTING ts before rest cause → Cut ts before rest left number → left ≡ length rest → number ≡ length ts - left
+    → IsRefusal MAX_NESTING ts (refusals.Fault number cause)
 by_cause ts before [] left number causes.UnexpectedEnd r c l is = ((refl, r.1, r.2, r.3), omega (arith, l, is))
 by_cause ts before (u ∷ more) left number causes.Unexpected r c l is =
-    subst (λ z. Refused 200 ts (take number ts) z causes.Unexpected) c.back (subst (λ z. Refused 200 ts z (u ∷ more) causes.Unexpected) c.front r)
+    subst (λ z. Refused MAX_NESTING ts (take number ts) z causes.Unexpected) c.back (subst (λ z. Refused MAX_NESTING ts z (u ∷ more) causes.Unexpected) c.front r)
 by_cause ts before (u ∷ more) left number causes.TooDeep r c l is =
-    subst (λ z. Refused 200 ts (take number ts) z causes.TooDeep) c.back (subst (λ z. Refused 200 ts z (u ∷ more) causes.TooDeep) c.front r)
+    subst (λ z. Refused MAX_NESTING ts (take number ts) z causes.TooDeep) c.back (subst (λ z. Refused MAX_NESTING ts z (u ∷ more) causes.TooDeep) c.front r)
 by_cause ts before _ left number _ r c l is = absurd r
 
-pub refused_there : (ts : List Token) (left number : ℕ) (cause : FormCause) → IsStop 200 ts (Fault left cause) → number ≡ length ts - left → IsRefusal 200 ts (refusals.Fault number cause)
+pub refused_there : (ts : List Token) (left number : ℕ) (cause : FormCause) → IsStop MAX_NESTING ts (Fault left cause) → number ≡ length ts - left → IsRefusal MAX_NESTING ts (refusals.Fault number cause)
 refused_there ts left number cause (before, rest, left_is, refused) is = by_cause ts before rest left number cause refused (cut_at ts before rest left number cause refused left_is is) left_is is
 
 -- no more are left than there are
-pub few_left : (ts : List Token) (left : ℕ) (cause : FormCause) → IsStop 200 ts (Fault left cause) → left ≤ length ts
+pub few_left : (ts : List Token) (left : ℕ) (cause : FormCause) → IsStop MAX_NESTING ts (Fault left cause) → left ≤ length ts
 few_left ts left cause (before, rest, left_is, refused) =
-    let cut : ts ≡ before ++ rest = cut_of 200 ts before rest cause refused in
+    let cut : ts ≡ before ++ rest = cut_of MAX_NESTING ts before rest cause refused in
     let size : length ts ≡ length before + length rest = ap length cut ∙ length-append before rest in
     omega (arith, size, left_is)

@@ -3,6 +3,7 @@ use Rattle.std.specs.Prelude.{ℕ, ℤ, Bool, true, false, List, [], ◌∷◌, 
 use Rattle.std.proofs.Common.{sym, ◌∙◌, ap, subst, arith, append_assoc}
 use Rattle.std.specs.declared.alloc.Global.{Global}
 use Rattle.std.specs.declared.vec.Vec.{Vec}
+use Rattle.cbl_base.specs.declared.limits.TheConstants.{MAX_NESTING}
 use denote.Enum.Declared.{tag_of}
 use Rattle.cbl_base.specs.declared.place.Place.{Place}
 use Rattle.comet_syntax.specs.contracts.token.Word.{the_type}
@@ -160,7 +161,7 @@ none_behind : {A : Type 0} (xs : List A) → xs ++ [] ≡ xs
 none_behind [] = refl
 none_behind (x ∷ xs) = ap (λ z. x ∷ z) (none_behind xs)
 
-pub begun : (log : List Event) (ts : List Token) (st : State) → reads log ≡ length ts → Carries 200 start ts (shown_all log ts) [] [] → Building (shown_all log ts) log ts st
+pub begun : (log : List Event) (ts : List Token) (st : State) → reads log ≡ length ts → Carries MAX_NESTING start ts (shown_all log ts) [] [] → Building (shown_all log ts) log ts st
 begun log ts st r run = record {
   undone = [];
   whole = sym (none_behind (shown_all log ts));
@@ -178,7 +179,7 @@ record Chose (all : List Shown) (log' : List Event) (f : Form) (ts : List Token)
   items_are : items_after (shown_all log' ts) start ≡ part (part_in f) depth ∷ behind
   stands : Stands (push (body_in f) depth behind) st undone
 
-chose : (all : List Shown) (tokens ts : List Token) (log log' : List Event) (f : Form) (st : State) → Carries 200 start tokens all [] [] → log ≡ log' ++ (events.Chose f ∷ []) → Building all log ts st → Chose all log' f ts st
+chose : (all : List Shown) (tokens ts : List Token) (log log' : List Event) (f : Form) (st : State) → Carries MAX_NESTING start tokens all [] [] → log ≡ log' ++ (events.Chose f ∷ []) → Building all log ts st → Chose all log' f ts st
 chose all tokens ts log log' f st run e b =
     let r : reads log' ≡ length ts = sym (reads_chose log' f) ∙ (ap reads (sym e) ∙ b.all_read) in
     let x : Shown = form (part_in f) (body_in f) in
@@ -188,11 +189,11 @@ chose all tokens ts log log' f st run e b =
     let i : items_after (shown_all log ts) start ≡ push (body_in f) n.depth n.behind = ap (λ z. items_after z start) s ∙ (items_after_one (shown_all log' ts) x start ∙ ap (after x) n.is) in
     record { undone = b.undone; whole = w; all_read = r; depth = n.depth; behind = n.behind; items_are = n.is; stands = subst (λ z. Stands z st b.undone) i b.stands }
 
-pub ready_chose : (all : List Shown) (tokens ts : List Token) (log log' : List Event) (f : Form) (st : State) → Carries 200 start tokens all [] [] → log ≡ log' ++ (events.Chose f ∷ []) → Building all log ts st
+pub ready_chose : (all : List Shown) (tokens ts : List Token) (log log' : List Event) (f : Form) (st : State) → Carries MAX_NESTING start tokens all [] [] → log ≡ log' ++ (events.Chose f ∷ []) → Building all log ts st
     → Takes (body_in f) st (λ v b. Unit {0})
 ready_chose all tokens ts log log' f st run e b = let h = chose all tokens ts log log' f st run e b in ready_form (body_in f) h.depth h.behind st h.undone h.stands
 
-pub done_chose : (all : List Shown) (tokens ts : List Token) (log log' : List Event) (f : Form) (st st' : State) → Carries 200 start tokens all [] [] → log ≡ log' ++ (events.Chose f ∷ []) → Building all log ts st
+pub done_chose : (all : List Shown) (tokens ts : List Token) (log log' : List Event) (f : Form) (st st' : State) → Carries MAX_NESTING start tokens all [] [] → log ≡ log' ++ (events.Chose f ∷ []) → Building all log ts st
     → Undoes (part_in f) (body_in f) (Made f) st st' → Building all log' ts st'
 done_chose all tokens ts log log' f st st' run e b u =
     let h = chose all tokens ts log log' f st run e b in
@@ -217,7 +218,7 @@ after_kind : (m : Bool) (t : Token) (k : Kind) (K : List Item) → after (shown 
 after_kind true t k K = refl
 after_kind false t k K = refl
 
-pub done_read : (all : List Shown) (tokens ts front : List Token) (log log' : List Event) (m : Bool) (t : Token) (st st' : State) → Carries 200 start tokens all [] [] → log ≡ log' ++ (events.Read m ∷ []) → ts ≡ front ++ (t ∷ [])
+pub done_read : (all : List Shown) (tokens ts front : List Token) (log log' : List Event) (m : Bool) (t : Token) (st st' : State) → Carries MAX_NESTING start tokens all [] [] → log ≡ log' ++ (events.Read m ∷ []) → ts ≡ front ++ (t ∷ [])
     → Building all log ts st → Keeps m t st st' → Building all log' front st'
 done_read all tokens ts front log log' m t st st' run e d b k =
     let r : reads log' ≡ length front = reads_before log' m front t (ap reads (sym e) ∙ (b.all_read ∙ ap length d)) in

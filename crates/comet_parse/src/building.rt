@@ -1,5 +1,6 @@
 //! The tree of a listing, which is undone from its end.
 ghost use Rattle.std.specs.Prelude.{◌≡◌, IfOk};
+ghost use Rattle.cbl_base.specs.declared.limits.TheConstants.{MAX_NESTING};
 ghost use Rattle.comet_syntax.specs.Written.Programs.{written_program};
 ghost use Rattle.parse_machine.specs.Forms.{part_in, body_in};
 ghost use Rattle.parse_machine.specs.Listing.{Lists, shown_all};
@@ -34,7 +35,7 @@ fn undo(alloc: Global, stacks: &mut Stacks, form: Form) -> Result<(), NoMemory>
 
 /// The program whose text is a listing of the tokens.
 pub fn build(alloc: Global, log: Vec<Event>, tokens: &[Token]) -> Result<Program, NoMemory>
-    requires { Lists 200 tokens.now log.items }
+    requires { Lists MAX_NESTING tokens.now log.items }
     ensures { IfOk result (λ p. written_program p ≡ shown_all log.items tokens.now) }
 {
     let mut log = log;

@@ -1,16 +1,16 @@
 -- Signs and keywords by their spelling.
-use Rattle.std.specs.Prelude.{◌≡◌, ◌<◌, ◌+◌, ℕ, Bool, true, false, not, ◌&&◌, List, [], ◌∷◌, length, map, drop, slice_index_or, Option, Some, None, IfNone, if◌then◌else◌, refl}
+use Rattle.std.specs.Prelude.{◌≡◌, ◌<◌, ◌+◌, ℕ, Bool, true, false, not, ◌&&◌, ◌||◌, List, [], ◌∷◌, length, map, drop, slice_index_or, Option, Some, None, IfSome, IfNone, is_some, if◌then◌else◌, refl}
 use Rattle.std.specs.List.{find, list_all, list_any}
 use Rattle.std.specs.Str.{bytes_eq}
-use Rattle.std.proofs.Common.{ap, sym, ◌∙◌, subst, inl, inr, add-one, Bor}
+use Rattle.std.proofs.Common.{arith, ap, sym, ◌∙◌, subst, inl, inr, add-one, Bor}
 use Rattle.std.proofs.Math.Seq.{drop-cons}
 use Rattle.std.proofs.lemmas.Slice.Eq.{bytes_eq-Decides}
 use Rattle.comet_syntax.specs.declared.token.Word.{Word}
 use Rattle.comet_syntax.specs.declared.token.Word.TheVariants as words
-use Rattle.comet_syntax.specs.Word.{spelling, are_spelled_so}
-use Rattle.comet_syntax.specs.Lexeme.{is_number, is_sign, signs, IsLexeme, a_word, a_number, a_sign}
+use Rattle.comet_syntax.specs.Word.{spelling, are_spelled_so, has_spelling, row_for}
+use Rattle.comet_syntax.specs.Lexeme.{is_letter, is_word_byte, is_number, is_sign, signs, IsLexeme, a_word, a_number, a_sign}
 use Rattle.comet_syntax.specs.Name.{is_name, is_keyword, keywords}
-use Rattle.comet_syntax.proofs.Lexing.{and_left, and_right, or_cases, among_passes, clash}
+use Rattle.comet_syntax.proofs.Lexing.{and_left, and_right, or_cases, or_left, among_passes, clash, not_false, sign_begins}
 
 -- an entry that stands behind this text stands behind its own spelling
 pub entry_spelled : (table : List (Bor (List ℕ) × Word)) (i : ℕ) (d : Bor (List ℕ) × Word) (shown bytes : List ℕ) → i < length table → are_spelled_so (drop i table) ≡ true
@@ -142,10 +142,11 @@ spelled_one_way x y e = same_some (sym (found_word x) ∙ ap (λ w. find (λ z. 
 abbrev pub is_spelled : List ℕ → Bool
 is_spelled bytes = list_any (λ spelled. bytes_eq spelled bytes) (map spelling all_words)
 
--- what isn't among all spellings is the spelling of no word
-pub spells_no_word : (bytes : List ℕ) (found : Option Word) → IfNone found (is_spelled bytes ≡ false) → IfNone found ((word : Word) → bytes ≡ spelling word → ⊥)
-spells_no_word bytes None h = λ word e. clash _ (of_every_word (λ x. is_spelled (spelling x)) refl word) (subst (λ b. is_spelled b ≡ false) e h)
-spells_no_word bytes (Some word) h = tt
+-- what a text's row doesn't have is the spelling of no word, where each word's row has its spelling
+pub spelled_in_no_row : (rows : List (Bor (List (Bor (List ℕ) × Word)))) (bytes : List ℕ) (found : Option Word) → ((word : Word) → has_spelling (row_for rows (spelling word)) (spelling word) ≡ true)
+    → IfNone found (has_spelling (row_for rows bytes) bytes ≡ false) → IfNone found ((word : Word) → bytes ≡ spelling word → ⊥)
+spelled_in_no_row rows bytes (Some word) all h = tt
+spelled_in_no_row rows bytes None all h = λ word e. clash _ (all word) (subst (λ b. has_spelling (row_for rows b) b ≡ false) e h)
 
 -- what is among all spellings is the spelling of a word
 spelled_among : (ws : List Word) (bytes : List ℕ) → list_any (λ spelled. bytes_eq spelled bytes) (map spelling ws) ≡ true → (word : Word) × (bytes ≡ spelling word)
@@ -158,6 +159,38 @@ spelled_among (w ∷ ws) bytes h = elim (or_cases (bytes_eq (spelling w) bytes) 
 pub sign_is_word : (bytes : List ℕ) → is_sign bytes ≡ true → (word : Word) × (bytes ≡ spelling word)
 unfolding is_sign
 sign_is_word bytes h = spelled_among all_words bytes (among_passes is_spelled signs bytes h refl)
+
+abbrev begins_with_letter : List ℕ → Bool
+begins_with_letter [] = false
+begins_with_letter (c ∷ cs) = is_letter c
+
+-- a word is a sign where it doesn't begin with a letter
+sign_or_letter : (word : Word) → (begins_with_letter (spelling word) || is_sign (spelling word)) ≡ true
+unfolding is_sign
+sign_or_letter word = of_every_word (λ x. begins_with_letter (spelling x) || is_sign (spelling x)) refl word
+
+pub sign_is_found : {bytes cs : List ℕ} {c : ℕ} (found : Option Word) → bytes ≡ c ∷ cs → is_letter c ≡ false
+    → IfSome found (λ word. bytes ≡ spelling word) → IfNone found ((word : Word) → bytes ≡ spelling word → ⊥) → is_some found ≡ is_sign bytes
+sign_is_found {bytes} {cs} {c} (Some word) e no_letter some none = elim (or_cases (begins_with_letter (spelling word)) _ (sign_or_letter word)) [
+  | inl letter ↦ absurd (clash (is_letter c) (subst (λ z. begins_with_letter z ≡ true) (sym some ∙ e) letter) no_letter)
+  | inr sign ↦ sym (ap is_sign some ∙ sign)
+]
+sign_is_found {bytes} None e no_letter some none = elim (is_sign bytes) as (λ b. is_sign bytes ≡ b → false ≡ b) [
+  | true ↦ λ sign. absurd (none (sign_is_word bytes sign).0 (sign_is_word bytes sign).1)
+  | false ↦ λ sign. refl
+] refl
+
+-- what begins with a letter, and what is empty, is no sign
+pub letter_no_sign : {bytes cs : List ℕ} {c : ℕ} → bytes ≡ c ∷ cs → is_letter c ≡ true → false ≡ is_sign bytes
+letter_no_sign {bytes} {cs} {c} e letter = elim (is_sign bytes) as (λ b. is_sign bytes ≡ b → false ≡ b) [
+  | true ↦ λ sign. absurd (clash (is_word_byte c) (or_left _ _ letter) (not_false (is_word_byte c) (and_left _ _ (sign_begins (c ∷ cs) (sym (ap is_sign e) ∙ sign)))))
+  | false ↦ λ sign. refl
+] refl
+
+pub empty_no_sign : (bytes : List ℕ) → length bytes ≡ 0 → false ≡ is_sign bytes
+unfolding is_sign
+empty_no_sign [] e = refl
+empty_no_sign (c ∷ cs) e = absurd (omega (arith, e))
 
 pub keyword_is_word : (bytes : List ℕ) → is_keyword bytes ≡ true → (word : Word) × (bytes ≡ spelling word)
 unfolding is_keyword

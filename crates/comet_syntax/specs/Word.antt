@@ -1,5 +1,5 @@
 -- How each sign and each keyword is spelled. From the language.
-use Rattle.std.specs.Prelude.{ℕ, Bool, List, codes}
+use Rattle.std.specs.Prelude.{ℕ, ◌%◌, Bool, List, [], ◌∷◌, slice_index_or, codes}
 use Rattle.std.specs.Str.{bytes_eq}
 use Rattle.std.specs.List.{list_all, list_any}
 use Rattle.std.proofs.Common.{Bor}
@@ -102,3 +102,8 @@ are_spelled_so table = list_all (λ entry. bytes_eq entry.0.now (spelling entry.
 -- a table has a spelling
 abbrev pub has_spelling : List (Bor (List ℕ) × Word) → List ℕ → Bool
 has_spelling table bytes = list_any (λ entry. bytes_eq entry.0.now bytes) table
+
+-- the row of a table for a text, which goes by the remainder of its first byte by 32
+abbrev pub row_for : List (Bor (List (Bor (List ℕ) × Word))) → List ℕ → List (Bor (List ℕ) × Word)
+row_for rows [] = []
+row_for rows (byte ∷ bytes) = (slice_index_or rows (byte % 32) (record { ref_ptr = (0, 0); now = [] })).now

@@ -1,4 +1,6 @@
 //! The limits of texts.
 
+use cbl_base::limits::MAX_PROGRAM_BYTES;
+
 /// How many bytes a text has at most.
-pub const MOST_BYTES: usize = 1_048_576;
+pub const MOST_BYTES: usize = MAX_PROGRAM_BYTES;

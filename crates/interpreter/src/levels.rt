@@ -13,6 +13,7 @@ ghost use Rattle.statement_forms.specs.OfRunSteps.Views.{code_seen, flow_seen, p
 ghost use Rattle.statement_forms.specs.OfRunValues.Views.{value_seen};
 
 use cbl_base::RunFault;
+use cbl_base::limits::MAX_RUNNING_DEPTH;
 use checked_tree::{Kind, Task, Typed};
 use constraint_forms::constraints::constraint_form;
 use constraint_forms::defining::{constant_term, moving_term};
@@ -24,7 +25,7 @@ use statement_forms::targets::target_of_form;
 use statement_forms::values_of_runs::{Stop, Value};
 
 /// How many statements and expressions may be executed inside each other.
-const MOST_DEPTH: u32 = 1000;
+const MOST_DEPTH: u32 = MAX_RUNNING_DEPTH;
 
 /// The value of an expression; of a variable the variable itself. `room` tells how many parts may still be executed
 /// inside each other: the fault `Depth` comes at the place of an expression for which there is none.

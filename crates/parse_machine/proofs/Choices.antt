@@ -2,6 +2,7 @@
 use Rattle.std.specs.Prelude.{ℕ, Bool, true, false, List, [], ◌∷◌, ◌++◌, ◌||◌, ◌&&◌, ◌+◌, ◌≡◌, ◌≤◌, ◌<◌, ◌==◌, ◌⊎◌, not, map, refl, length, Option, None, Some, if◌then◌else◌}
 use Rattle.std.specs.List.{list_any}
 use Rattle.std.proofs.Common.{sym, ◌∙◌, ap, subst, arith, inl, inr}
+use Rattle.cbl_base.specs.declared.limits.TheConstants.{MAX_NESTING}
 use Rattle.comet_syntax.specs.declared.token.Token.{Token}
 use Rattle.comet_syntax.specs.Grammar.Kinds.{Kind, kind, kind_eq, one_of, next_in}
 use Rattle.comet_syntax.specs.Grammar.Symbols.{Part, Symbol, token, same, deeper, default, program}
@@ -229,11 +230,11 @@ takes_default n (same l ∷ body) ts d h = absurd cc
 takes_default n (deeper l ∷ body) ts d h = absurd cc
 
 -- the part has the form that is picked, and must have it
-pub chosen : (n : Part) (d : ℕ) (ts : List Token) (ps : List Production) (p : Production) → ps ≡ map (production n) (late (alternatives n)) → Picks ps ts p → d ≤ 200 → CanCome n d
+pub chosen : (n : Part) (d : ℕ) (ts : List Token) (ps : List Production) (p : Production) → ps ≡ map (production n) (late (alternatives n)) → Picks ps ts p → d ≤ MAX_NESTING → CanCome n d
     → Chosen n d ts p
 chosen n d ts ps p e is le o =
     let q = picks n (late (alternatives n)) ts p (are_late n) (subst (λ z. choosing.picked z ts ≡ Some p) e is.is) in
-    let low : d + headroom n ≤ 200 = elim o [ inl a ↦ a | inr a ↦ absurd (let z = a.0 in omega arith) ] in
+    let low : d + headroom n ≤ MAX_NESTING = elim o [ inl a ↦ a | inr a ↦ absurd (let z = a.0 in omega arith) ] in
     let one = late_from (alternatives n) q.body q.among_these in
     subst (Chosen n d ts) (sym q.is) (record {
       low = le;
@@ -247,8 +248,8 @@ chosen n d ts ps p e is le o =
     })
 
 -- a part that is too deep begins here
-pub too_deep : (n : Part) (d : ℕ) (ts : List Token) (ps : List Production) (p : Production) → ps ≡ map (production n) (late (alternatives n)) → Picks ps ts p → 200 < d → CanCome n d
-    → Fails 200 (same n ∷ []) d ts (Fault (length ts) TooDeep)
+pub too_deep : (n : Part) (d : ℕ) (ts : List Token) (ps : List Production) (p : Production) → ps ≡ map (production n) (late (alternatives n)) → Picks ps ts p → MAX_NESTING < d → CanCome n d
+    → Fails MAX_NESTING (same n ∷ []) d ts (Fault (length ts) TooDeep)
 too_deep n d ts ps p e is lt o =
     let q = picks n (late (alternatives n)) ts p (are_late n) (subst (λ z. choosing.picked z ts ≡ Some p) e is.is) in
     let one = late_from (alternatives n) q.body q.among_these in
@@ -259,7 +260,7 @@ too_deep n d ts ps p e is lt o =
 
 -- no form goes with the next token
 pub refused : (n : Part) (d : ℕ) (ts : List Token) (ps : List Production) → ps ≡ map (production n) (late (alternatives n)) → choosing.picked ps ts ≡ None
-    → Fails 200 (same n ∷ []) d ts (Fault (length ts) (cause_at ts))
+    → Fails MAX_NESTING (same n ∷ []) d ts (Fault (length ts) (cause_at ts))
 refused n d ts ps e none =
     let q = none_picked n (late (alternatives n)) ts (subst (λ z. choosing.picked z ts ≡ None) e none) in
     fails_closed n (λ b o h. q.1 b (late_has (alternatives n) b o) h) (none_else n ts q.0)

@@ -2,6 +2,7 @@
 use Rattle.std.specs.Prelude.{ℕ, Bool, true, false, List, [], ◌∷◌, ◌&&◌, ◌+◌, ◌≡◌, ◌≤◌, ◌⊎◌, not, refl, cond, nat_eq, nat_le}
 use Rattle.std.proofs.Common.{arith, inl, inr}
 use Rattle.std.proofs.lemmas.Bool.Decides.{nat_tests}
+use Rattle.cbl_base.specs.declared.limits.TheConstants.{MAX_NESTING}
 use Rattle.comet_syntax.specs.Grammar.Kinds.{Kind}
 use Rattle.comet_syntax.specs.Grammar.Symbols.{Part, Symbol, token, same, deeper, default, program}
 use Rattle.comet_syntax.specs.Grammar.Alternatives.{alternatives}
@@ -14,8 +15,8 @@ use Rattle.parse_machine.specs.Choosing.{headroom, CanCome}
 pub data Safe : List Item → Type 0 where
   at_end : Safe []
   at_token : {m : Bool} {k : Kind} {K : List Item} → Safe K → Safe (want m k ∷ K)
-  fits : {n : Part} {d : ℕ} {K : List Item} → d + headroom n ≤ 200 → Safe K → Safe (part n d ∷ K)
-  never : {n : Part} {d : ℕ} {K : List Item} → d ≡ 201 → IsSolid n → Safe (part n d ∷ K)
+  fits : {n : Part} {d : ℕ} {K : List Item} → d + headroom n ≤ MAX_NESTING → Safe K → Safe (part n d ∷ K)
+  never : {n : Part} {d : ℕ} {K : List Item} → d ≡ MAX_NESTING + 1 → IsSolid n → Safe (part n d ∷ K)
 
 -- Whether a form keeps that, where so much depth is known to be left. A part that is never empty shows that one more is.
 abbrev walk : ℕ → List Symbol → Bool
@@ -44,7 +45,7 @@ by_cond : (b x y : Bool) → cond b x y ≡ true → ((b ≡ true) × (x ≡ tru
 by_cond true x y h = inl (refl, h)
 by_cond false x y h = inr h
 
-safe_push : (k : ℕ) (f : List Symbol) (d : ℕ) (K : List Item) → d + k ≤ 200 → walk k f ≡ true → Safe K → Safe (push f d K)
+safe_push : (k : ℕ) (f : List Symbol) (d : ℕ) (K : List Item) → d + k ≤ MAX_NESTING → walk k f ≡ true → Safe K → Safe (push f d K)
 safe_push k [] d K le w s = s
 safe_push k (token m j ∷ f) d K le w s = at_token (safe_push k f d K le w s)
 safe_push k (same n ∷ f) d K le w s =
@@ -61,7 +62,7 @@ safe_push k (deeper n ∷ f) d K le w s = elim (by_cond (nat_le (headroom n + 1)
       ]
 ]
   where
-    low_or : (e : ℕ) → e ≤ 201 → (e ≤ 200) ⊎ (e ≡ 201)
+    low_or : (e : ℕ) → e ≤ MAX_NESTING + 1 → (e ≤ MAX_NESTING) ⊎ (e ≡ MAX_NESTING + 1)
     low_or e h = grind arith
 safe_push k (default false n ∷ f) d K le w s =
     let h = le_of (headroom n) k (and_left (nat_le (headroom n) k) (walk k f) w) in
@@ -76,7 +77,7 @@ walk_in k (b ∷ bs) f w here = and_left (walk k b) (walks k bs) w
 walk_in k (b ∷ bs) f w (there o) = walk_in k bs f (and_right (walk k b) (walks k bs) w) o
 
 -- the form of a part that is not too deep comes next
-pub safe_form : (n : Part) (f : List Symbol) (d : ℕ) (K : List Item) → d + headroom n ≤ 200 → OneOf (alternatives n) f → Safe K → Safe (push f d K)
+pub safe_form : (n : Part) (f : List Symbol) (d : ℕ) (K : List Item) → d + headroom n ≤ MAX_NESTING → OneOf (alternatives n) f → Safe K → Safe (push f d K)
 safe_form n f d K low o s = safe_push (headroom n) f d K low (walk_in (headroom n) (alternatives n) f (all_walk n) o) s
 
 pub can_come : {n : Part} {d : ℕ} {K : List Item} → Safe (part n d ∷ K) → CanCome n d
@@ -86,6 +87,6 @@ can_come (never h s) = inr (h, s)
 pub behind_token : {m : Bool} {k : Kind} {K : List Item} → Safe (want m k ∷ K) → Safe K
 behind_token (at_token s) = s
 
-pub behind_part : {n : Part} {d : ℕ} {K : List Item} → d ≤ 200 → Safe (part n d ∷ K) → Safe K
+pub behind_part : {n : Part} {d : ℕ} {K : List Item} → d ≤ MAX_NESTING → Safe (part n d ∷ K) → Safe K
 behind_part le (fits h s) = s
 behind_part le (never h s) = absurd (omega arith)

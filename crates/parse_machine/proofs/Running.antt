@@ -3,6 +3,7 @@ use Rattle.std.specs.Prelude.{ℕ, Bool, true, false, List, [], ◌∷◌, ◌++
 use Rattle.std.proofs.Common.{sym, ◌∙◌, ap, subst, arith, append_assoc, append-nil}
 use Rattle.std.proofs.lemmas.Bool.{eqb-true}
 use Rattle.std.proofs.lemmas.List.{length-append}
+use Rattle.cbl_base.specs.declared.limits.TheConstants.{MAX_NESTING}
 use Rattle.comet_syntax.specs.declared.token.Token.{Token}
 use Rattle.comet_syntax.specs.declared.stop.FormCause.{FormCause}
 use Rattle.comet_syntax.specs.Grammar.Kinds.{Kind}
@@ -31,7 +32,7 @@ pub record Going (all : List Token) (log : List Event) (K : List Item) (ts : Lis
   pub front : List Token
   pub cut : all ≡ front ++ ts
   pub count : reads log ≡ length front
-  pub so_far : (K' : List Item) (r : List Token) (tree : List Shown) → Carries 200 K ts tree K' r → Carries 200 start all (shown_all log front ++ tree) K' r
+  pub so_far : (K' : List Item) (r : List Token) (tree : List Shown) → Carries MAX_NESTING K ts tree K' r → Carries MAX_NESTING start all (shown_all log front ++ tree) K' r
   pub safe : Safe K
 
 -- nothing is read
@@ -46,10 +47,10 @@ got {all} {log} {log'} {m} {k} {K} {ts} {rest} is n g = subst (λ z. Going all z
   cut = g.cut ∙ (ap (λ z. g.front ++ z) n.is ∙ sym (append_assoc g.front (n.next ∷ []) rest));
   count = reads_read log m ∙ (ap (λ z. z + 1) g.count ∙ sym (length-append g.front (n.next ∷ [])));
   so_far = λ K' r tree l.
-      let gained : Carries 200 (want m k ∷ K) ts (shown m n.next ∷ tree) K' r = subst (λ z. Carries 200 (want m k ∷ K) z (shown m n.next ∷ tree) K' r) (sym n.is) (gains n.kind_is l) in
+      let gained : Carries MAX_NESTING (want m k ∷ K) ts (shown m n.next ∷ tree) K' r = subst (λ z. Carries MAX_NESTING (want m k ∷ K) z (shown m n.next ∷ tree) K' r) (sym n.is) (gains n.kind_is l) in
       let grown : shown_all log g.front ++ (shown m n.next ∷ tree) ≡ shown_all (log ++ (events.Read m ∷ [])) (g.front ++ (n.next ∷ [])) ++ tree =
       sym (append_assoc (shown_all log g.front) (shown m n.next ∷ []) tree) ∙ ap (λ z. z ++ tree) (sym (shown_read log m g.front n.next g.count)) in
-      subst (λ z. Carries 200 start all z K' r) grown (g.so_far K' r (shown m n.next ∷ tree) gained);
+      subst (λ z. Carries MAX_NESTING start all z K' r) grown (g.so_far K' r (shown m n.next ∷ tree) gained);
   safe = behind_token g.safe;
 })
 
@@ -65,7 +66,7 @@ took {all} {log} {log'} {n} {d} {K} {K'} {ts} f p of_is stated_is is c pushed g 
       let grown : shown_all log g.front ++ (form n p.body ∷ tree) ≡ shown_all (log ++ (events.Chose f ∷ [])) g.front ++ tree =
       ap (λ z. shown_all log g.front ++ (z ∷ tree)) (sym same_form)
       ∙ (sym (append_assoc (shown_all log g.front) (form (part_in f) (body_in f) ∷ []) tree) ∙ ap (λ z. z ++ tree) (sym (shown_chose log f g.front g.count))) in
-      subst (λ z. Carries 200 start all z L r) grown (g.so_far L r (form n p.body ∷ tree) (settles p.body c.low c.among c.may c.must l));
+      subst (λ z. Carries MAX_NESTING start all z L r) grown (g.so_far L r (form n p.body ∷ tree) (settles p.body c.low c.among c.may c.must l));
   safe = safe_form n p.body d K c.lower c.among (behind_part c.low g.safe);
 }))
 
@@ -79,25 +80,25 @@ none_left [] h = refl
 none_left (t ∷ ts) h = let z = eqb-true (length (t ∷ ts)) 0 (sym h) in absurd (omega arith)
 
 -- nothing is to come, and no token is left
-pub ended : {all : List Token} {log : List Event} {K : List Item} {ts : List Token} → K ≡ [] → true ≡ (length ts == 0) → Going all log K ts → Lists 200 all log
+pub ended : {all : List Token} {log : List Event} {K : List Item} {ts : List Token} → K ≡ [] → true ≡ (length ts == 0) → Going all log K ts → Lists MAX_NESTING all log
 ended {all} {log} {K} {ts} e h g =
     let d : ts ≡ [] = none_left ts h in
     let whole : all ≡ g.front = g.cut ∙ (ap (λ z. g.front ++ z) d ∙ append-nil g.front) in
-    let here : Carries 200 K ts [] [] [] = subst (λ z. Carries 200 z ts [] [] []) (sym e) (subst (λ z. Carries 200 [] z [] [] []) (sym d) waits) in
-    let run : Carries 200 start all (shown_all log all) [] [] =
-    subst (λ z. Carries 200 start all z [] []) (append-nil (shown_all log g.front) ∙ ap (shown_all log) (sym whole)) (g.so_far [] [] [] here) in
+    let here : Carries MAX_NESTING K ts [] [] [] = subst (λ z. Carries MAX_NESTING z ts [] [] []) (sym e) (subst (λ z. Carries MAX_NESTING [] z [] [] []) (sym d) waits) in
+    let run : Carries MAX_NESTING start all (shown_all log all) [] [] =
+    subst (λ z. Carries MAX_NESTING start all z [] []) (append-nil (shown_all log g.front) ∙ ap (shown_all log) (sym whole)) (g.so_far [] [] [] here) in
     let k = derivation_of run in
-    record { steps = k.events; derives = (theorem.0 200 all k.events k.leads).0; is = k.is; all_read = g.count ∙ ap length (sym whole); run = run }
+    record { steps = k.events; derives = (theorem.0 MAX_NESTING all k.events k.leads).0; is = k.is; all_read = g.count ∙ ap length (sym whole); run = run }
 
-halted : (all : List Token) (left : ℕ) (c : FormCause) → Halts 200 start all left c → IsStop 200 all (stops.Fault left c)
+halted : (all : List Token) (left : ℕ) (c : FormCause) → Halts MAX_NESTING start all left c → IsStop MAX_NESTING all (stops.Fault left c)
 halted all left c h =
     let k = derivation_of h.leads in
-    let r = theorem.1 200 all k.events h.items h.rest c k.leads h.stops in
+    let r = theorem.1 MAX_NESTING all k.events h.items h.rest c k.leads h.stops in
     (r.0, h.rest, h.left_is, r.1)
 
 -- reading stops
-pub stopped : {all : List Token} {log : List Event} {K : List Item} {ts : List Token} (K' : List Item) (s : Stop) (body : List Symbol) (d : ℕ) → K ≡ push body d K' → Fails 200 body d ts s
-    → Going all log K ts → IsStop 200 all s
+pub stopped : {all : List Token} {log : List Event} {K : List Item} {ts : List Token} (K' : List Item) (s : Stop) (body : List Symbol) (d : ℕ) → K ≡ push body d K' → Fails MAX_NESTING body d ts s
+    → Going all log K ts → IsStop MAX_NESTING all s
 stopped K' s body d e no_memory g = tt
 stopped {all} {log} {ts = ts} K' s body d e (halts {left = left} {c = c} h) g =
     let i = h K' in
@@ -105,19 +106,19 @@ stopped {all} {log} {ts = ts} K' s body d e (halts {left = left} {c = c} h) g =
       tree = shown_all log g.front ++ i.tree;
       items = i.items;
       rest = i.rest;
-      leads = g.so_far i.items i.rest i.tree (subst (λ z. Carries 200 z ts i.tree i.items i.rest) (sym e) i.leads);
+      leads = g.so_far i.items i.rest i.tree (subst (λ z. Carries MAX_NESTING z ts i.tree i.items i.rest) (sym e) i.leads);
       stops = i.stops;
       left_is = i.left_is;
     })
 
 -- nothing is to come, and tokens are left
-pub left_over : {all : List Token} {log : List Event} {K : List Item} {ts : List Token} (s : Stop) → K ≡ [] → false ≡ (length ts == 0) → s ≡ stops.Fault (length ts) (cause_at ts) → Going all log K ts → IsStop 200 all s
+pub left_over : {all : List Token} {log : List Event} {K : List Item} {ts : List Token} (s : Stop) → K ≡ [] → false ≡ (length ts == 0) → s ≡ stops.Fault (length ts) (cause_at ts) → Going all log K ts → IsStop MAX_NESTING all s
 left_over {ts = []} s e h is g = absurd cc
-left_over {all} {log} {K} {ts = t ∷ ts} s e h is g = subst (IsStop 200 all) (sym is) (halted all (length (t ∷ ts)) (cause_at (t ∷ ts)) (record {
+left_over {all} {log} {K} {ts = t ∷ ts} s e h is g = subst (IsStop MAX_NESTING all) (sym is) (halted all (length (t ∷ ts)) (cause_at (t ∷ ts)) (record {
   tree = shown_all log g.front ++ [];
   items = [];
   rest = t ∷ ts;
-  leads = g.so_far [] (t ∷ ts) [] (subst (λ z. Carries 200 z (t ∷ ts) [] [] (t ∷ ts)) (sym e) waits);
+  leads = g.so_far [] (t ∷ ts) [] (subst (λ z. Carries MAX_NESTING z (t ∷ ts) [] [] (t ∷ ts)) (sym e) waits);
   stops = over;
   left_is = refl;
 }))

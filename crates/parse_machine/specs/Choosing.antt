@@ -1,6 +1,7 @@
 -- Which form the next token picks, and what is known of a part that comes next.
 -- Definitions of this project.
 use Rattle.std.specs.Prelude.{ℕ, List, [], ◌∷◌, ◌+◌, ◌≡◌, ◌≤◌, ◌==◌, ◌||◌, ◌⊎◌, true, false, length, Option, None, Some, if◌then◌else◌}
+use Rattle.cbl_base.specs.declared.limits.TheConstants.{MAX_NESTING}
 use Rattle.comet_syntax.specs.declared.token.Token.{Token}
 use Rattle.comet_syntax.specs.Grammar.Kinds.{Kind, kind, next_in}
 use Rattle.comet_syntax.specs.Grammar.Heads.{heads}
@@ -27,12 +28,12 @@ headroom n = 0
 
 -- the part is not too deep, or it is one too deep and never empty
 abbrev pub CanCome : Part → ℕ → Type 0
-CanCome n d = (d + headroom n ≤ 200) ⊎ ((d ≡ 201) × IsSolid n)
+CanCome n d = (d + headroom n ≤ MAX_NESTING) ⊎ ((d ≡ MAX_NESTING + 1) × IsSolid n)
 
 -- the part has this form at these tokens, and must have it
 pub record Chosen (n : Part) (d : ℕ) (ts : List Token) (p : Production) : Type 0 where
-  pub low : d ≤ 200
-  pub lower : d + headroom n ≤ 200
+  pub low : d ≤ MAX_NESTING
+  pub lower : d + headroom n ≤ MAX_NESTING
   pub of_is : p.of ≡ n
   pub body_is : p.stated ≡ p.body
   pub among : OneOf (alternatives n) p.body

@@ -1,6 +1,7 @@
 //! Which form a part has at the next token, and whether that is the token that is wanted.
 ghost use Rattle.std.specs.Prelude.{◌≡◌, ◌≤◌, map, MatchOption, IfOk, IfErr, ℕ, Bool, None, [], ◌∷◌};
 ghost use Rattle.std.specs.List.{list_any};
+ghost use Rattle.cbl_base.specs.declared.limits.TheConstants.{MAX_NESTING};
 ghost use Rattle.comet_syntax.specs.Grammar.Kinds.{kind, kind_eq, next_in};
 ghost use Rattle.comet_syntax.specs.Grammar.Symbols.{same, token};
 ghost use Rattle.parse_base.specs.Promise.{Fails};
@@ -10,11 +11,9 @@ ghost use Rattle.parse_machine.specs.Rows.{row_of};
 
 use crate::grammar::{Kind, Part, Row};
 use crate::table::rows;
+use cbl_base::limits::MAX_NESTING;
 use comet_syntax::{FormCause, Token, TokenKind};
 use parse_base::{Stop, refuse};
-
-// How deep a part may be.
-const DEEPEST: usize = 200;
 
 // What the grammar sees of a token.
 fn kind_of_token(token: &Token) -> Kind
@@ -79,11 +78,11 @@ pub fn choose(tokens: &[Token], part: Part, depth: usize) -> Result<&'static Row
     requires { CanCome (part_of part) depth }
     ensures ok { IfOk result (λ row. Chosen (part_of part) depth tokens.now (row_of row.now)) }
     ensures err { IfErr result (λ stop.
-        Fails 200 (same (part_of part) ∷ []) depth tokens.now stop) }
+        Fails MAX_NESTING (same (part_of part) ∷ []) depth tokens.now stop) }
 {
     match pick(rows(part), tokens) {
         Some(row) => {
-            if depth > DEEPEST {
+            if depth > MAX_NESTING as usize {
                 Err(Stop::Fault {
                     left: tokens.len(),
                     cause: FormCause::TooDeep,
@@ -100,7 +99,7 @@ pub fn choose(tokens: &[Token], part: Part, depth: usize) -> Result<&'static Row
 pub fn read(tokens: &[Token], kind: Kind) -> Result<&[Token], Stop>
     ensures ok { IfOk result (λ rest. IsNext tokens.now (kind_in kind) rest.now) }
     ensures err { IfErr result (λ stop. (m : Bool) (d : ℕ) →
-        Fails 200 (token m (kind_in kind) ∷ []) d tokens.now stop) }
+        Fails MAX_NESTING (token m (kind_in kind) ∷ []) d tokens.now stop) }
 {
     match tokens.split_first() {
         Some((token, behind)) => {

@@ -1,7 +1,7 @@
 //! The kinds of token that a part begins with, for the forms that begin with that part.
 use crate::grammar::Kind;
-use crate::notation::{kind, kinds, word};
-use comet_syntax::Word;
+use crate::notation::{kind, kinds};
+use comet_syntax::word;
 
 pub const NAME: &[Kind] = kinds! { name };
 

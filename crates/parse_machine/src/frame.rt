@@ -1,5 +1,6 @@
 //! What is left of a form.
 ghost use Rattle.std.specs.Prelude.{◌≤◌};
+ghost use Rattle.cbl_base.specs.declared.limits.TheConstants.{MAX_NESTING};
 
 use crate::grammar::Symbol;
 
@@ -9,5 +10,5 @@ pub struct Frame {
     pub first: Symbol,
     pub behind: &'static [Symbol],
     pub depth: usize,
-    ghost low: { depth ≤ 200 },
+    ghost low: { depth ≤ MAX_NESTING },
 }

@@ -1,5 +1,6 @@
 //! The machine: one loop with a stack of what is still to come.
 ghost use Rattle.std.specs.Prelude.{IfOk, IfErr};
+ghost use Rattle.cbl_base.specs.declared.limits.TheConstants.{MAX_NESTING};
 ghost use Rattle.parse_machine.specs.Listing.{IsStop, Lists};
 
 use crate::choice::{choose, read};
@@ -14,11 +15,11 @@ use std::alloc::Global;
 // What is to come before anything is read.
 static START: [Symbol; 1] = [Symbol::Same(Part::Program)];
 
-/// The listing of the one derivation of all the tokens in which no part is deeper than 200. Where there is
-/// none, the token at which reading surely stops, and why.
+/// The listing of the one derivation of all the tokens in which no part is deeper than `MAX_NESTING`.
+/// Where there is none, the token at which reading surely stops, and why.
 pub fn list(alloc: Global, tokens: &[Token]) -> Result<Vec<Event>, Stop>
-    ensures ok { IfOk result (λ log. Lists 200 tokens.now log.items) }
-    ensures err { IfErr result (λ stop. IsStop 200 tokens.now stop) }
+    ensures ok { IfOk result (λ log. Lists MAX_NESTING tokens.now log.items) }
+    ensures err { IfErr result (λ stop. IsStop MAX_NESTING tokens.now stop) }
 {
     let mut log = Vec::new(alloc);
     let mut stack = Stack::new(alloc);

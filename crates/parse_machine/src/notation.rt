@@ -7,97 +7,6 @@
 //! tokens. A form that begins with a token begins with that; one that begins with a part says `on` which
 //! kinds of token; one that is empty or begins with `onward` is for all other tokens, and stands last.
 
-/// The word that is spelled so.
-macro_rules! word {
-    ("(") => { Word::LeftParenthesis };
-    (")") => { Word::RightParenthesis };
-    ("{") => { Word::LeftBrace };
-    ("}") => { Word::RightBrace };
-    ("[") => { Word::LeftBracket };
-    ("]") => { Word::RightBracket };
-    (",") => { Word::Comma };
-    (";") => { Word::Semicolon };
-    (":") => { Word::Colon };
-    (":=") => { Word::Assign };
-    (":=:") => { Word::Swap };
-    ("<-") => { Word::Arrow };
-    ("=") => { Word::Equal };
-    ("==") => { Word::EqualEqual };
-    ("!=") => { Word::NotEqual };
-    ("<") => { Word::Less };
-    ("<=") => { Word::LessEqual };
-    (">") => { Word::Greater };
-    (">=") => { Word::GreaterEqual };
-    ("+") => { Word::Plus };
-    ("-") => { Word::Minus };
-    ("*") => { Word::Star };
-    ("/") => { Word::Slash };
-    ("%") => { Word::Percent };
-    ("++") => { Word::PlusPlus };
-    ("--") => { Word::MinusMinus };
-    ("+=") => { Word::PlusEqual };
-    ("-=") => { Word::MinusEqual };
-    ("!") => { Word::Exclamation };
-    ("&&") => { Word::AndAnd };
-    ("||") => { Word::OrOr };
-    ("<<") => { Word::LessLess };
-    ("..") => { Word::DotDot };
-    (".") => { Word::Dot };
-    ("@") => { Word::At };
-    ("?") => { Word::Question };
-    ("import") => { Word::Import };
-    ("include") => { Word::Include };
-    ("function") => { Word::Function };
-    ("void") => { Word::Void };
-    ("int") => { Word::Int };
-    ("bool") => { Word::Bool };
-    ("var") => { Word::Var };
-    ("inc") => { Word::Inc };
-    ("set") => { Word::Set };
-    ("range") => { Word::Range };
-    ("true") => { Word::True };
-    ("false") => { Word::False };
-    ("if") => { Word::If };
-    ("else") => { Word::Else };
-    ("while") => { Word::While };
-    ("for") => { Word::For };
-    ("forall") => { Word::ForAll };
-    ("in") => { Word::In };
-    ("select") => { Word::Select };
-    ("selectMin") => { Word::SelectMin };
-    ("selectMax") => { Word::SelectMax };
-    ("neighbor") => { Word::Neighbor };
-    ("whenever") => { Word::Whenever };
-    ("with") => { Word::With };
-    ("atomic") => { Word::Atomic };
-    ("delay") => { Word::Delay };
-    ("parall") => { Word::Parall };
-    ("return") => { Word::Return };
-    ("new") => { Word::New };
-    ("cout") => { Word::Cout };
-    ("endl") => { Word::Endl };
-    ("call") => { Word::Call };
-    ("sum") => { Word::Sum };
-    ("min") => { Word::Min };
-    ("max") => { Word::Max };
-    ("all") => { Word::All };
-    ("and") => { Word::And };
-    ("or") => { Word::Or };
-    ("setof") => { Word::SetOf };
-    ("argMin") => { Word::ArgMin };
-    ("argMax") => { Word::ArgMax };
-    ("Solver") => { Word::Solver };
-    ("LocalSolver") => { Word::LocalSolver };
-    ("ConstraintSystem") => { Word::ConstraintSystem };
-    ("FunctionExpr") => { Word::FunctionExpr };
-    ("FunctionSum") => { Word::FunctionSum };
-    ("UniformDistribution") => { Word::UniformDistribution };
-    ("InputFile") => { Word::InputFile };
-    ("MinNeighborSelector") => { Word::MinNeighborSelector };
-    ("BestMonitor") => { Word::BestMonitor };
-    ("Solution") => { Word::Solution };
-}
-
 /// Kinds of token.
 macro_rules! kinds {
     ($($kind:tt)*) => { &[$(kind!($kind)),*] };
@@ -162,4 +71,3 @@ pub(crate) use kind;
 pub(crate) use kinds;
 pub(crate) use rows;
 pub(crate) use symbols;
-pub(crate) use word;

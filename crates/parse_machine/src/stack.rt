@@ -1,5 +1,6 @@
 //! What is still to come, as a stack of what is left of each form that was begun.
 ghost use Rattle.std.specs.Prelude.{◌≡◌, ◌≤◌, [], ◌∷◌, map, IfOk, IfErr, MatchOption};
+ghost use Rattle.cbl_base.specs.declared.limits.TheConstants.{MAX_NESTING};
 ghost use Rattle.comet_syntax.specs.Derivation.{push};
 ghost use Rattle.parse_base.specs.declared.stop.Stop.TheVariants as stops;
 ghost use Rattle.parse_machine.specs.Items.{item_at, item_in};
@@ -30,7 +31,7 @@ impl Model for Stack {
 
 // What a symbol of a form at this depth leaves to come.
 fn item_of(symbol: Symbol, depth: usize) -> Item
-    requires { depth ≤ 200 }
+    requires { depth ≤ MAX_NESTING }
     ensures { item_in result ≡ item_at (symbol_of symbol) depth }
 {
     match symbol {
@@ -58,7 +59,7 @@ impl Stack {
 
     /// The symbols of a form come next.
     pub fn push(&mut self, symbols: &'static [Symbol], depth: usize) -> Result<(), Stop>
-        requires { depth ≤ 200 }
+        requires { depth ≤ MAX_NESTING }
         ensures ok { IfOk result (λ _. self.new ≡ push (map symbol_of symbols.now) depth self.old) }
         ensures err { IfErr result (λ stop. stop ≡ stops.NoMemory) }
     {

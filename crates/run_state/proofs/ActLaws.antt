@@ -10,6 +10,7 @@ use Rattle.comet_meaning.specs.State.{State, Cells, left}
 use Rattle.comet_meaning.specs.Outcome.{Outcome, Went, Halted, Faulted, then_do, ◌>>=◌, give, unless, charge}
 use Rattle.comet_meaning.specs.Cells.{row_of, new_array, put, count_cells, size_in}
 use Rattle.comet_meaning.specs.Taking.{read_array, taken_whole}
+use Rattle.comet_meaning.specs.Limits.{most_data}
 use Rattle.comet_meaning.specs.Data.{next_number, first_word, behind_blanks, unread}
 use Rattle.run_values.specs.Did.{Stopped}
 use Rattle.run_values.specs.declared.stop.Stop.{Stop}
@@ -53,6 +54,6 @@ listed_wrong at place count v s xs read many =
     numbers_then (read_array place v s) (λ ys. unless (nat_eq (length ys) count) at OutOfRange >>= λ _. charge count at >>= λ _. give ys) xs s read ∙ rw (ne_eqb (length xs) count many) refl
 
 -- data that isn't too long is read
-pub read_law : (at : Place) (v : Value) (s : State) → length s.data_text ≤ 16777216 → next_number at v s ≡ first_word at v (behind_blanks (unread s v)) s
+pub read_law : (at : Place) (v : Value) (s : State) → length s.data_text ≤ most_data → next_number at v s ≡ first_word at v (behind_blanks (unread s v)) s
 unfolding next_number
-read_law at v s h = rw (le-leb (length s.data_text) 16777216 h) refl
+read_law at v s h = rw (le-leb (length s.data_text) most_data h) refl

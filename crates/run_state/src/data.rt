@@ -11,11 +11,12 @@ ghost use Rattle.run_state.specs.Views.{state_seen};
 
 use crate::state::State;
 use crate::words::{behind_blanks, spelled, word_end};
+use cbl_base::limits::MAX_DATA_BYTES;
 use cbl_base::{Place, RunFault};
 use run_values::{Stop, Value};
 
 /// How many bytes of data are read.
-const MOST_DATA: usize = 16_777_216;
+const MOST_DATA: usize = MAX_DATA_BYTES;
 
 impl State {
     /// A new input, which begins with all data. `NoMemory` where there is none for it; there is no other stop.

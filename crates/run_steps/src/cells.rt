@@ -16,6 +16,7 @@ ghost use Rattle.run_values.specs.Did.{Did};
 ghost use Rattle.run_values.specs.Views.{bounds_seen, cells_seen, variable_cells_seen};
 ghost use Rattle.run_values.specs.declared.stop.Stop.TheVariants.{NoMemory};
 
+use cbl_base::limits::MAX_CELLS;
 use cbl_base::{Limit, Place, RunFault, Text, VarId};
 use checked_tree::Slot;
 use run_objects::state_of_runs::State;
@@ -24,7 +25,7 @@ use run_values::{Bounds, Cells, Stop, Value, VariableCells};
 use std::alloc::Global;
 
 /// How many cells an array may have.
-const MOST_CELLS: u128 = 16_777_216;
+const MOST_CELLS: u128 = MAX_CELLS as u128;
 
 /// A dimension: its bounds, and the cell of its name where it has one.
 #[derive(Clone, Copy)]

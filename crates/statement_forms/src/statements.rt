@@ -17,6 +17,7 @@ use crate::printing::print_all;
 use crate::together::execute_together;
 use crate::writes::{step_target, swap_values, write_value};
 use cbl_base::Place;
+use cbl_base::limits::MAX_RUNNING_DEPTH;
 use checked_tree::{Act, Action, Task, Typed};
 use run_values::Stop;
 use search_forms::declaring::{declare, declare_array, declare_object, declare_variable};
@@ -28,7 +29,7 @@ use search_forms::{
 };
 
 /// How many statements and expressions may be executed inside each other.
-const MOST_DEPTH: u32 = 1000;
+const MOST_DEPTH: u32 = MAX_RUNNING_DEPTH;
 
 /// A statement at a place, by its form. What isn't there yet does nothing.
 pub fn execute_act<O: Outside, W: Around<O>>(

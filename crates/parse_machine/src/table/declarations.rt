@@ -2,8 +2,8 @@
 use crate::first;
 use crate::form::{DeclarationForm, Form};
 use crate::grammar::{Kind, Part, Row, Symbol};
-use crate::notation::{begins, kind, rows, symbols, word};
-use comet_syntax::Word;
+use crate::notation::{begins, kind, rows, symbols};
+use comet_syntax::word;
 
 macro_rules! forms {
     ($($row:tt)*) => { rows!(Declaration DeclarationForm $($row)*) };

@@ -5,6 +5,6 @@ use Rattle.comet_syntax.proofs.word.word_in.Given as goal
 -- what is left is right, and has the spelling where the whole has it
 abbrev pub invariant-loop-entry : goal.invariant-loop-entry
 invariant-loop-entry l = record {
-  right : are_spelled_so (drop l.entry-index l.table) ≡ true;
-  same : has_spelling (drop l.entry-index l.table) l.bytes ≡ has_spelling l.table l.bytes;
+  right : are_spelled_so (drop l.entry-index l.row) ≡ true;
+  same : has_spelling (drop l.entry-index l.row) l.bytes ≡ has_spelling l.row l.bytes;
 }

@@ -1,5 +1,6 @@
-use Rattle.comet_syntax.proofs.Words.{spells_no_word}
+use Rattle.std.proofs.Common.{refl}
+use Rattle.comet_syntax.proofs.Words.{of_every_word}
 use Rattle.comet_syntax.proofs.word.word_of.Goals as goal
 
-pub returns-clause-none : goal.returns-clause-none
-returns-clause-none c = spells_no_word _ _ c.word_in.ensures.none
+pub word_among-requires-clause-known : goal.word_among-requires-clause-known
+word_among-requires-clause-known c = of_every_word _ refl

@@ -1,4 +1,5 @@
 use Rattle.std.proofs.Common.{[], ◌∷◌, ◌∙◌, ap, sym, subst, refl}
+use Rattle.cbl_base.specs.declared.limits.TheConstants.{MAX_NESTING}
 use Rattle.comet_syntax.specs.Derivation.{part}
 use Rattle.comet_syntax.specs.Grammar.Symbols.{program, token, same}
 use Rattle.parse_base.proofs.Steps.{passes_any}
@@ -16,7 +17,7 @@ loop-stack-init c = going_as c.new-log.ensures.items (c.in_ok-push.ensures.ok �
 pub returns-in_err-rest-in-Token-clause-err : goal.returns-in_err-rest-in-Token-clause-err
 returns-in_err-rest-in-Token-clause-err c =
     let t = rw (c.in-Some.is, c.in-Token.is) at c.in_ok-item.ensures.ok in
-    passes_any (IsStop 200 c.args.tokens.now) _ _ c.from_residual-in_err-rest-in-Token.ensures.1
+    passes_any (IsStop MAX_NESTING c.args.tokens.now) _ _ c.from_residual-in_err-rest-in-Token.ensures.1
     (stopped c.take.new.self c.in_err-rest-in-Token.field-0.0 (token c.in-Token.keeps_place (kind_in c.in-Token.kind) ∷ []) 0 t (c.in_err-rest-in-Token.ensures.err c.in-Token.keeps_place 0) c.loop-stack.invariant)
 
 pub loop-stack-smaller-in-Continue-branch-5 : goal.loop-stack-smaller-in-Continue-branch-5
@@ -37,7 +38,7 @@ choose-requires c =
 pub returns-in_err-row-in-Part-clause-err : goal.returns-in_err-row-in-Part-clause-err
 returns-in_err-row-in-Part-clause-err c =
     let t = rw (c.in-Some.is, c.in-Part.is) at c.in_ok-item.ensures.ok in
-    passes_any (IsStop 200 c.args.tokens.now) _ _ c.from_residual-in_err-row-in-Part.ensures.1
+    passes_any (IsStop MAX_NESTING c.args.tokens.now) _ _ c.from_residual-in_err-row-in-Part.ensures.1
     (stopped c.take.new.self c.in_err-row-in-Part.field-0.0 (same (part_of c.in-Part.part) ∷ []) c.in-Part.depth t c.in_err-row-in-Part.ensures.err c.loop-stack.invariant)
 
 pub loop-stack-smaller : goal.loop-stack-smaller
