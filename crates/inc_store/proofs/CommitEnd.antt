@@ -89,6 +89,7 @@ module _ (rules : List Rule) (frame : Frame) (trace : Trace) (ok : IsFrame rules
     first = ok.first;
     users = ok.users;
     defined = ok.defined;
+    cones = ok.cones;
     kinded = record {
       free = λ j lt free. over.kinded j lt ∙ ok.kinded.free j lt free;
       values = λ j xs x lt f kinds is. ok.kinded.values j xs x lt f (kinds ∙ kinds_low (inputs_in frame j) (inputs_low j lt)) is ∙ sym (over.kinded j lt);

@@ -10,10 +10,12 @@ use Rattle.store_turns.specs.declared.outcome.Outcome.TheVariants.{Value}
 use Rattle.cbl_base.specs.NodeLaw.{Rule}
 use Rattle.std.proofs.lemmas.Bool.Decides.{nat_tests}
 use Rattle.store_build.specs.Kept.{IsKept}
+use Rattle.store_turns.specs.Cones.{chosen, has}
 use Rattle.store_turns.specs.Meaning.{lists_of, layer_of, uses_in, inputs_in, values_of, is_empty}
 use Rattle.store_turns.specs.Waits.{Wait, waits}
 use Rattle.store_turns.specs.Telling.{IsTold, layer_in}
 use Rattle.store_turns.specs.Touch.{differs}
+use Rattle.store_turns.proofs.ConeLists.{all_chosen}
 use Rattle.store_turns.proofs.Differs.{same_value}
 use Rattle.store_build.specs.Frames.{cell_of}
 use Rattle.std.proofs.lemmas.List.{length-map}
@@ -68,6 +70,11 @@ told_over frame ls us id old read outcome u v w el eu er ew told =
     (subst (λ (r : Input). IsTold (layer_of frame) (uses_in frame id) r outcome u (waits v)) er
     (subst (λ (k : List (NodeId × ℕ)). IsTold (layer_of frame) k read outcome u (waits v)) eu
     (subst (λ (k : List ℕ). IsTold (layer_in k) us read outcome u (waits v)) el told)))
+
+-- where all are told, each use has its share of the steps
+pub all_share : (us all : List (NodeId × ℕ)) (old read : Input) (outcome : Outcome) → us ≡ all → read ≡ old → cond (differs outcome read) (length (chosen (has []) us)) 0 ≡ cond (differs outcome old) (length all) 0
+all_share us all old read outcome eu er =
+    ap (λ (k : List (NodeId × ℕ)). cond (differs outcome read) (length k) 0) (all_chosen us ∙ eu) ∙ ap (λ (r : Input). cond (differs outcome r) (length all) 0) er
 
 -- all have values, and these are what a node holds
 pub values_all : (f : ℕ → Input) (is : List ℕ) → values_of (map (λ i. Value (f i)) is) ≡ Some (map f is)

@@ -78,6 +78,7 @@ pub(crate) fn settle<L: Ledger>(
         &mut course.waiting,
         &frame.layers,
         uses,
+        &[],
         cells.read(id, steps),
         &outcome,
         steps,

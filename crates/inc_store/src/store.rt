@@ -1,11 +1,12 @@
 //! The store.
-ghost use Rattle.std.specs.Prelude.{◌≡◌, ℕ, ◌+◌, ◌*◌, ◌-◌, ◌<◌, ◌≤◌, true, List, [], length, map, is_ok, IfOk, IfErr, OnOk, Some, slice_get};
+ghost use Rattle.std.specs.Prelude.{◌≡◌, ℕ, ◌+◌, ◌*◌, ◌-◌, ◌<◌, ◌≤◌, true, List, [], length, map, take, is_ok, IfOk, IfErr, OnOk, Some, slice_get};
 ghost use Rattle.store_turns.specs.declared.outcome.Outcome.{Outcome};
 ghost use Rattle.store_turns.specs.Meaning.{IsMeaning, layer_of, uses_in};
 ghost use Rattle.store_turns.specs.Telling.{positions, places_in};
 ghost use Rattle.store_build.specs.Aims.{AreLinked, Takes, graph_over, layer_at, start_of};
 ghost use Rattle.inc_store.specs.Moves.{AreMoves, moved_to, is_moved};
 ghost use Rattle.store_build.specs.Stops.{IsStop};
+ghost use Rattle.store_build.specs.Unused.{unused_below};
 ghost use Rattle.inc_store.specs.Stores.{IsWithin, changes_between};
 ghost use Rattle.inc_store.specs.Views.{IsUsable, KeepsNodes, graph_in, value_at, count_of, first_of, inputs_at, rules_in};
 
@@ -36,7 +37,9 @@ impl<N: NodeRule> Store<N> {
     ///
     /// There is one list of inputs for each id, those of the cells first. A cell without inputs is free and
     /// starts with its number; another takes the value of the one id in its list. Each id must be in a
-    /// higher layer than those whose values it takes, as in what `plan` answers for these lists.
+    /// higher layer than those whose values it takes, as in what `plan` answers for these lists. The store
+    /// keeps for each of at most 64 ids that nothing uses, those with the greatest ids, on which ids it
+    /// stands, so that a trial of such a target follows no others.
     pub fn build<E: LayerEval<N>>(
         alloc: Global,
         nodes: Vec<N>,
@@ -64,6 +67,8 @@ impl<N: NodeRule> Store<N> {
         ensures fault { IfErr result (λ stop.
             IsStop (graph_over (map N.rule nodes.items) (length start.now) links.inputs.items)
             (start_of start.now) stop) }
+        ensures cones { IfOk result (λ s. map (λ c. c.target) s.frame.cones.items ≡
+            take 64 (unused_below (uses_in s.frame) (count_of s))) }
     {
         let parts = parts_of(alloc, nodes, links, start, layers, eval)?;
         Ok(Store {

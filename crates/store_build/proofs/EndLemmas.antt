@@ -1,5 +1,5 @@
 -- What was built is kept, or there is a first fault.
-use Rattle.std.proofs.Common.{◌≡◌, ℕ, ℤ, pos, zero, suc, ◌+◌, ◌-◌, ◌<◌, ◌≤◌, Bool, true, false, cond, nat_lt, ◌&&◌, List, [], ◌∷◌, length, map, get_or, slice_get, Option, Some, None, Result, Ok, Err, refl, sym, ap, ◌∙◌, subst, inl, inr, arith, All, IsTrue}
+use Rattle.std.proofs.Common.{◌≡◌, ℕ, ℤ, zero, suc, ◌+◌, ◌-◌, ◌<◌, ◌≤◌, Bool, true, false, cond, ◌&&◌, List, [], ◌∷◌, length, map, get_or, slice_get, Option, Some, Result, Ok, Err, refl, sym, ap, ◌∙◌, subst, inl, inr, arith, All, IsTrue}
 use Rattle.std.specs.Option.{option_map}
 use Rattle.std.proofs.lemmas.Bool.{cases_lt}
 use Rattle.std.proofs.lemmas.Option.{slice_get-map, get_or_from_slice_get}
@@ -7,19 +7,18 @@ use Rattle.std.proofs.lemmas.List.{length-map}
 use Rattle.cbl_base.specs.Inputs.{InputKind, kind_of, kinds_of}
 use Rattle.cbl_base.specs.NodeLaw.{Rule, GivesOneKind}
 use Rattle.cbl_base.specs.declared.input.Input.{Input}
-use Rattle.cbl_base.specs.declared.input.Input.TheVariants.{Int}
 use Rattle.cbl_base.specs.declared.faults.RunFault.{RunFault}
 use Rattle.store_turns.specs.declared.frame.Frame.{Frame}
 use Rattle.store_turns.specs.declared.outcome.Outcome.{Outcome}
 use Rattle.store_turns.specs.declared.outcome.Outcome.TheVariants.{Value, Fails, Missing}
-use Rattle.store_turns.specs.Meaning.{Graph, IsMeaning, Each, graph_of, inputs_in, layer_of, values_of, come_to, the_one, outcome_of, rule_value, is_empty}
+use Rattle.store_turns.specs.Meaning.{Each, graph_of, inputs_in, layer_of, values_of, come_to, the_one, outcome_of, rule_value, is_empty}
 use Rattle.store_turns.proofs.Unique.{same_map_each, each_from}
 use Rattle.store_build.specs.declared.building.Building.{Building}
-use Rattle.store_build.specs.Frames.{cell_of, held_of, AreKinds, IsFrame}
+use Rattle.store_build.specs.Frames.{cell_of, held_of, AreKinds}
 use Rattle.store_build.specs.Kept.{IsKept}
 use Rattle.store_build.specs.Stops.{FailsFirst}
 use Rattle.store_build.specs.Aims.{Aim, IsAim, IsLaid, start_of}
-use Rattle.store_build.specs.Building.{HasCome, IsFinished, HasPlaces, IsFirst, NoneFails, values_there, all_there}
+use Rattle.store_build.specs.Building.{IsFinished, HasPlaces, IsFirst, NoneFails, values_there, all_there}
 use Rattle.store_build.proofs.GatherLemmas.{past_first, before_first, node_comes}
 use Rattle.store_build.proofs.WholeLemmas.{some_is, AllValues, AllThere, many_values, value_there, there_rules, there_get, there_ready}
 
@@ -200,6 +199,7 @@ module _ {N : Type 0} (rule : N → Rule) (held : N → List Input) (ready : N �
         users = laid.users;
         defined = laid.defined;
         kinded = kinded;
+        cones = laid.cones;
       };
       many_cells = many_values b.outcomes.items all_values ∙ places.outcomes;
       many_helds = length-map (all_there b.nodes.items) held ∙ sym (length-map (all_there b.nodes.items) rule) ∙ ap length built_rules;

@@ -1,9 +1,9 @@
 -- There is a meaning: what the recursion gives at each id's layer.
-use Rattle.std.proofs.Common.{◌≡◌, ℕ, zero, suc, ◌<◌, true, false, cond, List, map, refl, sym, ap, ◌∙◌, arith}
+use Rattle.std.proofs.Common.{◌≡◌, ℕ, zero, suc, ◌<◌, cond, List, ap, ◌∙◌, arith}
 use Rattle.cbl_base.specs.declared.input.Input.{Input}
 use Rattle.store_turns.specs.declared.outcome.Outcome.{Outcome}
 use Rattle.store_turns.specs.declared.outcome.Outcome.TheVariants.{Value}
-use Rattle.store_turns.specs.Meaning.{Graph, AreLayers, IsMeaning, Each, computed, come_to, values_of, outcome_at}
+use Rattle.store_turns.specs.Meaning.{Graph, AreLayers, IsMeaning, computed, come_to, values_of, outcome_at}
 use Rattle.store_turns.proofs.Unique.{same_map_each, each_from}
 
 module _ (g : Graph) (layer : ℕ → ℕ) (layers : AreLayers g layer) (free : ℕ → Input) where

@@ -1,5 +1,5 @@
 -- What is taken of a layer, item by item.
-use Rattle.std.proofs.Common.{◌≡◌, ◌≢◌, ◌⊎◌, ℕ, ℤ, pos, zero, suc, ◌+◌, ◌-◌, ◌<◌, ◌≤◌, Bool, true, false, cond, nat_lt, ◌&&◌, List, [], ◌∷◌, ◌++◌, length, map, set, get_or, slice_get, Option, Some, None, IsSome, refl, sym, ap, ◌∙◌, subst, inl, inr, arith, All}
+use Rattle.std.proofs.Common.{◌≡◌, ◌⊎◌, ℕ, ℤ, pos, ◌-◌, ◌<◌, ◌≤◌, true, false, cond, nat_lt, ◌&&◌, List, [], ◌∷◌, ◌++◌, length, map, set, get_or, slice_get, Option, Some, None, IsSome, refl, sym, ap, ◌∙◌, subst, inl, inr, arith}
 use Rattle.std.specs.List.{Contains}
 use Rattle.std.proofs.lemmas.Bool.{cases_eq}
 use Rattle.std.proofs.lemmas.Bool.Decides.{nat_tests}
@@ -7,16 +7,15 @@ use Rattle.std.proofs.lemmas.List.{get_or-set_same, get_or-set_other, length-set
 use Rattle.std.proofs.lemmas.List.Elements.{Contains-push, Contains-push_cases, Contains-append_left}
 use Rattle.cbl_base.specs.NodeLaw.{Rule}
 use Rattle.cbl_base.specs.declared.input.Input.{Input}
-use Rattle.cbl_base.specs.declared.input.Input.TheVariants.{Int}
 use Rattle.store_turns.specs.declared.frame.Frame.{Frame}
 use Rattle.store_turns.specs.declared.outcome.Outcome.{Outcome}
-use Rattle.store_turns.specs.declared.outcome.Outcome.TheVariants.{Value, Fails, Missing}
-use Rattle.store_turns.specs.Meaning.{Each, graph_of, inputs_in, values_of, come_to, the_one, outcome_of, is_empty, rule_value, computed}
+use Rattle.store_turns.specs.declared.outcome.Outcome.TheVariants.{Missing}
+use Rattle.store_turns.specs.Meaning.{Each, graph_of, inputs_in, values_of, come_to, the_one, is_empty, rule_value}
 use Rattle.store_turns.proofs.Unique.{same_map_each, each_from}
 use Rattle.store_build.specs.declared.groups.Item.{Item}
 use Rattle.store_build.specs.declared.jobs.Jobs.{Jobs}
 use Rattle.store_build.specs.Groups.{IsNode, ids_in}
-use Rattle.store_build.specs.Aims.{Aim, IsAim, IsComputed, start_of}
+use Rattle.store_build.specs.Aims.{Aim, IsAim, IsComputed}
 use Rattle.store_build.specs.Building.{or_missing, outcome_in, values_in, cell_outcome, HasCome, IsTask, AreTasks, IsSettled, job_rules, job_values, NodeTaken, ItemTaken}
 
 pub past_first : (id first : ℕ) → first ≤ id → nat_lt id first ≡ false

@@ -1,9 +1,9 @@
 -- Nodes that were reset come to their outcomes, and take their places.
-use Rattle.std.proofs.Common.{◌≡◌, ◌≢◌, ◌⊎◌, ℕ, zero, suc, ◌+◌, ◌-◌, ◌<◌, ◌≤◌, List, [], ◌∷◌, ◌++◌, length, map, set, take, get_or, slice_get, Option, Some, None, refl, sym, ap, ◌∙◌, subst, inl, inr, arith, All, Vec, IsTrue, Result, Ok, Err, OnOk}
+use Rattle.std.proofs.Common.{◌≡◌, ◌≢◌, ℕ, zero, suc, ◌+◌, ◌-◌, ◌<◌, ◌≤◌, List, [], ◌∷◌, length, map, set, take, get_or, slice_get, Option, Some, None, refl, sym, ap, ◌∙◌, subst, inl, inr, arith, Vec, IsTrue, Result, Ok, Err, OnOk}
 use Rattle.std.specs.List.{Contains}
 use Rattle.std.specs.declared.alloc.Global.{Global}
 use Rattle.std.proofs.lemmas.Bool.{cases_eq}
-use Rattle.std.proofs.lemmas.List.{length-set, length-map, take_more}
+use Rattle.std.proofs.lemmas.List.{length-set, take_more}
 use Rattle.std.proofs.lemmas.List.Elements.{Contains-push_cases}
 use Rattle.cbl_base.specs.Inputs.{kinds_of}
 use Rattle.cbl_base.specs.NodeLaw.{Rule}
@@ -11,9 +11,9 @@ use Rattle.cbl_base.specs.declared.input.Input.{Input}
 use Rattle.cbl_base.proofs.PlaceLemmas.{others_stay}
 use Rattle.store_turns.specs.declared.frame.Frame.{Frame}
 use Rattle.store_turns.specs.declared.outcome.Outcome.{Outcome}
-use Rattle.store_turns.specs.Meaning.{inputs_in, values_of, outcome_of, come_to, rule_value}
+use Rattle.store_turns.specs.Meaning.{outcome_of, rule_value}
 use Rattle.store_build.specs.declared.building.Building.{Building}
-use Rattle.store_build.specs.Aims.{Aim, IsAim, IsComputed, Takes}
+use Rattle.store_build.specs.Aims.{Aim, IsComputed, Takes}
 use Rattle.store_build.specs.Building.{HasCome, IsTask, AreTasks, IsSettled, HasNode, IsFinished, HasPlaces}
 use Rattle.store_build.proofs.GatherLemmas.{come_here, come_kept, node_comes}
 

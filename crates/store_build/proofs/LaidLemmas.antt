@@ -1,17 +1,18 @@
 -- A frame is laid out, and what is aimed at.
-use Rattle.std.proofs.Common.{◌≡◌, ℕ, ℤ, zero, suc, ◌+◌, ◌-◌, ◌<◌, ◌≤◌, Bool, true, false, nat_lt, ◌&&◌, List, [], ◌∷◌, length, map, get_or, refl, sym, ap, ◌∙◌, subst, inl, inr, arith, All, Vec, Result, Ok, Err, IfOk}
+use Rattle.std.proofs.Common.{◌≡◌, ℕ, ℤ, zero, suc, ◌<◌, Bool, true, false, nat_lt, ◌&&◌, List, [], ◌∷◌, length, get_or, refl, sym, ap, ◌∙◌, subst, inl, inr, arith, All, Vec, Result, Ok, Err, IfOk}
 use Rattle.std.specs.declared.alloc.Global.{Global}
 use Rattle.std.proofs.lemmas.Bool.{cases_lt}
 use Rattle.cbl_base.specs.NodeLaw.{Rule}
 use Rattle.cbl_base.specs.declared.ids.NodeId.{NodeId}
 use Rattle.store_turns.specs.declared.frame.Frame.{Frame}
 use Rattle.store_turns.specs.declared.outcome.Outcome.{Outcome}
-use Rattle.store_turns.specs.Meaning.{Graph, AreLayers, IsMeaning, Each, ids_of, is_empty, graph_of, layer_of, inputs_in, uses_in, outcome_at}
+use Rattle.store_turns.specs.Cones.{AreCones}
+use Rattle.store_turns.specs.Meaning.{AreLayers, IsMeaning, Each, ids_of, is_empty, graph_of, layer_of, inputs_in, uses_in, outcome_at}
 use Rattle.store_turns.specs.Telling.{positions, places_in}
 use Rattle.store_turns.specs.Turns.{IsShape}
 use Rattle.store_turns.proofs.Unique.{each_from}
 use Rattle.store_build.specs.Lists.{list_in}
-use Rattle.store_build.specs.Aims.{Aim, IsAim, IsLaid, AreLinked, Takes, graph_over, start_of, layer_at}
+use Rattle.store_build.specs.Aims.{IsAim, IsLaid, AreLinked, Takes, start_of, layer_at}
 use Rattle.store_build.proofs.GroupLemmas.{in_past}
 use Rattle.store_build.proofs.Existence.{exists}
 
@@ -43,7 +44,7 @@ nothing_in (i ∷ is) false e = absurd (cc)
 
 module _ (rules : List Rule) (frame : Frame) (layers : List ℕ) (linked : AreLinked rules frame.first frame.inputs.items layers) (same : frame.layers.items ≡ layers)
     (many : length frame.uses.items ≡ length frame.inputs.items) (users : (i : ℕ) → All (λ u. u.0.0 < length frame.inputs.items) (uses_in frame i))
-    (uses : (i j : ℕ) → places_in j (uses_in frame i) ≡ positions i (inputs_in frame j)) where
+    (uses : (i j : ℕ) → places_in j (uses_in frame i) ≡ positions i (inputs_in frame j)) (cones : AreCones frame) where
   shaped : IsShape (graph_of rules frame) (layer_of frame) (uses_in frame)
   shaped = record {
     few = omega (arith, linked.few);
@@ -66,6 +67,7 @@ module _ (rules : List Rule) (frame : Frame) (layers : List ℕ) (linked : AreLi
         users = λ id. subst (λ (n : ℕ). All (λ u. u.0.0 < n) (uses_in frame id)) (sym planned) (users id);
         within = linked_within rules frame.first frame.inputs.items layers linked;
         defined = linked.defined;
+        cones = cones;
       }
 
 -- ---- what is aimed at

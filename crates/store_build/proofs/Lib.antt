@@ -6,8 +6,10 @@ pub mod KeepLemmas
 pub mod LaidLemmas
 pub mod LayerLemmas
 pub mod ListLemmas
+pub mod MarkSteps
 pub mod NumberGraphs
 pub mod PlannedLayers
+pub mod UnusedLists
 pub mod UseLemmas
 pub mod ValueLemmas
 pub mod WholeLemmas

@@ -5,7 +5,7 @@ use Rattle.cbl_base.specs.declared.input.Input.{Input}
 use Rattle.cbl_base.specs.declared.faults.RunFault.{RunFault}
 use Rattle.store_turns.specs.declared.outcome.Outcome.{Outcome}
 use Rattle.store_turns.specs.declared.outcome.Outcome.TheVariants.{Value, Fails, Missing}
-use Rattle.store_turns.specs.Meaning.{Graph, IsMeaning, AreLayers, Each, values_of, with_value, come_to, outcome_of, computed}
+use Rattle.store_turns.specs.Meaning.{Graph, IsMeaning, AreLayers, Each, values_of, with_value, come_to, outcome_of}
 use Rattle.store_turns.proofs.Unique.{each_from}
 
 -- what comes to a value comes to a number

@@ -1,5 +1,5 @@
 -- What a store is built of, and what its ids are to come to. A rule of this project.
-use Rattle.std.specs.Prelude.{◌≡◌, ℕ, ℤ, pos, ◌+◌, ◌-◌, ◌<◌, ◌≤◌, true, false, cond, nat_lt, ◌&&◌, List, [], ◌∷◌, length, map, slice_get, slice_index_or, Option, Some, None, Vec, All, IsTrue}
+use Rattle.std.specs.Prelude.{◌≡◌, ℕ, ℤ, pos, ◌+◌, ◌-◌, ◌<◌, ◌≤◌, true, false, cond, nat_lt, ◌&&◌, List, [], ◌∷◌, length, map, slice_get, slice_index_or, Some, Vec, All, IsTrue}
 use Rattle.cbl_base.specs.Inputs.{kinds_of}
 use Rattle.cbl_base.specs.NodeLaw.{Rule}
 use Rattle.cbl_base.specs.declared.ids.NodeId.{NodeId}
@@ -8,6 +8,7 @@ use Rattle.cbl_base.specs.declared.input.Input.TheVariants.{Int}
 use Rattle.store_turns.specs.declared.outcome.Outcome.{Outcome}
 use Rattle.store_turns.specs.declared.outcome.Outcome.TheVariants.{Value}
 use Rattle.store_turns.specs.declared.frame.Frame.{Frame}
+use Rattle.store_turns.specs.Cones.{AreCones}
 use Rattle.store_turns.specs.Meaning.{Graph, AreLayers, computed, graph_of, inputs_in, layer_of, uses_in, ids_of, rule_value, the_one, is_empty, values_of}
 use Rattle.store_turns.specs.Turns.{IsShape}
 use Rattle.store_build.specs.Lists.{list_in}
@@ -75,3 +76,4 @@ pub record IsLaid (rules : List Rule) (frame : Frame) : Type 0 where
   pub users : (id : ℕ) → All (λ u. u.0.0 < length frame.layers.items) (uses_in frame id)
   pub within : (id : ℕ) → All (λ i. i.0 < length frame.inputs.items) (list_in frame.inputs.items id)
   pub defined : (id : ℕ) → nat_lt id frame.first ≡ true → is_empty (inputs_in frame id) ≡ false → (i : ℕ) × (inputs_in frame id ≡ i ∷ [])
+  pub cones : AreCones frame

@@ -1,6 +1,5 @@
 -- What was built so far.
-use Rattle.std.specs.Prelude.{◌≡◌, ◌⊎◌, ℕ, ◌-◌, ◌<◌, ◌≤◌, cond, List, [], ◌∷◌, ◌++◌, length, map, slice_get, slice_set, slice_index_or, Option, Some, None, ℤ}
-use Rattle.std.specs.List.{Contains}
+use Rattle.std.specs.Prelude.{◌≡◌, ℕ, ◌-◌, ◌<◌, ◌≤◌, List, [], ◌∷◌, ◌++◌, length, map, slice_get, slice_set, slice_index_or, Option, Some, None, ℤ}
 use Rattle.cbl_base.specs.NodeLaw.{Rule}
 use Rattle.cbl_base.specs.declared.faults.RunFault.{RunFault}
 use Rattle.cbl_base.specs.declared.input.Input.{Input}
@@ -8,7 +7,7 @@ use Rattle.cbl_base.specs.declared.input.Input.TheVariants.{Int}
 use Rattle.store_turns.specs.declared.frame.Frame.{Frame}
 use Rattle.store_turns.specs.declared.outcome.Outcome.{Outcome}
 use Rattle.store_turns.specs.declared.outcome.Outcome.TheVariants.{Value, Fails, Missing}
-use Rattle.store_turns.specs.Meaning.{inputs_in, values_of, come_to, the_one, is_empty}
+use Rattle.store_turns.specs.Meaning.{inputs_in, values_of, come_to, the_one}
 use Rattle.store_build.specs.declared.jobs.Jobs.{Jobs}
 use Rattle.store_build.specs.declared.building.Building.{Building}
 use Rattle.store_build.specs.Aims.{Aim}

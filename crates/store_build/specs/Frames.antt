@@ -5,6 +5,7 @@ use Rattle.cbl_base.specs.NodeLaw.{Rule}
 use Rattle.cbl_base.specs.declared.input.Input.{Input}
 use Rattle.cbl_base.specs.declared.input.Input.TheVariants.{Int}
 use Rattle.store_turns.specs.declared.frame.Frame.{Frame}
+use Rattle.store_turns.specs.Cones.{AreCones}
 use Rattle.store_turns.specs.Meaning.{Graph, graph_of, inputs_in, layer_of, uses_in, is_empty}
 use Rattle.store_turns.specs.Turns.{IsShape}
 
@@ -32,3 +33,4 @@ pub record IsFrame (rules : List Rule) (frame : Frame) (kinds : ℕ → InputKin
   pub users : (id : ℕ) → All (λ u. u.0.0 < length frame.layers.items) (uses_in frame id)
   pub defined : (id : ℕ) → nat_lt id frame.first ≡ true → is_empty (inputs_in frame id) ≡ false → (i : ℕ) × (inputs_in frame id ≡ i ∷ [])
   pub kinded : AreKinds (graph_of rules frame) kinds
+  pub cones : AreCones frame

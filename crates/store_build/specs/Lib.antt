@@ -4,5 +4,7 @@ pub mod Frames
 pub mod Groups
 pub mod Kept
 pub mod Lists
+pub mod Marking
 pub mod Stops
+pub mod Unused
 pub mod Uses

@@ -1,14 +1,16 @@
 //! A store is built.
-ghost use Rattle.std.specs.Prelude.{◌≡◌, ℕ, ◌<◌, true, length, map, vec_len, IfOk, IfErr, All};
+ghost use Rattle.std.specs.Prelude.{◌≡◌, ℕ, ◌<◌, true, length, map, take, vec_len, IfOk, IfErr, All};
 ghost use Rattle.cbl_base.specs.declared.input.Input.{Input};
 ghost use Rattle.store_turns.specs.declared.outcome.Outcome.{Outcome};
-ghost use Rattle.store_turns.specs.Meaning.{IsMeaning, graph_of};
+ghost use Rattle.store_turns.specs.Meaning.{IsMeaning, graph_of, uses_in};
 ghost use Rattle.store_build.specs.Frames.{cell_of};
 ghost use Rattle.store_build.specs.Kept.{IsKept};
 ghost use Rattle.store_build.specs.Stops.{IsStop};
 ghost use Rattle.store_build.specs.Aims.{Aim, IsAim, IsLaid, AreLinked, Takes, graph_over, start_of};
+ghost use Rattle.store_build.specs.Unused.{unused_below};
 
 use crate::building::build_layers;
+use crate::cones::cones_of;
 use crate::groups::{groups_of, layers_of};
 use crate::layer_eval::LayerEval;
 use crate::links::Links;
@@ -67,7 +69,8 @@ fn build_over<N: NodeRule, E: LayerEval<N>>(
 ///
 /// There are as many cells as numbers to start with, with the ids from 0, and the nodes come behind them.
 /// A cell without inputs is free and starts with its number; another takes the value of the one id in its
-/// list. Each id must be in a higher layer than those whose values it takes, as `plan` gives them.
+/// list. Each id must be in a higher layer than those whose values it takes, as `plan` gives them. The
+/// frame has the cones of the ids that nothing uses, at most `MOST_CONES`: those of the greatest ids.
 pub fn parts_of<N: NodeRule, E: LayerEval<N>>(
     alloc: Global,
     nodes: Vec<N>,
@@ -87,6 +90,8 @@ pub fn parts_of<N: NodeRule, E: LayerEval<N>>(
     ensures first { IfOk result (λ p. p.frame.first ≡ length start.now) }
     ensures inputs { IfOk result (λ p. p.frame.inputs ≡ links.inputs) }
     ensures layers { IfOk result (λ p. p.frame.layers.items ≡ layers.now) }
+    ensures targets { IfOk result (λ p. map (λ c. c.target) p.frame.cones.items ≡
+        take 64 (unused_below (uses_in p.frame) (length p.frame.inputs.items))) }
     ensures kept { IfOk result (λ p. IsKept (map N.rule p.nodes.items)
         (map N.held p.nodes.items) p.frame p.values.items) }
     ensures free { IfOk result (λ p. (j : ℕ) → j < length links.inputs.items →
@@ -99,11 +104,13 @@ pub fn parts_of<N: NodeRule, E: LayerEval<N>>(
     let first = start.len() as u32;
     let list = layers_of(alloc, layers)?;
     let uses = uses_of(alloc, &links.inputs)?;
+    let cones = cones_of(alloc, &links.inputs, &uses)?;
     let frame = Frame {
         first,
         inputs: links.inputs,
         layers: list,
         uses,
+        cones,
     };
     build_over(alloc, frame, nodes, start, eval)
 }

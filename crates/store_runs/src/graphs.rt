@@ -10,6 +10,8 @@ pub(crate) enum Shape {
     Chain,
     /// Each of 10,000 nodes is on a variable of its own.
     Apart,
+    /// Each of 64 nodes is on the same variable.
+    Beside,
     /// Of 12 variables four have the value of a node; 24 nodes are on those before them, some twice.
     Drawn,
 }
@@ -27,6 +29,7 @@ fn sizes_of(shape: Shape) -> (u32, u32) {
     match shape {
         Shape::Chain => (2_001, 3_000),
         Shape::Apart => (10_000, 20_000),
+        Shape::Beside => (1, 65),
         Shape::Drawn => (12, 36),
     }
 }
@@ -66,6 +69,8 @@ fn input_of(shape: Shape, draws: &mut Draws, id: u32, place: u32) -> Option<u32>
         Shape::Chain => chain_input(id, place),
         Shape::Apart if id >= 10_000 && place == 0 => Some(id - 10_000),
         Shape::Apart => None,
+        Shape::Beside if id >= 1 && place == 0 => Some(0),
+        Shape::Beside => None,
         Shape::Drawn => drawn_input(draws, id, place),
     }
 }
@@ -112,6 +117,7 @@ fn move_of(shape: Shape, draws: &mut Draws) -> (VarId, i64) {
     let (index, number) = match shape {
         Shape::Chain => (0, 5),
         Shape::Apart => (5_000, 5),
+        Shape::Beside => (0, 5),
         Shape::Drawn => (draws.below(8), draws.number()),
     };
     (VarId { solver: 3, index }, number)
@@ -138,6 +144,7 @@ pub(crate) fn target_of(shape: Shape, draws: &mut Draws) -> u32 {
     match shape {
         Shape::Chain => 999,
         Shape::Apart => 15_000,
+        Shape::Beside => 30,
         Shape::Drawn => draws.below(36),
     }
 }

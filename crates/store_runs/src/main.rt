@@ -101,6 +101,7 @@ fn play_shape<R: Print + AllocGlobal, L: Ledger>(
     let (name, graphs, commits) = match shape {
         Shape::Chain => ("chain of 1,000", 1, 1),
         Shape::Apart => ("10,000 apart", 1, 1),
+        Shape::Beside => ("64 beside each other", 1, 1),
         Shape::Drawn => ("drawn", 25, 200),
     };
     play.counts = NOTHING_SEEN;
@@ -150,10 +151,11 @@ fn play_all<R: Print + AllocGlobal, L: Ledger>(blank: Blank, rt: &R)
         left: 0,
         moved: 0,
     };
-    for index in 0..3 {
+    for index in 0..4 {
         let shape = match index {
             0 => Shape::Chain,
             1 => Shape::Apart,
+            2 => Shape::Beside,
             _ => Shape::Drawn,
         };
         play_shape(rt, shape, &mut play, &mut steps);

@@ -1,5 +1,6 @@
 pub mod Budget
 pub mod ChangeLists
+pub mod ConeLists
 pub mod Differs
 pub mod Fitting
 pub mod NextTurn

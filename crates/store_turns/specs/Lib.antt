@@ -1,3 +1,4 @@
+pub mod Cones
 pub mod Entries
 pub mod Meaning
 pub mod Telling

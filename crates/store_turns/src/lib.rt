@@ -14,8 +14,8 @@ mod short_list;
 mod telling;
 mod waiting;
 
-pub use frame::Frame;
+pub use frame::{Cone, Frame};
 pub use outcome::{Outcome, copy_of, same};
 pub use set_changes::{change_to, without};
-pub use telling::tell;
+pub use telling::{has, tell};
 pub use waiting::{Turn, Waiting};

@@ -6,6 +6,7 @@ ghost use Rattle.cbl_base.specs.declared.input.Input.TheVariants.{Int};
 ghost use Rattle.store_turns.specs.declared.outcome.Outcome.TheVariants.{Value};
 ghost use Rattle.store_turns.specs.Waits.{waits};
 ghost use Rattle.store_turns.specs.Touch.{differs};
+ghost use Rattle.store_turns.specs.Cones.{has, chosen};
 ghost use Rattle.store_turns.specs.Telling.{change_to, places_in, pushed, blocked, layer_in, IsTold};
 
 use crate::outcome::{Outcome, same};
@@ -14,13 +15,14 @@ use crate::waiting::{Turn, Waiting};
 use cbl_base::{Input, NoMemory, NodeId, NodeValue, Steps};
 use std::sync::ledger::Ledger;
 
-/// Tells those that use an id that it came to the outcome, where its value was the old one, and answers
-/// whether the outcome is another. At most two steps a use, and none where it isn't.
+/// Tells those members that use an id that it came to the outcome, where its value was the old one, and answers
+/// whether the outcome is another. At most two steps for each such use, and none where it isn't.
 #[inline(always)]
 pub fn tell<L: Ledger>(
     waiting: &mut Waiting,
     layers: &[u32],
     uses: &[(NodeId, u32)],
+    members: &[bool],
     old: &NodeValue,
     outcome: &Outcome,
     steps: &mut Steps<L>,
@@ -28,24 +30,25 @@ pub fn tell<L: Ledger>(
     requires users { All (λ u. u.0.0 < length layers.now) uses.now }
     requires kinds { (x : Input) → outcome.now ≡ Value x → kind_of x ≡ kind_of old.now }
     ensures answer { IfOk result (λ r. r ≡ differs outcome.now old.now) }
-    ensures told { OnOk result (IsTold (layer_in layers.now) uses.now old.now outcome.now
+    ensures told { OnOk result (IsTold (layer_in layers.now) (chosen (has members.now) uses.now) old.now outcome.now
         (waits waiting.old) (waits waiting.new)) }
     ensures steps { steps.new ≤ steps.old + 2 * cond (differs outcome.now old.now)
-        (length uses.now) 0 }
+        (length (chosen (has members.now) uses.now)) 0 }
 {
     match outcome {
-        Outcome::Value(new) => tell_value(waiting, layers, uses, old, new, steps),
-        Outcome::Fails(_) => block_all(waiting, layers, uses, steps),
-        Outcome::Missing => block_all(waiting, layers, uses, steps),
+        Outcome::Value(new) => tell_value(waiting, layers, uses, members, old, new, steps),
+        Outcome::Fails(_) => block_all(waiting, layers, uses, members, steps),
+        Outcome::Missing => block_all(waiting, layers, uses, members, steps),
     }
 }
 
-/// Tells those that use an id that its value was the old one and is the new one, and answers whether
-/// that is another.
+/// Tells those members that use an id that its value was the old one and is the new one, and answers
+/// whether that is another.
 fn tell_value<L: Ledger>(
     waiting: &mut Waiting,
     layers: &[u32],
     uses: &[(NodeId, u32)],
+    members: &[bool],
     old: &NodeValue,
     new: &NodeValue,
     steps: &mut Steps<L>,
@@ -53,14 +56,14 @@ fn tell_value<L: Ledger>(
     requires users { All (λ u. u.0.0 < length layers.now) uses.now }
     requires kinds { kind_of new.now ≡ kind_of old.now }
     ensures answer { IfOk result (λ r. r ≡ differs (Value new.now) old.now) }
-    ensures told { OnOk result (IsTold (layer_in layers.now) uses.now old.now (Value new.now)
+    ensures told { OnOk result (IsTold (layer_in layers.now) (chosen (has members.now) uses.now) old.now (Value new.now)
         (waits waiting.old) (waits waiting.new)) }
     ensures steps { steps.new ≤ steps.old + 2 * cond (differs (Value new.now) old.now)
-        (length uses.now) 0 }
+        (length (chosen (has members.now) uses.now)) 0 }
 {
     match (old, new) {
-        (Input::Int(a), Input::Int(b)) => tell_number(waiting, layers, uses, a, b, steps),
-        _ => tell_any(waiting, layers, uses, old, new, steps),
+        (Input::Int(a), Input::Int(b)) => tell_number(waiting, layers, uses, members, a, b, steps),
+        _ => tell_any(waiting, layers, uses, members, old, new, steps),
     }
 }
 
@@ -69,29 +72,32 @@ fn tell_number<L: Ledger>(
     waiting: &mut Waiting,
     layers: &[u32],
     uses: &[(NodeId, u32)],
+    members: &[bool],
     old: &i64,
     new: &i64,
     steps: &mut Steps<L>,
 ) -> Result<bool, NoMemory>
     requires users { All (λ u. u.0.0 < length layers.now) uses.now }
     ensures answer { IfOk result (λ r. r ≡ differs (Value (Int new.now)) (Int old.now)) }
-    ensures told { OnOk result (IsTold (layer_in layers.now) uses.now (Int old.now)
+    ensures told { OnOk result (IsTold (layer_in layers.now) (chosen (has members.now) uses.now)
+        (Int old.now)
         (Value (Int new.now)) (waits waiting.old) (waits waiting.new)) }
     ensures steps { steps.new ≤ steps.old + 2 *
-        cond (differs (Value (Int new.now)) (Int old.now)) (length uses.now) 0 }
+        cond (differs (Value (Int new.now)) (Int old.now)) (length (chosen (has members.now) uses.now)) 0 }
 {
     if *old == *new {
         return Ok(false);
     }
-    push_numbers(waiting, layers, uses, old, new, steps)?;
+    push_numbers(waiting, layers, uses, members, old, new, steps)?;
     Ok(true)
 }
 
-/// Each use of an id gets the change from its old number to its new one. Two steps a use.
+/// Each use of an id by a member gets the change from its old number to its new one. Two steps each.
 fn push_numbers<L: Ledger>(
     waiting: &mut Waiting,
     layers: &[u32],
     uses: &[(NodeId, u32)],
+    members: &[bool],
     old: &i64,
     new: &i64,
     steps: &mut Steps<L>,
@@ -99,13 +105,16 @@ fn push_numbers<L: Ledger>(
     requires users { All (λ u. u.0.0 < length layers.now) uses.now }
     ensures here { OnOk result ((j : ℕ) →
         waits waiting.new (layer_in layers.now j) j ≡
-        pushed (map (λ p. change_to p (Int old.now) (Int new.now)) (places_in j uses.now))
+        pushed (map (λ p. change_to p (Int old.now) (Int new.now)) (places_in j (chosen (has members.now) uses.now)))
         (waits waiting.old (layer_in layers.now j) j)) }
     ensures elsewhere { OnOk result ((l j : ℕ) → l ≢ layer_in layers.now j →
         waits waiting.new l j ≡ waits waiting.old l j) }
-    ensures steps { steps.new ≤ steps.old + 2 * length uses.now }
+    ensures steps { steps.new ≤ steps.old + 2 * length (chosen (has members.now) uses.now) }
 {
     for (id, place) in uses {
+        if !has(members, *id) {
+            continue;
+        }
         waiting.push_number(turn_of(layers, *id), *place, old, new, steps)?;
     }
     Ok(())
@@ -116,6 +125,7 @@ fn tell_any<L: Ledger>(
     waiting: &mut Waiting,
     layers: &[u32],
     uses: &[(NodeId, u32)],
+    members: &[bool],
     old: &NodeValue,
     new: &NodeValue,
     steps: &mut Steps<L>,
@@ -123,23 +133,24 @@ fn tell_any<L: Ledger>(
     requires users { All (λ u. u.0.0 < length layers.now) uses.now }
     requires kinds { kind_of new.now ≡ kind_of old.now }
     ensures answer { IfOk result (λ r. r ≡ differs (Value new.now) old.now) }
-    ensures told { OnOk result (IsTold (layer_in layers.now) uses.now old.now (Value new.now)
+    ensures told { OnOk result (IsTold (layer_in layers.now) (chosen (has members.now) uses.now) old.now (Value new.now)
         (waits waiting.old) (waits waiting.new)) }
     ensures steps { steps.new ≤ steps.old + 2 * cond (differs (Value new.now) old.now)
-        (length uses.now) 0 }
+        (length (chosen (has members.now) uses.now)) 0 }
 {
     if same(old, new) {
         return Ok(false);
     }
-    push_all(waiting, layers, uses, old, new, steps)?;
+    push_all(waiting, layers, uses, members, old, new, steps)?;
     Ok(true)
 }
 
-/// Each use of an id gets the change from its old value to its new one. Two steps a use.
+/// Each use of an id by a member gets the change from its old value to its new one. Two steps each.
 fn push_all<L: Ledger>(
     waiting: &mut Waiting,
     layers: &[u32],
     uses: &[(NodeId, u32)],
+    members: &[bool],
     old: &NodeValue,
     new: &NodeValue,
     steps: &mut Steps<L>,
@@ -148,14 +159,17 @@ fn push_all<L: Ledger>(
     requires kinds { kind_of new.now ≡ kind_of old.now }
     ensures here { OnOk result ((j : ℕ) →
         waits waiting.new (layer_in layers.now j) j ≡
-        pushed (map (λ p. change_to p old.now new.now) (places_in j uses.now))
+        pushed (map (λ p. change_to p old.now new.now) (places_in j (chosen (has members.now) uses.now)))
         (waits waiting.old (layer_in layers.now j) j)) }
     ensures elsewhere { OnOk result ((l j : ℕ) → l ≢ layer_in layers.now j →
         waits waiting.new l j ≡ waits waiting.old l j) }
-    ensures steps { steps.new ≤ steps.old + 2 * length uses.now }
+    ensures steps { steps.new ≤ steps.old + 2 * length (chosen (has members.now) uses.now) }
 {
     let alloc = waiting.alloc();
     for (id, place) in uses {
+        if !has(members, *id) {
+            continue;
+        }
         let turn = turn_of(layers, *id);
         let change = change_to(alloc, *place, old, new)?;
         waiting.push(turn, change, steps)?;
@@ -163,26 +177,40 @@ fn push_all<L: Ledger>(
     Ok(())
 }
 
-/// Each use of an id hears that it has no value. One step a use.
+/// Each use of an id by a member hears that it has no value. One step each.
 fn block_all<L: Ledger>(
     waiting: &mut Waiting,
     layers: &[u32],
     uses: &[(NodeId, u32)],
+    members: &[bool],
     steps: &mut Steps<L>,
 ) -> Result<bool, NoMemory>
     requires users { All (λ u. u.0.0 < length layers.now) uses.now }
     ensures answer { IfOk result (λ r. r ≡ true) }
     ensures here { OnOk result ((j : ℕ) →
         waits waiting.new (layer_in layers.now j) j ≡
-        blocked (places_in j uses.now) (waits waiting.old (layer_in layers.now j) j)) }
+        blocked (places_in j (chosen (has members.now) uses.now)) (waits waiting.old (layer_in layers.now j) j)) }
     ensures elsewhere { OnOk result ((l j : ℕ) → l ≢ layer_in layers.now j →
         waits waiting.new l j ≡ waits waiting.old l j) }
-    ensures steps { steps.new ≤ steps.old + length uses.now }
+    ensures steps { steps.new ≤ steps.old + length (chosen (has members.now) uses.now) }
 {
     for (id, _) in uses {
+        if !has(members, *id) {
+            continue;
+        }
         waiting.block(turn_of(layers, *id), steps)?;
     }
     Ok(true)
+}
+
+/// Whether a list of entries by id has an id; one past its end it has.
+pub fn has(members: &[bool], id: NodeId) -> bool
+    ensures { result ≡ has members.now id.0 }
+{
+    match members.get(id.0 as usize) {
+        Some(entry) => *entry,
+        None => true,
+    }
 }
 
 /// The turn of a node.

@@ -1,14 +1,11 @@
 -- What is told at the end of a trial: the difference, or the least failing id on which the target stands.
 use Rattle.std.proofs.Common.{◌≡◌, ◌≢◌, inl, inr, ℕ, ℤ, pos, zero, suc, ◌-ℤ◌, ◌<◌, ◌≤◌, Bool, true, false, List, [], ◌∷◌, map, length, Option, Some, None, Result, Ok, Err, refl, sym, ap, ◌∙◌, subst, arith}
 use Rattle.std.specs.BTreeMap.{BTreeMap, get}
-use Rattle.std.specs.Bool.{◌==◌}
-use Rattle.std.proofs.lemmas.Bool.Decides.{eqb_tells}
 use Rattle.std.proofs.lemmas.Int.{ints}
 use Rattle.std.specs.Ordering.{nat_cmp}
 use Rattle.cbl_base.specs.Arithmetic.{exact}
 use Rattle.cbl_base.specs.Inputs.{number_kind, kind_of, number_of}
 use Rattle.cbl_base.specs.NodeLaw.{Rule}
-use Rattle.cbl_base.specs.declared.ids.VarId.{VarId}
 use Rattle.cbl_base.specs.declared.input.Input.{Input}
 use Rattle.cbl_base.specs.declared.input.Input.TheVariants.{Int, Set}
 use Rattle.cbl_base.specs.declared.faults.RunFault.{RunFault}
@@ -23,12 +20,13 @@ use Rattle.store_build.proofs.Existence.{exists}
 use Rattle.inc_store.specs.declared.changed.NodeChange.{NodeChange}
 use Rattle.inc_store.specs.Course.{lost_or}
 use Rattle.inc_store.specs.Moves.{moved_to}
-use Rattle.trial.specs.Differences.{Among, StandsOn, itself, below, AreNumbers, IsDifference, FailsAfter}
+use Rattle.store_turns.specs.Cones.{Among, StandsOn, itself, below}
+use Rattle.trial.specs.Differences.{AreNumbers, FailsAfter}
 use Rattle.trial.specs.Overlays.{new_or, root_by, root_in}
 use Rattle.trial.specs.Course.{Asked, IsKnown}
 
 -- ---- lists of outcomes
-each_at : (P : ℕ → Type 0) (i : ℕ) (is : List ℕ) → Each P is → Among i is → P i
+pub each_at : (P : ℕ → Type 0) (i : ℕ) (is : List ℕ) → Each P is → Among i is → P i
 each_at P i [] each m = absurd m
 each_at P i (k ∷ is) each m = elim m [ inl e ↦ subst P e each.0 | inr r ↦ each_at P i is each.1 r ]
 
@@ -62,7 +60,7 @@ never_missing : (r : Result Input RunFault) → outcome_of r ≡ Missing → ⊥
 never_missing (Ok x) e = cc
 never_missing (Err f) e = cc
 
-as_number : (x : Input) → kind_of x ≡ number_kind → x ≡ Int (number_of x)
+pub as_number : (x : Input) → kind_of x ≡ number_kind → x ≡ Int (number_of x)
 as_number (Int n) e = refl
 as_number (Set s) e = absurd (cc)
 
@@ -131,14 +129,14 @@ module _ (rules : List Rule) (nodes : List (List Input)) (frame : Frame) (cells 
   pair_is e = cc
 
   abbrev StandsBy : ℕ → ℕ × RunFault → Type 0
-  StandsBy j r = StandsOn (graph_of rules frame) j r.0 × (o r.0 ≡ Fails r.1)
+  StandsBy j r = StandsOn (inputs_in frame) j r.0 × (o r.0 ≡ Fails r.1)
 
   stands_by : (j : ℕ) (r : ℕ × RunFault) → j < length frame.inputs.items → rank (layer_of frame) j ≤ rank (layer_of frame) target
       → ((i : ℕ) → i < length frame.inputs.items → rank (layer_of frame) i ≤ rank (layer_of frame) target → layer_of frame i < layer_of frame j → root_in lost roots i ≡ Some r → StandsBy i r)
       → (l : Option (Option RunFault)) → get nat_cmp lost j ≡ l → root_by j l (get nat_cmp roots j) ≡ Some r → StandsBy j r
   stands_by j r lt low lower None is e = none_some None r refl e
   stands_by j r lt low lower (Some (Some f)) is e =
-      subst (λ (q : ℕ × RunFault). StandsOn (graph_of rules frame) j q.0 × (o q.0 ≡ Fails q.1)) (pair_is e)
+      subst (λ (q : ℕ × RunFault). StandsOn (inputs_in frame) j q.0 × (o q.0 ≡ Fails q.1)) (pair_is e)
       (itself, sym (came j lt low) ∙ ap (λ l. lost_or l (new j)) is)
   stands_by j r lt low lower (Some None) is e =
       let a = known.are_roots.among j r e in
@@ -152,7 +150,7 @@ module _ (rules : List Rule) (nodes : List (List Input)) (frame : Frame) (cells 
       stands_by j r lt low (λ i li lo lower is. stands d i r li lo (omega (arith, lower, deep)) is) (get nat_cmp lost j) refl e
 
   -- ---- each failing id on which an id stands is noted, or one below it
-  noted_least : {j k : ℕ} → StandsOn (graph_of rules frame) j k → (f : RunFault) → o k ≡ Fails f → j < length frame.inputs.items → rank (layer_of frame) j ≤ rank (layer_of frame) target
+  noted_least : {j k : ℕ} → StandsOn (inputs_in frame) j k → (f : RunFault) → o k ≡ Fails f → j < length frame.inputs.items → rank (layer_of frame) j ≤ rank (layer_of frame) target
       → (s : ℕ × RunFault) × (root_in lost roots j ≡ Some s) × (s.0 ≤ k)
   noted_least (itself {j}) f e lt low = ((j, f), ap (λ l. root_by j l (get nat_cmp roots j)) (own_is (get nat_cmp lost j) (new j) f (came j lt low ∙ e)), omega arith)
   noted_least (below {j} {i} {k} m st) f e lt low =
@@ -225,36 +223,6 @@ module _ (rules : List Rule) (nodes : List (List Input)) (frame : Frame) (cells 
         ∙ ap (λ y. Value y) (as_number (new target) (known.kinded target within ∙ number));
   }
 
--- ---- no moves
-exact_self : (x : ℤ) → exact (x -ℤ x) ≡ Ok (pos 0)
+-- ---- nothing is another
+pub exact_self : (x : ℤ) → exact (x -ℤ x) ≡ Ok (pos 0)
 exact_self x = let z : x -ℤ x ≡ pos 0 = grind (arith, ints) in ap exact z
-
-not_none : (n : ℕ) → (suc n == 0) ≡ true → ⊥
-not_none n e = elim (eqb_tells (suc n) 0) [
-  | inl t ↦ let z = t.1 in omega (arith, z)
-  | inr f ↦ never (sym f.0 ∙ e)
-]
-  where
-    never : false ≡ true → ⊥
-    never e = cc
-
-pub nothing_moved : (rules : List Rule) (nodes : List (List Input)) (frame : Frame) (cells : List Input) → IsKept rules nodes frame cells → (ms : List (VarId × ℤ)) (target : ℕ) → kind_of (cell_of cells target) ≡ number_kind → (length ms == 0) ≡ true
-    → IsDifference (graph_of rules frame) (cell_of cells) (moved_to ms (cell_of cells)) target (pos 0)
-nothing_moved rules nodes frame cells kept [] target number e = (
-  number_of (cell_of cells target),
-  number_of (cell_of cells target),
-  record {
-    outcome = λ j. Value (cell_of cells j);
-    outcome_after = λ j. Value (cell_of cells j);
-    meaning = kept.fresh;
-    meaning_after = record { cells = kept.fresh.cells; nodes = kept.fresh.nodes };
-    had = ap (λ y. Value y) (as_number (cell_of cells target) number);
-    has = ap (λ y. Value y) (as_number (cell_of cells target) number);
-  },
-  exact_self (number_of (cell_of cells target)),
-)
-nothing_moved rules nodes frame cells kept (m ∷ ms) target number e = absurd (not_none (length ms) e)
-
-pub some_moved : (n : ℕ) → (n == 0) ≡ false → 0 < n
-some_moved zero e = absurd (cc)
-some_moved (suc n) e = omega arith

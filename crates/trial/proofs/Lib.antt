@@ -4,3 +4,11 @@ pub mod Roots
 pub mod Stops
 pub mod Finish
 pub mod OneMove
+pub mod PartLists
+pub mod PartFrames
+pub mod PartCones
+pub mod PartMoves
+pub mod PartTouch
+pub mod PartEnds
+pub mod PartTurns
+pub mod Probing

@@ -1,15 +1,14 @@
 -- What is noted of failing nodes, when one more id comes to its outcome.
-use Rattle.std.proofs.Common.{◌≡◌, ◌≢◌, ◌⊎◌, inl, inr, ℕ, suc, ◌+◌, ◌<◌, ◌≤◌, Bool, true, false, cond, nat_le, List, [], ◌∷◌, ◌++◌, map, length, take, get_or, Option, Some, None, refl, sym, ap, ◌∙◌, subst, arith}
+use Rattle.std.proofs.Common.{◌≡◌, ◌≢◌, ◌⊎◌, inl, inr, ℕ, suc, ◌≤◌, Bool, true, false, cond, nat_le, List, [], ◌∷◌, ◌++◌, map, Option, Some, None, refl, sym, ap, ◌∙◌, subst, arith}
 use Rattle.std.specs.BTreeMap.{BTreeMap, get}
 use Rattle.std.specs.Ordering.{nat_cmp}
 use Rattle.std.proofs.lemmas.Bool.Decides.{eqb_tells, leb_tells}
-use Rattle.std.proofs.lemmas.List.{take_more}
 use Rattle.cbl_base.specs.declared.ids.NodeId.{NodeId}
 use Rattle.cbl_base.specs.declared.faults.RunFault.{RunFault}
 use Rattle.store_turns.specs.declared.frame.Frame.{Frame}
 use Rattle.store_turns.specs.Meaning.{inputs_in}
 use Rattle.store_turns.specs.Telling.{positions, places_in}
-use Rattle.trial.specs.Differences.{Among}
+use Rattle.store_turns.specs.Cones.{Among}
 use Rattle.trial.specs.Overlays.{root_by, root_in, lesser, noted}
 use Rattle.trial.specs.Course.{AreRoots}
 
@@ -113,14 +112,13 @@ noted-append [] qs root r = refl
 noted-append (p ∷ ps) [] root r = refl
 noted-append (p ∷ ps) (q ∷ qs) root r = sym (lesser_twice root r)
 
-pub noted_more : (uses : List (NodeId × ℕ)) (i : ℕ) (d : NodeId × ℕ) (root : Option (ℕ × RunFault)) (old now new : ℕ → Option (ℕ × RunFault)) → i < length uses
-    → new (get_or uses i d).0.0 ≡ lesser root (now (get_or uses i d).0.0) → ((j : ℕ) → j ≢ (get_or uses i d).0.0 → new j ≡ now j)
-    → ((j : ℕ) → now j ≡ noted (places_in j (take i uses)) root (old j))
-    → (j : ℕ) → new j ≡ noted (places_in j (take (i + 1) uses)) root (old j)
-noted_more uses i d root old now new lt here other h j =
-    let u = get_or uses i d in
-    let parts : noted (places_in j (take (i + 1) uses)) root (old j) ≡ noted (places_in j (u ∷ [])) root (now j) =
-    ap (λ ps. noted ps root (old j)) (ap (places_in j) (take_more uses i d lt) ∙ places-append j (take i uses) (u ∷ [])) ∙ noted-append (places_in j (take i uses)) (places_in j (u ∷ [])) root (old j) ∙ ap (noted (places_in j (u ∷ [])) root) (sym (h j)) in
+pub noted_more : (us : List (NodeId × ℕ)) (u : NodeId × ℕ) (root : Option (ℕ × RunFault)) (old now new : ℕ → Option (ℕ × RunFault))
+    → new u.0.0 ≡ lesser root (now u.0.0) → ((j : ℕ) → j ≢ u.0.0 → new j ≡ now j)
+    → ((j : ℕ) → now j ≡ noted (places_in j us) root (old j))
+    → (j : ℕ) → new j ≡ noted (places_in j (us ++ u ∷ [])) root (old j)
+noted_more us u root old now new here other h j =
+    let parts : noted (places_in j (us ++ u ∷ [])) root (old j) ≡ noted (places_in j (u ∷ [])) root (now j) =
+    ap (λ ps. noted ps root (old j)) (places-append j us (u ∷ [])) ∙ noted-append (places_in j us) (places_in j (u ∷ [])) root (old j) ∙ ap (noted (places_in j (u ∷ [])) root) (sym (h j)) in
     elim (eqb_tells u.0.0 j) [
       | inl t ↦ subst (λ k. new k ≡ lesser root (now k)) t.1 here ∙ sym (parts ∙ (rw t.0 refl))
       | inr g ↦ other j (λ e. g.1 (sym e)) ∙ sym (parts ∙ (rw g.0 refl))

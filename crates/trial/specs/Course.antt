@@ -10,6 +10,7 @@ use Rattle.cbl_base.specs.declared.input.Input.{Input}
 use Rattle.cbl_base.specs.declared.faults.RunFault.{RunFault}
 use Rattle.store_turns.specs.declared.frame.Frame.{Frame}
 use Rattle.store_turns.specs.declared.outcome.Outcome.{Outcome}
+use Rattle.store_turns.specs.Cones.{Among}
 use Rattle.store_turns.specs.Meaning.{IsMeaning, graph_of, inputs_in, layer_of}
 use Rattle.store_turns.specs.Turns.{rank}
 use Rattle.store_build.specs.Frames.{cell_of, held_of}
@@ -18,7 +19,6 @@ use Rattle.inc_store.specs.declared.course.Course.{Course}
 use Rattle.inc_store.specs.Course.{InCourse, lost_or}
 use Rattle.inc_store.specs.Moves.{moved_to, trace_of}
 use Rattle.trial.specs.declared.overlay.Overlay.{Overlay}
-use Rattle.trial.specs.Differences.{Among}
 use Rattle.trial.specs.Overlays.{new_or, root_in}
 
 -- the course of that commit

@@ -1,5 +1,5 @@
 -- What a trial tells of a target: the difference of two fresh evaluations, or the fault that it meets.
-use Rattle.std.specs.Prelude.{◌≡◌, ◌⊎◌, ℕ, ℤ, ◌-ℤ◌, ◌≤◌, List, [], ◌∷◌, Ok, Err}
+use Rattle.std.specs.Prelude.{◌≡◌, ◌⊎◌, ℕ, ℤ, ◌-ℤ◌, ◌≤◌, Ok, Err}
 use Rattle.cbl_base.specs.Arithmetic.{exact}
 use Rattle.cbl_base.specs.declared.input.Input.{Input}
 use Rattle.cbl_base.specs.declared.input.Input.TheVariants.{Int}
@@ -7,24 +7,15 @@ use Rattle.cbl_base.specs.declared.faults.RunFault.{RunFault}
 use Rattle.store_turns.specs.declared.outcome.Outcome.{Outcome}
 use Rattle.store_turns.specs.declared.outcome.Outcome.TheVariants.{Value, Fails}
 use Rattle.store_turns.specs.Meaning.{Graph, IsMeaning}
+use Rattle.store_turns.specs.Cones.{StandsOn}
 use Rattle.trial.specs.declared.fault.TrialFault.{TrialFault}
 use Rattle.trial.specs.declared.fault.TrialFault.TheVariants.{Node, NoMemory}
 
--- the id is in the list
-abbrev pub Among : ℕ → List ℕ → Type 0
-Among id [] = ⊥
-Among id (i ∷ is) = (i ≡ id) ⊎ Among id is
-
--- an id stands on itself, and on all that its inputs stand on
-pub data StandsOn (g : Graph) : ℕ → ℕ → Type 0 where
-  itself : {j : ℕ} → StandsOn g j j
-  below : {j i k : ℕ} → Among i (g.inputs j) → StandsOn g i k → StandsOn g j k
-
 -- of what the target stands on, the id is the least whose own operation fails
 pub record FailsBelow (g : Graph) (o : ℕ → Outcome) (target id : ℕ) (fault : RunFault) : Type 0 where
-  pub stands : StandsOn g target id
+  pub stands : StandsOn g.inputs target id
   pub here : o id ≡ Fails fault
-  pub least : (j : ℕ) (other : RunFault) → StandsOn g target j → o j ≡ Fails other → id ≤ j
+  pub least : (j : ℕ) (other : RunFault) → StandsOn g.inputs target j → o j ≡ Fails other → id ≤ j
 
 -- what ids come to where the free cells hold these values now and those after, and the target's two numbers
 pub record AreNumbers (g : Graph) (now after : ℕ → Input) (target : ℕ) (x y : ℤ) : Type 0 where

@@ -1,14 +1,15 @@
 //! What a trial tells when the target has come to its outcome.
-ghost use Rattle.std.specs.Prelude.{◌≡◌, ℕ, ◌+◌, ◌-ℤ◌, ◌<◌, ◌≤◌, Ok, Err, MatchResult, IfOk, IfErr};
+ghost use Rattle.std.specs.Prelude.{◌≡◌, ℕ, ◌+◌, ◌-ℤ◌, ◌<◌, ◌≤◌, length, Ok, Err, MatchResult, IfOk, IfErr};
 ghost use Rattle.std.specs.BTreeMap.{get};
 ghost use Rattle.std.specs.Ordering.{nat_cmp};
 ghost use Rattle.cbl_base.specs.Arithmetic.{exact};
 ghost use Rattle.cbl_base.specs.Inputs.{number_kind, kind_of, number_of};
-ghost use Rattle.inc_store.specs.Moves.{moved_to};
-ghost use Rattle.inc_store.specs.Views.{IsUsable, graph_in, rules_in, value_at, count_of};
-ghost use Rattle.trial.specs.Course.{Asked, IsKnown};
+ghost use Rattle.store_build.specs.Kept.{IsKept};
+ghost use Rattle.inc_store.specs.Views.{IsUsable, value_at, count_of};
+ghost use Rattle.trial.specs.Course.{IsKnown};
 ghost use Rattle.trial.specs.Differences.{IsDifference, IsRefusal};
 ghost use Rattle.trial.specs.Overlays.{new_or, root_in};
+ghost use Rattle.trial.specs.Parts.{Query, after_in, part_graph, value_in};
 
 use crate::asking::newest;
 use crate::fault::TrialFault;
@@ -24,17 +25,19 @@ pub(crate) fn conclude<N: NodeRule, L: Ledger>(
     target: NodeId,
     steps: &mut Steps<L>,
 ) -> Result<i64, TrialFault>
-    ghost ask: { Asked }
+    ghost query: { Query }
     requires usable { IsUsable N.rule N.held N.ready store.now }
+    requires kept { IsKept query.part.rules query.part.helds query.part.frame query.part.cells }
+    requires within { target.0 < length query.part.frame.inputs.items }
     requires target { target.0 < count_of store.now }
+    requires value { value_in query.part target.0 ≡ value_at store.now target.0 }
     requires number { kind_of (value_at store.now target.0) ≡ number_kind }
-    requires known { IsKnown (rules_in N.rule store.now) store.now.frame store.now.cells ask overlay.now.lost overlay.now.changes overlay.now.roots target.0 }
+    requires known { IsKnown query.part.rules query.part.frame query.part.cells query.ask overlay.now.lost
+        overlay.now.changes overlay.now.roots target.0 }
     ensures difference { IfOk result (λ d.
-        IsDifference (graph_in N.rule store.now) (value_at store.now)
-        (moved_to ask.moves (value_at store.now)) target.0 d) }
+        IsDifference (part_graph query.part) (value_in query.part) (after_in query) target.0 d) }
     ensures fault { IfErr result (λ stop.
-        IsRefusal (graph_in N.rule store.now) (value_at store.now)
-        (moved_to ask.moves (value_at store.now)) target.0 stop) }
+        IsRefusal (part_graph query.part) (value_in query.part) (after_in query) target.0 stop) }
     ensures steps { steps.new ≤ steps.old + 3 }
 {
     match root_of(overlay, target.0, steps) {

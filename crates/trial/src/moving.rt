@@ -2,12 +2,13 @@
 ghost use Rattle.std.specs.Prelude.{◌≡◌, ℕ, ◌+◌, ◌*◌, ◌<◌, length, OnOk};
 ghost use Rattle.cbl_base.specs.declared.input.Input.TheVariants.{Int};
 ghost use Rattle.store_turns.specs.declared.outcome.Outcome.TheVariants.{Value};
-ghost use Rattle.store_turns.specs.Meaning.{layer_of, uses_in};
+ghost use Rattle.store_turns.specs.Cones.{has};
+ghost use Rattle.store_turns.specs.Meaning.{layer_of};
 ghost use Rattle.inc_store.specs.Course.{NotBefore, first_front};
-ghost use Rattle.inc_store.specs.Moves.{AreMoves, LaterThanMoves, is_moved, moved_to};
-ghost use Rattle.inc_store.specs.Stores.{IsWithin};
-ghost use Rattle.inc_store.specs.Views.{IsUsable, graph_in, rules_in, value_at};
-ghost use Rattle.trial.specs.Course.{Asked, InProbe};
+ghost use Rattle.inc_store.specs.Moves.{AreMoves, LaterThanMoves};
+ghost use Rattle.inc_store.specs.Views.{IsUsable, rules_in};
+ghost use Rattle.trial.specs.Course.{InProbe};
+ghost use Rattle.trial.specs.Parts.{Query, IsPart, IsPaid, part_graph, moves_of};
 
 use crate::overlay::Overlay;
 use crate::settling::settle;
@@ -15,34 +16,39 @@ use cbl_base::{Input, NoMemory, NodeId, NodeRule, Steps, VarId};
 use inc_store::Store;
 use std::alloc::Global;
 use std::sync::ledger::Ledger;
-use store_turns::Outcome;
+use store_turns::{Outcome, has};
 
-/// Each moved cell takes its number.
+/// Each moved cell that is a member takes its number.
 pub(crate) fn move_all<N: NodeRule, L: Ledger>(
     alloc: Global,
     store: &Store<N>,
+    members: &[bool],
     overlay: &mut Overlay,
     moves: &[(VarId, i64)],
     steps: &mut Steps<L>,
 ) -> Result<(), NoMemory>
-    ghost ask: { Asked }
+    ghost query: { Query }
     requires usable { IsUsable N.rule N.held N.ready store.now }
-    requires moves { AreMoves (graph_in N.rule store.now) moves.now }
-    requires asked { ask.moves ≡ moves.now }
-    requires course { InProbe (rules_in N.rule store.now) store.now.frame store.now.cells ask overlay.old (LaterThanMoves store.now.frame moves.now) (steps.old + 2 * length moves.now + 4) }
-    ensures course { OnOk result (InProbe
-        (rules_in N.rule store.now) store.now.frame store.now.cells ask overlay.new
-        (NotBefore first_front (layer_of store.now.frame)) (steps.new + 4)) }
-    ensures limit { IsWithin (graph_in N.rule store.now) (value_at store.now)
-        (moved_to ask.moves (value_at store.now)) (is_moved ask.moves)
-        (uses_in store.now.frame) ask.base steps.new }
+    requires part { IsPart (rules_in N.rule store.now) store.now.frame store.now.cells
+        (has members.now) query.part }
+    requires moves { AreMoves (part_graph query.part) query.ask.moves }
+    requires asked { query.ask.moves ≡ moves_of (has members.now) moves.now }
+    requires course { InProbe query.part.rules query.part.frame query.part.cells query.ask overlay.old
+        (LaterThanMoves query.part.frame query.ask.moves) (steps.old + 2 * length query.ask.moves + 4) }
+    ensures course { OnOk result (InProbe query.part.rules query.part.frame query.part.cells query.ask overlay.new
+        (NotBefore first_front (layer_of query.part.frame)) (steps.new + 4)) }
+    ensures limit { IsPaid query steps.new }
 {
     let frame = store.frame();
     for (var, number) in moves {
+        if !has(members, NodeId(var.index)) {
+            continue;
+        }
         let old = store.read(NodeId(var.index), steps);
         settle(
             alloc,
             frame,
+            members,
             overlay,
             var.index,
             old,

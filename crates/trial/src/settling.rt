@@ -8,6 +8,7 @@ ghost use Rattle.store_turns.specs.declared.outcome.Outcome.TheVariants.{Value};
 ghost use Rattle.store_turns.specs.Meaning.{layer_of, uses_in};
 ghost use Rattle.store_turns.specs.Waits.{waits};
 ghost use Rattle.store_turns.specs.Touch.{differs};
+ghost use Rattle.store_turns.specs.Cones.{has, chosen};
 ghost use Rattle.store_turns.specs.Telling.{IsTold, places_in, blocked, layer_in};
 ghost use Rattle.inc_store.specs.Course.{lost_by, change_of};
 ghost use Rattle.trial.specs.Overlays.{noted};
@@ -16,13 +17,15 @@ use crate::overlay::Overlay;
 use cbl_base::{NoMemory, NodeId, NodeValue, RunFault, Steps};
 use std::alloc::Global;
 use std::sync::ledger::Ledger;
-use store_turns::{Frame, Outcome, Turn, copy_of, tell};
+use store_turns::{Frame, Outcome, Turn, copy_of, has, tell};
 
-/// An id whose value is the old one has come to this outcome: it is kept where it is another, and those that
-/// use it are told, also on which failing node they stand. One step, and two more a use where it is another.
+/// An id whose value is the old one has come to this outcome: it is kept where it is another, and those members
+/// that use it are told, also on which failing node they stand. One step, and two more for each such use where it
+/// is another.
 pub(crate) fn settle<L: Ledger>(
     alloc: Global,
     frame: &Frame,
+    members: &[bool],
     overlay: &mut Overlay,
     id: u32,
     old: &NodeValue,
@@ -35,7 +38,8 @@ pub(crate) fn settle<L: Ledger>(
     requires kinds { (x : Input) → outcome ≡ Value x → kind_of x ≡ kind_of old.now }
     requires found { (x : Input) → outcome ≡ Value x → root ≡ None }
     requires unlost { get nat_cmp overlay.old.lost id ≡ None }
-    ensures told { OnOk result (IsTold (layer_of frame.now) (uses_in frame.now id) old.now outcome
+    ensures told { OnOk result (IsTold (layer_of frame.now)
+        (chosen (has members.now) (uses_in frame.now id)) old.now outcome
         (waits overlay.old.waiting) (waits overlay.new.waiting)) }
     ensures lost_here { OnOk result (get nat_cmp overlay.new.lost id ≡ lost_by outcome) }
     ensures lost_elsewhere { OnOk result ((j : ℕ) → j ≢ id →
@@ -46,20 +50,21 @@ pub(crate) fn settle<L: Ledger>(
         get nat_cmp overlay.new.changes j ≡ get nat_cmp overlay.old.changes j) }
     ensures roots { OnOk result ((j : ℕ) →
         get nat_cmp overlay.new.roots j ≡
-        noted (places_in j (uses_in frame.now id)) root (get nat_cmp overlay.old.roots j)) }
+        noted (places_in j (chosen (has members.now) (uses_in frame.now id))) root (get nat_cmp overlay.old.roots j)) }
     ensures steps { steps.new ≤ steps.old + 1 + 2 * cond (differs outcome old.now)
-        (length (uses_in frame.now id)) 0 }
+        (length (chosen (has members.now) (uses_in frame.now id))) 0 }
 {
     let uses = frame.uses[id as usize].as_slice();
-    let other = spread(frame, overlay, uses, old, &outcome, root, steps)?;
+    let other = spread(frame, members, overlay, uses, old, &outcome, root, steps)?;
     keep(alloc, overlay, id, old, outcome, other, steps)?;
     Ok(())
 }
 
-/// Tells those that use an id that it came to the outcome, where its value was the old one, and answers
-/// whether the outcome is another. At most two steps a use, and none where it isn't.
+/// Tells those members that use an id that it came to the outcome, where its value was the old one, and answers
+/// whether the outcome is another. At most two steps for each such use, and none where it isn't.
 fn spread<L: Ledger>(
     frame: &Frame,
+    members: &[bool],
     overlay: &mut Overlay,
     uses: &[(NodeId, u32)],
     old: &NodeValue,
@@ -71,33 +76,36 @@ fn spread<L: Ledger>(
     requires kinds { (x : Input) → outcome.now ≡ Value x → kind_of x ≡ kind_of old.now }
     requires found { (x : Input) → outcome.now ≡ Value x → root ≡ None }
     ensures answer { IfOk result (λ r. r ≡ differs outcome.now old.now) }
-    ensures told { OnOk result (IsTold (layer_of frame.now) uses.now old.now outcome.now
+    ensures told { OnOk result (IsTold (layer_of frame.now)
+        (chosen (has members.now) uses.now) old.now outcome.now
         (waits overlay.old.waiting) (waits overlay.new.waiting)) }
     ensures lost { OnOk result (overlay.new.lost ≡ overlay.old.lost) }
     ensures changes { OnOk result (overlay.new.changes ≡ overlay.old.changes) }
     ensures roots { OnOk result ((j : ℕ) →
         get nat_cmp overlay.new.roots j ≡
-        noted (places_in j uses.now) root (get nat_cmp overlay.old.roots j)) }
+        noted (places_in j (chosen (has members.now) uses.now)) root (get nat_cmp overlay.old.roots j)) }
     ensures steps { steps.new ≤ steps.old + 2 * cond (differs outcome.now old.now)
-        (length uses.now) 0 }
+        (length (chosen (has members.now) uses.now)) 0 }
 {
     match outcome {
         Outcome::Value(_) => tell(
             &mut overlay.waiting,
             &frame.layers,
             uses,
+            members,
             old,
             outcome,
             steps,
         ),
-        Outcome::Fails(_) => block_users(frame, overlay, uses, root, steps),
-        Outcome::Missing => block_users(frame, overlay, uses, root, steps),
+        Outcome::Fails(_) => block_users(frame, members, overlay, uses, root, steps),
+        Outcome::Missing => block_users(frame, members, overlay, uses, root, steps),
     }
 }
 
-/// Each use of an id hears that it has no value, and on which failing node it stands. Two steps a use.
+/// Each use of an id by a member hears that it has no value, and on which failing node it stands. Two steps each.
 fn block_users<L: Ledger>(
     frame: &Frame,
+    members: &[bool],
     overlay: &mut Overlay,
     uses: &[(NodeId, u32)],
     root: Option<(u32, RunFault)>,
@@ -107,17 +115,20 @@ fn block_users<L: Ledger>(
     ensures answer { IfOk result (λ r. r ≡ true) }
     ensures here { OnOk result ((j : ℕ) →
         waits overlay.new.waiting (layer_of frame.now j) j ≡
-        blocked (places_in j uses.now) (waits overlay.old.waiting (layer_of frame.now j) j)) }
+        blocked (places_in j (chosen (has members.now) uses.now)) (waits overlay.old.waiting (layer_of frame.now j) j)) }
     ensures elsewhere { OnOk result ((l j : ℕ) → l ≢ layer_of frame.now j →
         waits overlay.new.waiting l j ≡ waits overlay.old.waiting l j) }
     ensures lost { OnOk result (overlay.new.lost ≡ overlay.old.lost) }
     ensures changes { OnOk result (overlay.new.changes ≡ overlay.old.changes) }
     ensures roots { OnOk result ((j : ℕ) →
         get nat_cmp overlay.new.roots j ≡
-        noted (places_in j uses.now) root (get nat_cmp overlay.old.roots j)) }
-    ensures steps { steps.new ≤ steps.old + 2 * length uses.now }
+        noted (places_in j (chosen (has members.now) uses.now)) root (get nat_cmp overlay.old.roots j)) }
+    ensures steps { steps.new ≤ steps.old + 2 * length (chosen (has members.now) uses.now) }
 {
     for (id, _) in uses {
+        if !has(members, *id) {
+            continue;
+        }
         overlay.waiting.block(turn_of(frame, *id), steps)?;
         overlay.note(id.0, root, steps)?;
     }

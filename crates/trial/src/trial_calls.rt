@@ -1,13 +1,14 @@
 //! Trials.
-ghost use Rattle.std.specs.Prelude.{◌≡◌, ℕ, ◌+◌, ◌*◌, ◌<◌, ◌≤◌, IfOk, IfErr, length};
+ghost use Rattle.std.specs.Prelude.{◌≡◌, ℕ, ◌+◌, ◌*◌, ◌<◌, ◌≤◌, true, not, IfOk, IfErr, length};
 ghost use Rattle.cbl_base.specs.Inputs.{number_kind, kind_of};
-ghost use Rattle.store_turns.specs.Meaning.{uses_in, layer_of};
-ghost use Rattle.inc_store.specs.Moves.{AreMoves, LaterThanMoves, moved_to, is_moved};
+ghost use Rattle.store_turns.specs.Cones.{has, has_cone};
+ghost use Rattle.store_turns.specs.Meaning.{uses_in, is_empty};
+ghost use Rattle.inc_store.specs.Moves.{AreMoves, moved_to, is_moved};
 ghost use Rattle.inc_store.specs.Stores.{IsWithin};
-ghost use Rattle.inc_store.specs.Views.{IsUsable, graph_in, value_at, count_of};
-ghost use Rattle.trial.specs.Course.{Asked};
+ghost use Rattle.inc_store.specs.Views.{IsUsable, graph_in, rules_in, value_at, count_of};
 ghost use Rattle.trial.specs.Differences.{IsDifference, IsRefusal};
 ghost use Rattle.trial.specs.Overlays.{IsEmpty};
+ghost use Rattle.trial.specs.Parts.{Query, IsPart, IsPaid, IsWithinBelow, after_in, moves_of, part_graph, value_in};
 
 use crate::ending::conclude;
 use crate::fault::TrialFault;
@@ -18,6 +19,7 @@ use cbl_base::{NodeId, NodeRule, Steps, VarId};
 use inc_store::Store;
 use std::alloc::Global;
 use std::sync::ledger::Ledger;
+use store_turns::has;
 
 /// What is needed to ask stores for differences. It serves any store, and between two calls it is empty.
 #[derive(Drop)]
@@ -41,6 +43,10 @@ impl Trial {
     /// have values, and its fault; or with the target and `Overflow`, where the difference doesn't fit. The
     /// field `solver` of a variable isn't looked at. Whatever the answer, the steps are at most four times
     /// what is touched.
+    ///
+    /// Where the store keeps on which ids the target stands, those alone are followed, and the steps are at
+    /// most four times what is touched among them. A store does so for at most 64 targets that nothing uses.
+    /// A trial of another target follows what waits up to the target's turn.
     pub fn probe<N: NodeRule, L: Ledger>(
         &mut self,
         store: &Store<N>,
@@ -61,45 +67,70 @@ impl Trial {
         ensures steps { IsWithin (graph_in N.rule store.now) (value_at store.now)
             (moved_to moves.now (value_at store.now)) (is_moved moves.now)
             (uses_in store.now.frame) steps.old steps.new }
+        ensures below { has_cone store.now.frame.cones.items target.0 ≡ true →
+            IsWithinBelow (graph_in N.rule store.now) target.0 (value_at store.now)
+            (moved_to moves.now (value_at store.now)) (is_moved moves.now)
+            (uses_in store.now.frame) steps.old steps.new }
     {
-        if moves.is_empty() {
+        let members = store.frame().members(target);
+        if !any_moves(members, moves) {
             return Ok(0);
         }
-        let told = answer(self.alloc, store, &mut self.overlay, moves, target, steps);
+        let told = answer(
+            self.alloc,
+            store,
+            members,
+            &mut self.overlay,
+            moves,
+            target,
+            steps,
+        );
         self.overlay.clear();
         told
     }
+}
+
+/// Whether one of the moves is of a member.
+fn any_moves(members: &[bool], moves: &[(VarId, i64)]) -> bool
+    ensures { result ≡ not (is_empty (moves_of (has members.now) moves.now)) }
+{
+    for (var, _) in moves {
+        if has(members, NodeId(var.index)) {
+            return true;
+        }
+    }
+    false
 }
 
 /// The answer of a trial, in an overlay that is empty before.
 fn answer<N: NodeRule, L: Ledger>(
     alloc: Global,
     store: &Store<N>,
+    members: &[bool],
     overlay: &mut Overlay,
     moves: &[(VarId, i64)],
     target: NodeId,
     steps: &mut Steps<L>,
 ) -> Result<i64, TrialFault>
-    ghost ask: { Asked }
+    ghost query: { Query }
     requires usable { IsUsable N.rule N.held N.ready store.now }
     requires empty { IsEmpty overlay.old }
-    requires asked { ask.moves ≡ moves.now }
-    requires base { ask.base ≡ steps.old }
-    requires moves { AreMoves (graph_in N.rule store.now) moves.now }
-    requires some { 0 < length moves.now }
+    requires part { IsPart (rules_in N.rule store.now) store.now.frame store.now.cells
+        (has members.now) query.part }
+    requires asked { query.ask.moves ≡ moves_of (has members.now) moves.now }
+    requires base { query.ask.base ≡ steps.old }
+    requires moves { AreMoves (part_graph query.part) query.ask.moves }
+    requires some { 0 < length query.ask.moves }
     requires target { target.0 < count_of store.now }
+    requires member { has members.now target.0 ≡ true }
     requires number { kind_of (value_at store.now target.0) ≡ number_kind }
     ensures difference { IfOk result (λ d.
-        IsDifference (graph_in N.rule store.now) (value_at store.now)
-        (moved_to ask.moves (value_at store.now)) target.0 d) }
+        IsDifference (part_graph query.part) (value_in query.part) (after_in query) target.0 d) }
     ensures fault { IfErr result (λ stop.
-        IsRefusal (graph_in N.rule store.now) (value_at store.now)
-        (moved_to ask.moves (value_at store.now)) target.0 stop) }
-    ensures steps { IsWithin (graph_in N.rule store.now) (value_at store.now)
-        (moved_to ask.moves (value_at store.now)) (is_moved ask.moves)
-        (uses_in store.now.frame) ask.base steps.new }
+        IsRefusal (part_graph query.part) (value_in query.part) (after_in query) target.0 stop) }
+    ensures steps { IsPaid query steps.new }
 {
-    move_all(alloc, store, overlay, moves, steps)?;
-    run(alloc, store, overlay, target, steps)?;
+    move_all(alloc, store, members, overlay, moves, steps)?;
+    run(alloc, store, members, overlay, target, steps)?;
     conclude(store, overlay, target, steps)
 }

@@ -1,15 +1,15 @@
 //! The turns of a trial.
-ghost use Rattle.std.specs.Prelude.{◌≡◌, ℕ, ◌+◌, ◌*◌, ◌<◌, ◌≤◌, nat_lt, length, IfOk, OnOk, MatchOption, None};
+ghost use Rattle.std.specs.Prelude.{◌≡◌, ℕ, true, ◌+◌, ◌*◌, ◌<◌, ◌≤◌, nat_lt, length, IfOk, OnOk, MatchOption, None};
 ghost use Rattle.std.specs.BTreeMap.{get};
 ghost use Rattle.std.specs.Ordering.{nat_cmp};
-ghost use Rattle.store_turns.specs.Meaning.{layer_of, uses_in};
+ghost use Rattle.store_turns.specs.Cones.{has};
+ghost use Rattle.store_turns.specs.Meaning.{layer_of};
 ghost use Rattle.store_turns.specs.Waits.{waits};
 ghost use Rattle.store_turns.specs.Turns.{rank};
 ghost use Rattle.inc_store.specs.Course.{NotBefore, first_front};
-ghost use Rattle.inc_store.specs.Moves.{is_moved, moved_to};
-ghost use Rattle.inc_store.specs.Stores.{IsWithin};
-ghost use Rattle.inc_store.specs.Views.{IsUsable, graph_in, rules_in, value_at, count_of};
-ghost use Rattle.trial.specs.Course.{Asked, InProbe, IsKnown};
+ghost use Rattle.inc_store.specs.Views.{IsUsable, rules_in, count_of};
+ghost use Rattle.trial.specs.Course.{InProbe, IsKnown};
+ghost use Rattle.trial.specs.Parts.{Query, IsPart, IsPaid};
 
 use crate::asking::{came_to, root_of};
 use crate::overlay::Overlay;
@@ -25,30 +25,31 @@ use store_turns::Turn;
 fn turn<N: NodeRule, L: Ledger>(
     alloc: Global,
     store: &Store<N>,
+    members: &[bool],
     overlay: &mut Overlay,
     target: Turn,
     front: u128,
     steps: &mut Steps<L>,
 ) -> Result<Option<Turn>, NoMemory>
-    ghost ask: { Asked }
+    ghost query: { Query }
     requires usable { IsUsable N.rule N.held N.ready store.now }
-    requires course { InProbe (rules_in N.rule store.now) store.now.frame store.now.cells ask overlay.old (NotBefore front (layer_of store.now.frame)) (steps.old + 4) }
+    requires part { IsPart (rules_in N.rule store.now) store.now.frame store.now.cells
+        (has members.now) query.part }
+    requires course { InProbe query.part.rules query.part.frame query.part.cells query.ask overlay.old
+        (NotBefore front (layer_of query.part.frame)) (steps.old + 4) }
     requires front { first_front ≤ front }
-    ensures course { IfOk result (λ r.
-        MatchOption r (Unit {0}) (λ t. InProbe
-        (rules_in N.rule store.now) store.now.frame store.now.cells ask overlay.new
-        (NotBefore (rank (layer_of store.now.frame) t.id + 1) (layer_of store.now.frame))
+    ensures course { IfOk result (λ r. MatchOption r (Unit {0}) (λ t.
+        InProbe query.part.rules query.part.frame query.part.cells query.ask overlay.new
+        (NotBefore (rank (layer_of query.part.frame) t.id + 1) (layer_of query.part.frame))
         (steps.new + 4))) }
-    ensures limit { IsWithin (graph_in N.rule store.now) (value_at store.now)
-        (moved_to ask.moves (value_at store.now)) (is_moved ask.moves)
-        (uses_in store.now.frame) ask.base steps.new }
+    ensures limit { IsPaid query steps.new }
     ensures turn { IfOk result (λ r. MatchOption r (Unit {0}) (λ t.
-        (t.layer ≡ layer_of store.now.frame t.id) × (t.id < count_of store.now) ×
-        (front ≤ rank (layer_of store.now.frame) t.id) ×
-        (rank (layer_of store.now.frame) t.id ≤ target.layer * 4294967296 + target.id))) }
+        (t.layer ≡ layer_of query.part.frame t.id) × (t.id < count_of store.now) ×
+        (front ≤ rank (layer_of query.part.frame) t.id) ×
+        (rank (layer_of query.part.frame) t.id ≤ target.layer * 4294967296 + target.id))) }
     ensures over { IfOk result (λ r. MatchOption r (((j : ℕ) → j < count_of store.now →
-        rank (layer_of store.now.frame) j ≤ target.layer * 4294967296 + target.id →
-        waits overlay.old.waiting (layer_of store.now.frame j) j ≡ None) ×
+        rank (layer_of query.part.frame) j ≤ target.layer * 4294967296 + target.id →
+        waits overlay.old.waiting (layer_of query.part.frame j) j ≡ None) ×
         (overlay.new.lost ≡ overlay.old.lost) × (overlay.new.changes ≡ overlay.old.changes) ×
         (overlay.new.roots ≡ overlay.old.roots) × (steps.new ≡ steps.old + 1)) (λ t. Unit {0})) }
 {
@@ -62,7 +63,9 @@ fn turn<N: NodeRule, L: Ledger>(
     let old = store.read(NodeId(turn.id), steps);
     let outcome = came_to(alloc, store, frame, overlay, turn.id, old, steps)?;
     let root = root_of(overlay, turn.id, &outcome, steps);
-    settle(alloc, frame, overlay, turn.id, old, outcome, root, steps)?;
+    settle(
+        alloc, frame, members, overlay, turn.id, old, outcome, root, steps,
+    )?;
     Ok(Some(turn))
 }
 
@@ -85,26 +88,28 @@ fn rank_of(turn: Turn) -> u128
 pub(crate) fn run<N: NodeRule, L: Ledger>(
     alloc: Global,
     store: &Store<N>,
+    members: &[bool],
     overlay: &mut Overlay,
     target: NodeId,
     steps: &mut Steps<L>,
 ) -> Result<(), NoMemory>
-    ghost ask: { Asked }
+    ghost query: { Query }
     requires usable { IsUsable N.rule N.held N.ready store.now }
+    requires part { IsPart (rules_in N.rule store.now) store.now.frame store.now.cells
+        (has members.now) query.part }
     requires target { target.0 < count_of store.now }
-    requires course { InProbe (rules_in N.rule store.now) store.now.frame store.now.cells ask overlay.old (NotBefore first_front (layer_of store.now.frame)) (steps.old + 4) }
-    ensures known { OnOk result (IsKnown (rules_in N.rule store.now) store.now.frame store.now.cells ask overlay.new.lost overlay.new.changes overlay.new.roots target.0) }
-    ensures spare { OnOk result (IsWithin (graph_in N.rule store.now) (value_at store.now)
-        (moved_to ask.moves (value_at store.now)) (is_moved ask.moves)
-        (uses_in store.now.frame) ask.base (steps.new + 3)) }
-    ensures limit { IsWithin (graph_in N.rule store.now) (value_at store.now)
-        (moved_to ask.moves (value_at store.now)) (is_moved ask.moves)
-        (uses_in store.now.frame) ask.base steps.new }
+    requires member { has members.now target.0 ≡ true }
+    requires course { InProbe query.part.rules query.part.frame query.part.cells query.ask overlay.old
+        (NotBefore first_front (layer_of query.part.frame)) (steps.old + 4) }
+    ensures known { OnOk result (IsKnown query.part.rules query.part.frame query.part.cells query.ask overlay.new.lost
+        overlay.new.changes overlay.new.roots target.0) }
+    ensures spare { OnOk result (IsPaid query (steps.new + 3)) }
+    ensures limit { IsPaid query steps.new }
 {
     let last = turn_of(store.frame(), target);
     let mut front: u128 = 4294967296;
     loop {
-        let Some(turn) = turn(alloc, store, overlay, last, front, steps)? else {
+        let Some(turn) = turn(alloc, store, members, overlay, last, front, steps)? else {
             return Ok(());
         };
         front = rank_of(turn) + 1;

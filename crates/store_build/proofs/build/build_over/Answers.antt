@@ -1,4 +1,4 @@
-use Rattle.std.proofs.Common.{◌≡◌, ◌∙◌, ◌<◌, ◌+◌, ℕ, List, Option, map, length, rules, refl, sym, ap, subst, arith, All}
+use Rattle.std.proofs.Common.{◌∙◌, ℕ, List, Option, map, length, rules, refl, sym, ap, subst, arith, All}
 use Rattle.std.proofs.lemmas.List.{length-map}
 use Rattle.cbl_base.specs.NodeLaw.{Rule}
 use Rattle.cbl_base.specs.declared.input.Input.{Input}

@@ -1,11 +1,9 @@
-use Rattle.std.proofs.Common.{◌≡◌, ◌∙◌, ◌⊎◌, ℕ, List, map, length, rules, refl, sym, ap, subst, inl, inr, arith, All, Vec}
+use Rattle.std.proofs.Common.{ℕ, List, map, rules, sym, subst, inl, inr, Vec}
 use Rattle.std.specs.List.{Contains}
 use Rattle.std.specs.declared.alloc.Global.{Global}
 use Rattle.cbl_base.specs.NodeLaw.{Rule}
 use Rattle.cbl_base.specs.declared.input.Input.{Input}
-use Rattle.store_build.specs.declared.building.Building.{Building}
-use Rattle.store_build.specs.Groups.{ids_in}
-use Rattle.store_build.specs.Building.{AreTasks, IsFinished}
+use Rattle.store_build.specs.Building.{AreTasks}
 use Rattle.store_build.proofs.KeepLemmas.{takes_all, settled_finished, on_ok, on_ok_both}
 use Rattle.store_build.proofs.building.build_layer.Goals as goal
 

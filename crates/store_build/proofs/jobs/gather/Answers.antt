@@ -1,16 +1,15 @@
-use Rattle.std.proofs.Common.{◌≡◌, ◌⊎◌, ◌∙◌, ◌<◌, ◌++◌, ℕ, ℤ, pos, false, List, [], ◌∷◌, length, map, get_or, refl, sym, ap, subst, arith, All, Vec}
+use Rattle.std.proofs.Common.{◌≡◌, ◌∙◌, ◌<◌, ℕ, pos, false, List, [], ◌∷◌, length, map, get_or, sym, ap, subst, arith, All, Vec}
 use Rattle.std.specs.declared.alloc.Global.{Global}
 use Rattle.std.proofs.lemmas.Iterator.Adapters.{YieldsList-from_vec}
 use Rattle.std.proofs.lemmas.Iterator.Consumers.{YieldsList-turn, YieldsList-end}
-use Rattle.cbl_base.specs.NodeLaw.{Rule}
 use Rattle.cbl_base.specs.declared.ids.NodeId.{NodeId}
 use Rattle.cbl_base.specs.declared.input.Input.{Input}
 use Rattle.store_turns.specs.Meaning.{Each, ids_of, inputs_in, is_empty}
 use Rattle.store_turns.proofs.Unique.{each_from}
 use Rattle.store_build.specs.declared.groups.Item.{Item}
 use Rattle.store_build.specs.Lists.{list_in}
-use Rattle.store_build.specs.Groups.{IsItem, ids_in}
-use Rattle.store_build.specs.Building.{HasCome, ItemTaken, job_rules, job_values}
+use Rattle.store_build.specs.Groups.{IsItem}
+use Rattle.store_build.specs.Building.{HasCome, ItemTaken}
 use Rattle.store_build.proofs.ListLemmas.{in-read}
 use Rattle.store_build.proofs.GatherLemmas.{no_tasks, node_or_cell, before_first, item_taken, all_more, all_given}
 use Rattle.store_build.proofs.jobs.gather.Goals as goal

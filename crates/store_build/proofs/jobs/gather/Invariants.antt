@@ -1,4 +1,4 @@
-use Rattle.std.proofs.Common.{◌≡◌, ◌⊎◌, ℕ, ◌<◌, length, All}
+use Rattle.std.proofs.Common.{◌≡◌, ◌⊎◌, ℕ, length}
 use Rattle.std.specs.List.{Contains}
 use Rattle.store_build.specs.Groups.{ids_in}
 use Rattle.store_build.specs.Building.{HasCome, AreTasks, IsSettled, job_rules, job_values}

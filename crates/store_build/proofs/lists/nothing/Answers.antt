@@ -1,4 +1,4 @@
-use Rattle.std.proofs.Common.{◌≡◌, ◌∙◌, ◌+◌, ◌++◌, ℕ, [], ◌∷◌, Option, None, length, get_or, ap, refl, sym, arith}
+use Rattle.std.proofs.Common.{◌≡◌, ◌∙◌, ◌++◌, [], ◌∷◌, None, length, get_or, ap, arith}
 use Rattle.std.proofs.lemmas.List.{length_push}
 use Rattle.store_build.proofs.ListLemmas.{push_none, none_in}
 use Rattle.store_build.proofs.lists.nothing.Goals as goal

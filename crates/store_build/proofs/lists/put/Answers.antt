@@ -1,4 +1,4 @@
-use Rattle.std.proofs.Common.{◌≡◌, ◌∙◌, ◌++◌, List, [], ◌∷◌, ap}
+use Rattle.std.proofs.Common.{◌∙◌, ◌++◌, [], ◌∷◌, ap}
 use Rattle.store_build.proofs.ListLemmas.{in-set_same, in-set_other, in-read}
 use Rattle.store_build.proofs.lists.put.Goals as goal
 

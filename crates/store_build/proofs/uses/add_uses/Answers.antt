@@ -1,4 +1,4 @@
-use Rattle.std.proofs.Common.{◌≡◌, ◌∙◌, ◌<◌, ℕ, length, sym, ap, arith, rules}
+use Rattle.std.proofs.Common.{◌∙◌, ◌<◌, length, sym, arith, rules}
 use Rattle.std.proofs.lemmas.List.{append-nil}
 use Rattle.store_build.specs.Lists.{list_in}
 use Rattle.store_build.proofs.UseLemmas.{use_more, uses_whole}

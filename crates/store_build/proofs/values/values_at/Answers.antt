@@ -1,4 +1,4 @@
-use Rattle.std.proofs.Common.{◌≡◌, ◌∙◌, ◌<◌, ◌++◌, List, [], ◌∷◌, Some, length, sym, ap, arith}
+use Rattle.std.proofs.Common.{◌∙◌, ◌<◌, List, Some, length, sym, ap, arith}
 use Rattle.cbl_base.specs.declared.input.Input.{Input}
 use Rattle.store_build.proofs.ValueLemmas.{values_more, values_lost}
 use Rattle.store_build.proofs.values.values_at.Goals as goal

@@ -1,4 +1,4 @@
-use Rattle.std.proofs.Common.{◌≡◌, ◌∙◌, ◌++◌, List, sym, ap}
+use Rattle.std.proofs.Common.{◌∙◌, ◌++◌, List, sym, ap}
 use Rattle.store_build.specs.Building.{option_list}
 use Rattle.store_build.proofs.WholeLemmas.{all-push}
 use Rattle.store_build.proofs.whole.all_there.Goals as goal

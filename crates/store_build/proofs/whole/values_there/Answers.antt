@@ -1,4 +1,4 @@
-use Rattle.std.proofs.Common.{◌≡◌, ◌∙◌, ◌++◌, List, sym, ap}
+use Rattle.std.proofs.Common.{◌∙◌, ◌++◌, List, sym, ap}
 use Rattle.cbl_base.specs.declared.input.Input.{Input}
 use Rattle.store_build.specs.Building.{value_in, option_list}
 use Rattle.store_build.proofs.WholeLemmas.{values-push}

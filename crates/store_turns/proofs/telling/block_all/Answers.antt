@@ -1,17 +1,33 @@
-use Rattle.std.proofs.Common.{◌<◌, length, arith}
+use Rattle.std.proofs.Common.{◌+◌, ◌*◌, ◌<◌, ◌≤◌, List, length, take, get_or, sym, ap, ◌∙◌, subst, arith}
 use Rattle.store_turns.specs.Waits.{waits}
-use Rattle.store_turns.specs.Telling.{layer_in}
+use Rattle.store_turns.specs.Cones.{has, chosen}
+use Rattle.store_turns.specs.Telling.{layer_in, places_in, blocked}
+use Rattle.store_turns.proofs.ConeLists.{with_one, without_one, paid, paid_all}
 use Rattle.store_turns.proofs.UseLists.{blocked_more, told_elsewhere}
 use Rattle.store_turns.proofs.telling.block_all.Goals as goal
+
+pub loop-id-preserved-then-not-has : goal.loop-id-preserved-then-not-has
+loop-id-preserved-then-not-has g c =
+    let lt : c.loop-id.id-index < length c.args.uses.now = omega arith in
+    let same = without_one (has c.args.members.now) c.args.uses.now c.loop-id.id-index (record { 0 = 0 }, 0) lt (sym c.has.ensures ∙ c.if-not-has.true) in
+    record {
+      here = λ j. c.loop-id.invariant.here j ∙ ap (λ us. blocked (places_in j us) (waits c.args.waiting.now (layer_in c.args.layers.now j) j)) (sym same);
+      elsewhere = c.loop-id.invariant.elsewhere;
+      steps = subst (λ us. c.loop-id.steps ≤ c.args.steps.now + length us) (sym same) c.loop-id.invariant.steps;
+    }
+
+pub returns-in_err-block-clause-steps : goal.returns-in_err-block-clause-steps
+returns-in_err-block-clause-steps g c =
+    let lt : c.loop-id.id-index < length c.args.uses.now = omega arith in
+    let all = paid_all (has c.args.members.now) c.args.uses.now c.loop-id.id-index (record { 0 = 0 }, 0) lt (sym c.has.ensures ∙ c.if-not-has.false) 1 c.args.steps.now c.loop-id.steps c.block.new.steps (let h = c.loop-id.invariant.steps in omega (arith, h)) (omega (arith, c.block.ensures.steps)) in
+    omega (arith, all)
 
 pub loop-id-preserved : goal.loop-id-preserved
 loop-id-preserved g c =
     let lt : c.loop-id.id-index < length c.args.uses.now = omega arith in
+    let one = with_one (has c.args.members.now) c.args.uses.now c.loop-id.id-index (record { 0 = 0 }, 0) lt (sym c.has.ensures ∙ c.if-not-has.false) in
     record {
-      here = blocked_more (layer_in c.args.layers.now) c.args.uses.now c.loop-id.id-index (record { 0 = 0 }, 0) lt (waits c.args.waiting.now) (waits c.loop-id.waiting) (waits c.block.new.self)
-          (rw (c.turn_of.ensures.layer, c.turn_of.ensures.id) at c.in_ok-block.ensures.elsewhere)
-          (rw (c.turn_of.ensures.layer, c.turn_of.ensures.id) at c.in_ok-block.ensures.here) c.loop-id.invariant.here;
-      elsewhere = told_elsewhere (layer_in c.args.layers.now) c.args.uses.now c.loop-id.id-index (record { 0 = 0 }, 0) lt (waits c.args.waiting.now) (waits c.loop-id.waiting) (waits c.block.new.self)
-          (rw (c.turn_of.ensures.layer, c.turn_of.ensures.id) at c.in_ok-block.ensures.elsewhere) c.loop-id.invariant.elsewhere;
-      steps = omega (arith, c.loop-id.invariant.steps, c.block.ensures.steps);
+      here = λ j. blocked_more (layer_in c.args.layers.now) (chosen (has c.args.members.now) (take c.loop-id.id-index c.args.uses.now)) (get_or c.args.uses.now c.loop-id.id-index (record { 0 = 0 }, 0)) (waits c.args.waiting.now) (waits c.loop-id.waiting) (waits c.block.new.self) (rw (c.turn_of.ensures.layer, c.turn_of.ensures.id) at c.in_ok-block.ensures.elsewhere) (rw (c.turn_of.ensures.layer, c.turn_of.ensures.id) at c.in_ok-block.ensures.here) c.loop-id.invariant.here j ∙ ap (λ us. blocked (places_in j us) (waits c.args.waiting.now (layer_in c.args.layers.now j) j)) (sym one);
+      elsewhere = told_elsewhere (layer_in c.args.layers.now) (chosen (has c.args.members.now) (take c.loop-id.id-index c.args.uses.now)) (get_or c.args.uses.now c.loop-id.id-index (record { 0 = 0 }, 0)) (waits c.args.waiting.now) (waits c.loop-id.waiting) (waits c.block.new.self) (rw (c.turn_of.ensures.layer, c.turn_of.ensures.id) at c.in_ok-block.ensures.elsewhere) c.loop-id.invariant.elsewhere;
+      steps = let more = paid (has c.args.members.now) c.args.uses.now c.loop-id.id-index (record { 0 = 0 }, 0) lt (sym c.has.ensures ∙ c.if-not-has.false) 1 c.args.steps.now c.loop-id.steps c.block.new.steps (let h = c.loop-id.invariant.steps in omega (arith, h)) (omega (arith, c.block.ensures.steps)) in omega (arith, more);
     }

@@ -21,4 +21,5 @@ returns g c =
       layers = λ j. ap (λ (ls : List ℕ). get_or ls j 0) p.layers;
       free = λ j lt e. ap (λ (cells : List Input). cell_of cells j) c.new.ensures ∙ p.free j lt e;
       fault = tt;
+      cones = p.targets;
     }
