@@ -6,6 +6,7 @@ use Rattle.std.specs.List.{flat_map, AllByRecursion}
 use Rattle.std.specs.Fmt.{decimal}
 use Rattle.std.specs.Int.{w64}
 use Rattle.std.specs.Int.RustNames.{FitsSigned}
+use Rattle.cbl_base.specs.declared.limits.TheConstants.{MAX_ITERATIONS, MAX_JOURNAL_UNITS}
 use Rattle.best_turn.specs.declared.replays.Entry.{Entry}
 use Rattle.best_monitor.specs.declared.journal.LoopHistory.{LoopHistory}
 use Rattle.best_monitor.specs.declared.request.Request.{Request}
@@ -52,12 +53,12 @@ may_have (Stopped m) reply = is_truth reply
 abbrev pub version_1 : Version
 version_1 = record { header = codes "comet journal 1"; words = request_words; may_have = may_have }
 
--- the most iterations of a loop, and the most numbers of a list
+-- the most iterations of a loop, and the most numbers of a list, each of which is a unit of the journal
 abbrev pub most_iterations : ℕ
-most_iterations = 1024
+most_iterations = MAX_ITERATIONS
 
 abbrev pub most_numbers : ℕ
-most_numbers = 33554432
+most_numbers = MAX_JOURNAL_UNITS
 
 abbrev pub FitsList : List ℤ → Type 0
 FitsList list = (length list ≤ most_numbers) × AllByRecursion (FitsSigned w64) list

@@ -6,10 +6,8 @@ ghost use Rattle.journal_text.specs.Reading.{Gives, more_digit, digits_from, is_
 use crate::cutting::cut;
 use crate::stop::Stop;
 use cbl_base::Numbers;
+use cbl_base::limits::MAX_JOURNAL_UNITS;
 use std::alloc::Global;
-
-/// The most numbers of a list.
-pub(crate) const MOST_NUMBERS: usize = 33_554_432;
 
 // The number with one digit more. A fault where the byte is no digit, or the number has more than 64 bits.
 fn with_digit(number: u64, byte: u8) -> Result<u64, Stop>
@@ -173,7 +171,7 @@ pub(crate) fn list_of(alloc: Global, word: &[u8]) -> Result<Numbers, Stop>
 {
     let inside = inside_of(word)?;
     let list = listed_of(alloc, inside)?;
-    if MOST_NUMBERS < list.len() {
+    if MAX_JOURNAL_UNITS < list.len() as u64 {
         return Err(Stop::Fault);
     }
     let list = Numbers::from_slice(alloc, list.as_slice())?;

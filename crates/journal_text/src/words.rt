@@ -12,10 +12,8 @@ use crate::numbers::{list_of, number_of, number_up_to, signed_of};
 use crate::stop::Stop;
 use best_monitor::{Reply, Request};
 use best_turn::Entry;
+use cbl_base::limits::MAX_ITERATIONS;
 use std::alloc::Global;
-
-/// The most iterations of a loop.
-pub(crate) const MOST_ITERATIONS: u32 = 1024;
 
 fn is_word(bytes: &[u8], word: &str) -> bool
     ensures { result ≡ bytes_eq bytes.now word.now }
@@ -315,7 +313,7 @@ pub(crate) fn loop_of(line: &[u8]) -> Result<u32, Stop>
 {
     let (name, rest) = next_word(line)?;
     let word = only_word(rest)?;
-    let iterations = number_up_to(MOST_ITERATIONS, word)?;
+    let iterations = number_up_to(MAX_ITERATIONS, word)?;
     if is_word(name, "loop") {
         Ok(iterations)
     } else {

@@ -22,6 +22,7 @@ use store_turns::{Frame, Outcome, Turn, copy_of, has, tell};
 /// An id whose value is the old one has come to this outcome: it is kept where it is another, and those members
 /// that use it are told, also on which failing node they stand. One step, and two more for each such use where it
 /// is another.
+#[inline(always)]
 pub(crate) fn settle<L: Ledger>(
     alloc: Global,
     frame: &Frame,

@@ -78,10 +78,10 @@ fn is_past(turn: Turn, other: Turn) -> bool
 }
 
 /// The place of a turn in the order of all.
-fn rank_of(turn: Turn) -> u128
+fn rank_of(turn: Turn) -> u64
     ensures { result ≡ turn.layer * 4294967296 + turn.id }
 {
-    u128::from(turn.layer) * 4294967296 + u128::from(turn.id)
+    u64::from(turn.layer) * 4294967296 + u64::from(turn.id)
 }
 
 /// Each node that waits has its turn, by layer and then by id, up to the target's.
@@ -112,6 +112,6 @@ pub(crate) fn run<N: NodeRule, L: Ledger>(
         let Some(turn) = turn(alloc, store, members, overlay, last, front, steps)? else {
             return Ok(());
         };
-        front = rank_of(turn) + 1;
+        front = u128::from(rank_of(turn)) + 1;
     }
 }
