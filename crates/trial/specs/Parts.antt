@@ -14,7 +14,8 @@ use Rattle.store_build.specs.Frames.{cell_of}
 use Rattle.store_build.specs.Kept.{IsKept}
 use Rattle.inc_store.specs.Moves.{moved_to, is_moved}
 use Rattle.inc_store.specs.Stores.{IsWithin}
-use Rattle.trial.specs.Course.{Asked}
+use Rattle.trial.specs.declared.overlay.Overlay.{Overlay}
+use Rattle.trial.specs.Course.{Asked, InProbe, IsKnown}
 
 -- rules, what the nodes hold, how they hang together, and the values of all ids
 pub record Part : Type 0 where
@@ -62,6 +63,13 @@ after_in query = moved_to query.ask.moves (value_in query.part)
 
 abbrev pub IsPaid : Query → ℕ → Type 0
 IsPaid query steps = IsWithin (part_graph query.part) (value_in query.part) (after_in query) (is_moved query.ask.moves) (uses_in query.part.frame) query.ask.base steps
+
+-- between two turns in the part; and when up to the target all has come to what it comes to after the moves
+abbrev pub InQuery : Query → Overlay → (ℕ → Type 0) → ℕ → Type 0
+InQuery query v Later steps = InProbe query.part.rules query.part.frame query.part.cells query.ask v Later steps
+
+abbrev pub IsFound : Query → Overlay → ℕ → Type 0
+IsFound query v target = IsKnown query.part.rules query.part.frame query.part.cells query.ask v.lost v.changes v.roots target
 
 -- what is touched among the ids that pass: each has its inputs among them
 abbrev pub touch_among : (ℕ → Bool) → (ℕ → Bool) → (ℕ → Bool) → (ℕ → List ℕ) → (ℕ → List (NodeId × ℕ)) → ℕ → ℕ

@@ -6,10 +6,9 @@ ghost use Rattle.cbl_base.specs.Arithmetic.{exact};
 ghost use Rattle.cbl_base.specs.Inputs.{number_kind, kind_of, number_of};
 ghost use Rattle.store_build.specs.Kept.{IsKept};
 ghost use Rattle.inc_store.specs.Views.{IsUsable, value_at, count_of};
-ghost use Rattle.trial.specs.Course.{IsKnown};
 ghost use Rattle.trial.specs.Differences.{IsDifference, IsRefusal};
 ghost use Rattle.trial.specs.Overlays.{new_or, root_in};
-ghost use Rattle.trial.specs.Parts.{Query, after_in, part_graph, value_in};
+ghost use Rattle.trial.specs.Parts.{Query, IsFound, after_in, part_graph, value_in};
 
 use crate::asking::newest;
 use crate::fault::TrialFault;
@@ -32,8 +31,7 @@ pub(crate) fn conclude<N: NodeRule, L: Ledger>(
     requires target { target.0 < count_of store.now }
     requires value { value_in query.part target.0 ≡ value_at store.now target.0 }
     requires number { kind_of (value_at store.now target.0) ≡ number_kind }
-    requires known { IsKnown query.part.rules query.part.frame query.part.cells query.ask overlay.now.lost
-        overlay.now.changes overlay.now.roots target.0 }
+    requires known { IsFound query overlay.now target.0 }
     ensures difference { IfOk result (λ d.
         IsDifference (part_graph query.part) (value_in query.part) (after_in query) target.0 d) }
     ensures fault { IfErr result (λ stop.

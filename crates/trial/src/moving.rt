@@ -7,8 +7,7 @@ ghost use Rattle.store_turns.specs.Meaning.{layer_of};
 ghost use Rattle.inc_store.specs.Course.{NotBefore, first_front};
 ghost use Rattle.inc_store.specs.Moves.{AreMoves, LaterThanMoves};
 ghost use Rattle.inc_store.specs.Views.{IsUsable, rules_in};
-ghost use Rattle.trial.specs.Course.{InProbe};
-ghost use Rattle.trial.specs.Parts.{Query, IsPart, IsPaid, part_graph, moves_of};
+ghost use Rattle.trial.specs.Parts.{Query, InQuery, IsPart, IsPaid, part_graph, moves_of};
 
 use crate::overlay::Overlay;
 use crate::settling::settle;
@@ -33,9 +32,9 @@ pub(crate) fn move_all<N: NodeRule, L: Ledger>(
         (has members.now) query.part }
     requires moves { AreMoves (part_graph query.part) query.ask.moves }
     requires asked { query.ask.moves ≡ moves_of (has members.now) moves.now }
-    requires course { InProbe query.part.rules query.part.frame query.part.cells query.ask overlay.old
+    requires course { InQuery query overlay.old
         (LaterThanMoves query.part.frame query.ask.moves) (steps.old + 2 * length query.ask.moves + 4) }
-    ensures course { OnOk result (InProbe query.part.rules query.part.frame query.part.cells query.ask overlay.new
+    ensures course { OnOk result (InQuery query overlay.new
         (NotBefore first_front (layer_of query.part.frame)) (steps.new + 4)) }
     ensures limit { IsPaid query steps.new }
 {

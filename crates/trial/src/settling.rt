@@ -51,7 +51,8 @@ pub(crate) fn settle<L: Ledger>(
         get nat_cmp overlay.new.changes j ≡ get nat_cmp overlay.old.changes j) }
     ensures roots { OnOk result ((j : ℕ) →
         get nat_cmp overlay.new.roots j ≡
-        noted (places_in j (chosen (has members.now) (uses_in frame.now id))) root (get nat_cmp overlay.old.roots j)) }
+        noted (places_in j (chosen (has members.now) (uses_in frame.now id))) root
+        (get nat_cmp overlay.old.roots j)) }
     ensures steps { steps.new ≤ steps.old + 1 + 2 * cond (differs outcome old.now)
         (length (chosen (has members.now) (uses_in frame.now id))) 0 }
 {
@@ -84,7 +85,8 @@ fn spread<L: Ledger>(
     ensures changes { OnOk result (overlay.new.changes ≡ overlay.old.changes) }
     ensures roots { OnOk result ((j : ℕ) →
         get nat_cmp overlay.new.roots j ≡
-        noted (places_in j (chosen (has members.now) uses.now)) root (get nat_cmp overlay.old.roots j)) }
+        noted (places_in j (chosen (has members.now) uses.now)) root
+        (get nat_cmp overlay.old.roots j)) }
     ensures steps { steps.new ≤ steps.old + 2 * cond (differs outcome.now old.now)
         (length (chosen (has members.now) uses.now)) 0 }
 {
@@ -116,14 +118,16 @@ fn block_users<L: Ledger>(
     ensures answer { IfOk result (λ r. r ≡ true) }
     ensures here { OnOk result ((j : ℕ) →
         waits overlay.new.waiting (layer_of frame.now j) j ≡
-        blocked (places_in j (chosen (has members.now) uses.now)) (waits overlay.old.waiting (layer_of frame.now j) j)) }
+        blocked (places_in j (chosen (has members.now) uses.now))
+        (waits overlay.old.waiting (layer_of frame.now j) j)) }
     ensures elsewhere { OnOk result ((l j : ℕ) → l ≢ layer_of frame.now j →
         waits overlay.new.waiting l j ≡ waits overlay.old.waiting l j) }
     ensures lost { OnOk result (overlay.new.lost ≡ overlay.old.lost) }
     ensures changes { OnOk result (overlay.new.changes ≡ overlay.old.changes) }
     ensures roots { OnOk result ((j : ℕ) →
         get nat_cmp overlay.new.roots j ≡
-        noted (places_in j (chosen (has members.now) uses.now)) root (get nat_cmp overlay.old.roots j)) }
+        noted (places_in j (chosen (has members.now) uses.now)) root
+        (get nat_cmp overlay.old.roots j)) }
     ensures steps { steps.new ≤ steps.old + 2 * length (chosen (has members.now) uses.now) }
 {
     for (id, _) in uses {

@@ -8,8 +8,7 @@ ghost use Rattle.store_turns.specs.Waits.{waits};
 ghost use Rattle.store_turns.specs.Turns.{rank};
 ghost use Rattle.inc_store.specs.Course.{NotBefore, first_front};
 ghost use Rattle.inc_store.specs.Views.{IsUsable, rules_in, count_of};
-ghost use Rattle.trial.specs.Course.{InProbe, IsKnown};
-ghost use Rattle.trial.specs.Parts.{Query, IsPart, IsPaid};
+ghost use Rattle.trial.specs.Parts.{Query, InQuery, IsFound, IsPart, IsPaid};
 
 use crate::asking::{came_to, root_of};
 use crate::overlay::Overlay;
@@ -35,11 +34,11 @@ fn turn<N: NodeRule, L: Ledger>(
     requires usable { IsUsable N.rule N.held N.ready store.now }
     requires part { IsPart (rules_in N.rule store.now) store.now.frame store.now.cells
         (has members.now) query.part }
-    requires course { InProbe query.part.rules query.part.frame query.part.cells query.ask overlay.old
+    requires course { InQuery query overlay.old
         (NotBefore front (layer_of query.part.frame)) (steps.old + 4) }
     requires front { first_front ≤ front }
     ensures course { IfOk result (λ r. MatchOption r (Unit {0}) (λ t.
-        InProbe query.part.rules query.part.frame query.part.cells query.ask overlay.new
+        InQuery query overlay.new
         (NotBefore (rank (layer_of query.part.frame) t.id + 1) (layer_of query.part.frame))
         (steps.new + 4))) }
     ensures limit { IsPaid query steps.new }
@@ -99,10 +98,9 @@ pub(crate) fn run<N: NodeRule, L: Ledger>(
         (has members.now) query.part }
     requires target { target.0 < count_of store.now }
     requires member { has members.now target.0 ≡ true }
-    requires course { InProbe query.part.rules query.part.frame query.part.cells query.ask overlay.old
+    requires course { InQuery query overlay.old
         (NotBefore first_front (layer_of query.part.frame)) (steps.old + 4) }
-    ensures known { OnOk result (IsKnown query.part.rules query.part.frame query.part.cells query.ask overlay.new.lost
-        overlay.new.changes overlay.new.roots target.0) }
+    ensures known { OnOk result (IsFound query overlay.new target.0) }
     ensures spare { OnOk result (IsPaid query (steps.new + 3)) }
     ensures limit { IsPaid query steps.new }
 {
