@@ -20,6 +20,8 @@ use Rattle.store_build.specs.Kept.{IsKept}
 use Rattle.store_build.proofs.Existence.{exists}
 use Rattle.inc_store.specs.Moves.{moved_to, is_moved}
 use Rattle.inc_store.specs.Stores.{IsWithin}
+use Rattle.trial.proofs.Imagined.{not_below}
+use Rattle.trial.proofs.PartFrames.{each_both}
 use Rattle.trial.specs.declared.fault.TrialFault.{TrialFault}
 use Rattle.trial.specs.declared.fault.TrialFault.TheVariants.{Node, NoMemory}
 use Rattle.trial.specs.Differences.{FailsBelow, AreNumbers, IsDifference, IsRefusal}
@@ -28,15 +30,8 @@ use Rattle.trial.proofs.Finish.{each_at, as_number, exact_self}
 use Rattle.trial.proofs.PartMoves.{free_part, to_part, stays_part, moved_part}
 use Rattle.trial.proofs.PartTouch.{touch_le, any_each, weaker, among_less}
 
-both_each : {P Q R : ℕ → Type 0} (is : List ℕ) → ((i : ℕ) → P i → Q i → R i) → Each P is → Each Q is → Each R is
-both_each [] f p q = tt
-both_each (i ∷ is) f p q = (f i p.0 q.0, both_each is f p.1 q.1)
-
 never : true ≡ false → ⊥
 never e = cc
-
-not_below : (a b : ℕ) → nat_lt a b ≡ false → b ≤ a
-not_below a b e = grind (arith, nat_tests)
 
 module _ (rules : List Rule) (helds : List (List Input)) (frame : Frame) (cells : List Input) (kept : IsKept rules helds frame cells) (test : ℕ → Bool)
     (closed : (id : ℕ) → id < length frame.inputs.items → test id ≡ true → Each (λ i. test i ≡ true) (inputs_in frame id))
@@ -81,7 +76,7 @@ module _ (rules : List Rule) (helds : List (List Input)) (frame : Frame) (cells 
     node_meaning : (id : ℕ) → id < length frame.inputs.items → (b : Bool) → test id ≡ b → (part_graph part).is_free id ≡ false → restrict o id ≡ computed (part_graph part) (restrict o) id
     node_meaning id lt true t f =
         inside_is o id t ∙ meaning.nodes id lt (sym (free_part test rules frame cells part is id lt t) ∙ f)
-        ∙ ap (λ os. come_to ((graph_of rules frame).op id) (values_of os)) (sym (same_map_each (restrict o) o (inputs_in frame id) (both_each (inputs_in frame id) (λ i p q. inside_is o i p) (closed id lt t) (closed id lt t))))
+        ∙ ap (λ os. come_to ((graph_of rules frame).op id) (values_of os)) (sym (same_map_each (restrict o) o (inputs_in frame id) (each_both (inputs_in frame id) (λ i p q. inside_is o i p) (closed id lt t) (closed id lt t))))
         ∙ ap (λ ns. come_to ((graph_of rules frame).op id) (values_of (map (restrict o) ns))) (sym (is.inside id lt t).inputs)
         ∙ same_op id (values_of (map (restrict o) (inputs_in part.frame id))) lt t
     node_meaning id lt false t f =

@@ -17,6 +17,8 @@ use Rattle.store_turns.specs.Turns.{IsShape}
 use Rattle.store_build.specs.Frames.{cell_of, held_of, IsFrame}
 use Rattle.store_build.specs.Kept.{IsKept}
 use Rattle.inc_store.proofs.NodeLists.{values_all}
+use Rattle.store_build.proofs.LaidLemmas.{nothing_in}
+use Rattle.trial.proofs.Imagined.{not_below}
 use Rattle.trial.specs.Parts.{Part, IsPart, part_graph, value_in}
 use Rattle.trial.proofs.PartLists.{shorter, keep_from, length_keep, at_keep, found_keep, other_keep, lists_keep, chosen_vec, chosen_lists, length_map, all_chosen, places_chosen}
 use denote.RawPtr.{null_ptr}
@@ -48,18 +50,13 @@ part_of test rules helds frame cells = record {
   cells = keep_from test 0 (Int (pos 0)) cells;
 }
 
-each_both : {P Q R : ℕ → Type 0} (is : List ℕ) → ((i : ℕ) → P i → Q i → R i) → Each P is → Each Q is → Each R is
+pub each_both : {P Q R : ℕ → Type 0} (is : List ℕ) → ((i : ℕ) → P i → Q i → R i) → Each P is → Each Q is → Each R is
 each_both [] f p q = tt
 each_both (i ∷ is) f p q = (f i p.0 q.0, each_both is f p.1 q.1)
 
 same_values : (f g : ℕ → Input) (is : List ℕ) → Each (λ i. f i ≡ g i) is → map f is ≡ map g is
 same_values f g [] h = refl
 same_values f g (i ∷ is) h = ap (λ x. x ∷ map f is) h.0 ∙ ap (λ xs. g i ∷ xs) (same_values f g is h.1)
-
-nothing_in : (is : List ℕ) (b : Bool) → b && is_empty is ≡ true → is ≡ []
-nothing_in [] b e = refl
-nothing_in (i ∷ is) true e = absurd (cc)
-nothing_in (i ∷ is) false e = absurd (cc)
 
 never_both : {P : Type 0} → true ≡ false → P
 never_both e = absurd (never e)
@@ -70,9 +67,6 @@ never_both e = absurd (never e)
 past_first : (b : Bool) → b && true ≡ false → b ≡ false
 past_first true e = e
 past_first false e = refl
-
-not_below : (a b : ℕ) → nat_lt a b ≡ false → b ≤ a
-not_below a b e = grind (arith, nat_tests)
 
 module _ (rules : List Rule) (helds : List (List Input)) (frame : Frame) (cells : List Input) (kept : IsKept rules helds frame cells) (test : ℕ → Bool)
     (closed : (id : ℕ) → id < length frame.inputs.items → test id ≡ true → Each (λ i. test i ≡ true) (inputs_in frame id)) where

@@ -18,6 +18,7 @@ use Rattle.store_turns.specs.Waits.{Wait}
 use Rattle.store_turns.specs.Telling.{change_to, positions, places_in, pushed, blocked, IsTold}
 use Rattle.store_turns.specs.Touch.{differs}
 use Rattle.store_build.specs.Frames.{cell_of}
+use Rattle.trial.proofs.Imagined.{not_below}
 use Rattle.trial.specs.declared.overlay.Overlay.{Overlay}
 use Rattle.trial.specs.Overlays.{asked, new_or, noted}
 use Rattle.trial.specs.Parts.{Part, IsPart, value_in}
@@ -59,9 +60,6 @@ module _ (layer layer' : ℕ → ℕ) (uses : List (NodeId × ℕ)) (old : Input
     elsewhere (λ ps w. pushed (map (λ p. change_to p old h.0) ps) w) (λ w. refl) h.4 h.5,
   ))
   told_over (inr (inr h)) = inr (inr (h.0, at_layer (λ ps w. blocked ps w) (λ w. refl) h.1 h.2, elsewhere (λ ps w. blocked ps w) (λ w. refl) h.1 h.2))
-
-not_below : (a b : ℕ) → nat_lt a b ≡ false → b ≤ a
-not_below a b e = grind (arith, nat_tests)
 
 module _ (rules : List Rule) (frame : Frame) (cells : List Input) (test : ℕ → Bool) (part : Part) (is : IsPart rules frame cells test part) where
   pub small : (id : ℕ) → id < length part.frame.inputs.items → id < length frame.inputs.items

@@ -8,6 +8,7 @@ use Rattle.store_turns.specs.declared.frame.Frame.{Frame}
 use Rattle.store_turns.specs.Cones.{StandsOn, has, members_of, has_cone}
 use Rattle.store_turns.specs.Meaning.{Each, is_empty, graph_of, inputs_in, uses_in}
 use Rattle.store_build.specs.Frames.{cell_of}
+use Rattle.store_build.proofs.LaidLemmas.{if_ok}
 use Rattle.store_build.specs.Kept.{IsKept}
 use Rattle.inc_store.specs.Moves.{AreMoves, moved_to, is_moved}
 use Rattle.inc_store.specs.Stores.{IsWithin}
@@ -18,10 +19,6 @@ use Rattle.trial.proofs.PartCones.{closed_is, target_is, stands_of}
 use Rattle.trial.proofs.PartEnds.{difference_of, refusal_of, unmoved, within_of, below_within}
 use Rattle.trial.proofs.PartFrames.{part_of, is_part}
 use Rattle.trial.proofs.PartMoves.{are_moves}
-
-if_ok : {A E : Type 0} {P Q : A → Type 0} (r : Result A E) → IfOk r P → ((x : A) → P x → Q x) → IfOk r Q
-if_ok (Ok x) h f = f x h
-if_ok (Err e) h f = tt
 
 if_err : {A E : Type 0} {P Q : E → Type 0} (r : Result A E) → IfErr r P → ((e : E) → P e → Q e) → IfErr r Q
 if_err (Ok x) h f = tt
