@@ -6,6 +6,7 @@ ghost use Rattle.store_turns.specs.Telling.{positions, places_in};
 ghost use Rattle.store_build.specs.Aims.{AreLinked, Takes, graph_over, layer_at, start_of};
 ghost use Rattle.inc_store.specs.Moves.{AreMoves, moved_to, is_moved};
 ghost use Rattle.store_build.specs.Stops.{IsStop};
+ghost use Rattle.store_build.specs.declared.cones.TheConstants.{MOST_CONES};
 ghost use Rattle.store_build.specs.Unused.{unused_below};
 ghost use Rattle.inc_store.specs.Stores.{IsWithin, changes_between};
 ghost use Rattle.inc_store.specs.Views.{IsUsable, KeepsNodes, graph_in, value_at, count_of, first_of, inputs_at, rules_in};
@@ -68,7 +69,7 @@ impl<N: NodeRule> Store<N> {
             IsStop (graph_over (map N.rule nodes.items) (length start.now) links.inputs.items)
             (start_of start.now) stop) }
         ensures cones { IfOk result (λ s. map (λ c. c.target) s.frame.cones.items ≡
-            take 64 (unused_below (uses_in s.frame) (count_of s))) }
+            take MOST_CONES (unused_below (uses_in s.frame) (count_of s))) }
     {
         let parts = parts_of(alloc, nodes, links, start, layers, eval)?;
         Ok(Store {

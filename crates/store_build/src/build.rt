@@ -7,6 +7,7 @@ ghost use Rattle.store_build.specs.Frames.{cell_of};
 ghost use Rattle.store_build.specs.Kept.{IsKept};
 ghost use Rattle.store_build.specs.Stops.{IsStop};
 ghost use Rattle.store_build.specs.Aims.{Aim, IsAim, IsLaid, AreLinked, Takes, graph_over, start_of};
+ghost use Rattle.store_build.specs.declared.cones.TheConstants.{MOST_CONES};
 ghost use Rattle.store_build.specs.Unused.{unused_below};
 
 use crate::building::build_layers;
@@ -91,7 +92,7 @@ pub fn parts_of<N: NodeRule, E: LayerEval<N>>(
     ensures inputs { IfOk result (λ p. p.frame.inputs ≡ links.inputs) }
     ensures layers { IfOk result (λ p. p.frame.layers.items ≡ layers.now) }
     ensures targets { IfOk result (λ p. map (λ c. c.target) p.frame.cones.items ≡
-        take 64 (unused_below (uses_in p.frame) (length p.frame.inputs.items))) }
+        take MOST_CONES (unused_below (uses_in p.frame) (length p.frame.inputs.items))) }
     ensures kept { IfOk result (λ p. IsKept (map N.rule p.nodes.items)
         (map N.held p.nodes.items) p.frame p.values.items) }
     ensures free { IfOk result (λ p. (j : ℕ) → j < length links.inputs.items →

@@ -4,6 +4,7 @@ ghost use Rattle.store_turns.specs.Meaning.{ids_of, is_empty};
 ghost use Rattle.store_turns.specs.Cones.{IsCone, has};
 ghost use Rattle.store_build.specs.Lists.{list_in};
 ghost use Rattle.store_build.specs.Marking.{Marks};
+ghost use Rattle.store_build.specs.declared.cones.TheConstants.{MOST_CONES};
 ghost use Rattle.store_build.specs.Unused.{unused_below};
 
 use cbl_base::{NoMemory, NodeId};
@@ -112,7 +113,7 @@ pub(crate) fn cones_of(
     ensures cones { IfOk result (λ cones. All (IsCone (λ id. ids_of (list_in inputs.now id))
         (length inputs.now)) cones.items) }
     ensures targets { IfOk result (λ cones. map (λ c. c.target) cones.items ≡
-        take 64 (unused_below (λ id. list_in uses.now id) (length inputs.now))) }
+        take MOST_CONES (unused_below (λ id. list_in uses.now id) (length inputs.now))) }
 {
     let mut cones = Vec::new(alloc);
     let mut id = inputs.len() as u32;
