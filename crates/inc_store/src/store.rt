@@ -1,6 +1,7 @@
 //! The store.
-ghost use Rattle.std.specs.Prelude.{◌≡◌, ℕ, ◌+◌, ◌*◌, ◌-◌, ◌<◌, ◌≤◌, true, List, [], length, map, take, is_ok, IfOk, IfErr, OnOk, Some, slice_get};
+ghost use Rattle.std.specs.Prelude.{◌≡◌, ℕ, ◌+◌, ◌*◌, ◌-◌, ◌<◌, ◌≤◌, true, List, [], length, map, take, is_ok, IfOk, IfErr, IsTrue, OnOk, Some, slice_get};
 ghost use Rattle.store_turns.specs.declared.outcome.Outcome.{Outcome};
+ghost use Rattle.store_turns.specs.Cones.{has_cone};
 ghost use Rattle.store_turns.specs.Meaning.{IsMeaning, layer_of, uses_in};
 ghost use Rattle.store_turns.specs.Telling.{positions, places_in};
 ghost use Rattle.store_build.specs.Aims.{AreLinked, Takes, graph_over, layer_at, start_of};
@@ -9,16 +10,16 @@ ghost use Rattle.store_build.specs.Stops.{IsStop};
 ghost use Rattle.store_build.specs.declared.cones.TheConstants.{MOST_CONES};
 ghost use Rattle.store_build.specs.Unused.{unused_below};
 ghost use Rattle.inc_store.specs.Stores.{IsWithin, changes_between};
-ghost use Rattle.inc_store.specs.Views.{IsUsable, KeepsNodes, graph_in, value_at, count_of, first_of, inputs_at, rules_in};
+ghost use Rattle.inc_store.specs.Views.{IsUsable, KeepsAll, KeepsNodes, graph_in, value_at, count_of, first_of, inputs_at, rules_in};
 
 use crate::cells::Cells;
 use crate::changed::Changed;
 use crate::commits::commit_moves;
-use cbl_base::{NodeId, NodeRule, NodeValue, Steps, VarId};
+use cbl_base::{NoMemory, NodeId, NodeRule, NodeValue, Steps, VarId};
 use layer_plan::Layers;
 use std::alloc::Global;
 use std::sync::ledger::Ledger;
-use store_build::{LayerEval, Links, StoreFault, parts_of};
+use store_build::{LayerEval, Links, StoreFault, cone_of, parts_of};
 use store_turns::Frame;
 
 /// Nodes in layers behind the cells of variables, each with its value.
@@ -40,7 +41,7 @@ impl<N: NodeRule> Store<N> {
     /// starts with its number; another takes the value of the one id in its list. Each id must be in a
     /// higher layer than those whose values it takes, as in what `plan` answers for these lists. The store
     /// keeps for each of at most 64 ids that nothing uses, those with the greatest ids, on which ids it
-    /// stands, so that a trial of such a target follows no others.
+    /// stands, so that a trial of such a target needn't search for these.
     pub fn build<E: LayerEval<N>>(
         alloc: Global,
         nodes: Vec<N>,
@@ -139,6 +140,24 @@ impl<N: NodeRule> Store<N> {
         )?;
         self.is_usable = true;
         Ok(changed)
+    }
+
+    /// Keeps on which ids a target stands, so that trials of it needn't search for them first. All else
+    /// stays as it is, also where memory runs out. It takes a byte for each id up to the last one on which
+    /// the target doesn't stand; each trial looks through the targets that are kept.
+    pub fn keep(&mut self, target: NodeId) -> Result<(), NoMemory>
+        requires usable { IsUsable N.rule N.held N.ready self.old }
+        requires within { target.0 < count_of self.old }
+        ensures usable { IsUsable N.rule N.held N.ready self.new }
+        ensures same { KeepsAll self.old self.new }
+        ensures kept { OnOk result (IsTrue (has_cone self.new.frame.cones.items target.0)) }
+    {
+        if self.frame.cone(target).is_some() {
+            return Ok(());
+        }
+        let cone = cone_of(self.alloc, self.frame.inputs.as_slice(), target.0)?;
+        self.frame.cones.push(cone)?;
+        Ok(())
     }
 
     /// The node of an id behind the cells. It was reset, has the rule of the node that was given to

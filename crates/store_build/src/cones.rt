@@ -1,5 +1,5 @@
 //! On which ids a target stands.
-ghost use Rattle.std.specs.Prelude.{◌≡◌, ℕ, ◌<◌, ◌≤◌, ◌++◌, [], ◌∷◌, cond, length, map, take, IfOk, OnOk, All};
+ghost use Rattle.std.specs.Prelude.{◌≡◌, ℕ, ◌<◌, ◌≤◌, ◌++◌, [], ◌∷◌, cond, false, length, map, replicate, take, IfOk, OnOk, All};
 ghost use Rattle.store_turns.specs.Meaning.{ids_of, is_empty};
 ghost use Rattle.store_turns.specs.Cones.{IsCone, has};
 ghost use Rattle.store_build.specs.Lists.{list_in};
@@ -38,20 +38,69 @@ fn mark_all(members: &mut Vec<bool>, stack: &mut Vec<u32>, ids: &[NodeId]) -> Re
     Ok(())
 }
 
-/// The ids on which a target stands.
-fn cone_of(alloc: Global, inputs: &[Vec<NodeId>], target: u32) -> Result<Cone, NoMemory>
+/// As many entries as there are ids, none with a mark.
+fn unmark(members: &mut Vec<bool>, count: usize) -> Result<(), NoMemory>
+    ensures { OnOk result (members.new.items ≡ replicate count false) }
+{
+    members.clear();
+    while members.len() < count {
+        members.push(false)?;
+    }
+    Ok(())
+}
+
+/// Marks the ids on which a target stands, and no others.
+fn mark_below(
+    members: &mut Vec<bool>,
+    stack: &mut Vec<u32>,
+    inputs: &[Vec<NodeId>],
+    target: u32,
+) -> Result<(), NoMemory>
+    requires { target < length inputs.now }
+    ensures { OnOk result (IsCone (λ id. ids_of (list_in inputs.now id)) (length inputs.now)
+        (record { target = target; members = members.new })) }
+{
+    unmark(members, inputs.len())?;
+    stack.clear();
+    mark(members, stack, NodeId(target))?;
+    while let Some(id) = stack.pop() {
+        mark_all(members, stack, inputs[id as usize].as_slice())?;
+    }
+    shorten(members);
+    Ok(())
+}
+
+/// Finds the ids on which a target stands, with these lists of inputs. What the cone and the stack hold
+/// before doesn't matter, and once their lists have grown no memory is taken. Each id on which the target
+/// stands is looked at once, with its inputs.
+pub fn find_cone(
+    cone: &mut Cone,
+    stack: &mut Vec<u32>,
+    inputs: &[Vec<NodeId>],
+    target: u32,
+) -> Result<(), NoMemory>
+    requires { target < length inputs.now }
+    ensures target { OnOk result (cone.new.target ≡ target) }
+    ensures cone { OnOk result (IsCone (λ id. ids_of (list_in inputs.now id))
+        (length inputs.now) cone.new) }
+{
+    cone.target = target;
+    mark_below(&mut cone.members, stack, inputs, target)
+}
+
+/// The ids on which a target stands, with these lists of inputs.
+pub fn cone_of(alloc: Global, inputs: &[Vec<NodeId>], target: u32) -> Result<Cone, NoMemory>
     requires { target < length inputs.now }
     ensures target { IfOk result (λ cone. cone.target ≡ target) }
     ensures cone { IfOk result (IsCone (λ id. ids_of (list_in inputs.now id)) (length inputs.now)) }
 {
-    let mut members = vec![in alloc; false; inputs.len()]?;
+    let mut cone = Cone {
+        target,
+        members: Vec::new(alloc),
+    };
     let mut stack = Vec::new(alloc);
-    mark(&mut members, &mut stack, NodeId(target))?;
-    while let Some(id) = stack.pop() {
-        mark_all(&mut members, &mut stack, inputs[id as usize].as_slice())?;
-    }
-    shorten(&mut members);
-    Ok(Cone { target, members })
+    find_cone(&mut cone, &mut stack, inputs, target)?;
+    Ok(cone)
 }
 
 /// Drops the entries at the end that say yes, since an id past the end is had anyway.

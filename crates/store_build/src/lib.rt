@@ -2,8 +2,7 @@
 //!
 //! It knows nothing of commits, nor of any operation by name: its nodes are whatever is a `NodeRule`.
 //! The layers above use that what is built has the value that each rule gives of its inputs' values, that
-//! each node holds these, that a fault is that of the least failing node, and on which ids those stand that
-//! nothing uses.
+//! each node holds these, that a fault is that of the least failing node, and on which ids a target stands.
 #![tactic(auto)]
 
 mod build;
@@ -20,7 +19,7 @@ mod values;
 mod whole;
 
 pub use build::parts_of;
-pub use cones::MOST_CONES;
+pub use cones::{MOST_CONES, cone_of, find_cone};
 pub use layer_eval::{LayerEval, PlainEval};
 pub use links::Links;
 pub use parts::{Parts, StoreFault};

@@ -12,6 +12,8 @@ pub(crate) enum Shape {
     Apart,
     /// Each of 64 nodes is on the same variable.
     Beside,
+    /// The same 64 nodes, and on each of them one more.
+    Under,
     /// Of 12 variables four have the value of a node; 24 nodes are on those before them, some twice.
     Drawn,
 }
@@ -30,6 +32,7 @@ fn sizes_of(shape: Shape) -> (u32, u32) {
         Shape::Chain => (2_001, 3_000),
         Shape::Apart => (10_000, 20_000),
         Shape::Beside => (1, 65),
+        Shape::Under => (1, 129),
         Shape::Drawn => (12, 36),
     }
 }
@@ -71,6 +74,9 @@ fn input_of(shape: Shape, draws: &mut Draws, id: u32, place: u32) -> Option<u32>
         Shape::Apart => None,
         Shape::Beside if id >= 1 && place == 0 => Some(0),
         Shape::Beside => None,
+        Shape::Under if id >= 65 && place == 0 => Some(id - 64),
+        Shape::Under if id >= 1 && place == 0 => Some(0),
+        Shape::Under => None,
         Shape::Drawn => drawn_input(draws, id, place),
     }
 }
@@ -117,7 +123,7 @@ fn move_of(shape: Shape, draws: &mut Draws) -> (VarId, i64) {
     let (index, number) = match shape {
         Shape::Chain => (0, 5),
         Shape::Apart => (5_000, 5),
-        Shape::Beside => (0, 5),
+        Shape::Beside | Shape::Under => (0, 5),
         Shape::Drawn => (draws.below(8), draws.number()),
     };
     (VarId { solver: 3, index }, number)
@@ -144,7 +150,7 @@ pub(crate) fn target_of(shape: Shape, draws: &mut Draws) -> u32 {
     match shape {
         Shape::Chain => 999,
         Shape::Apart => 15_000,
-        Shape::Beside => 30,
+        Shape::Beside | Shape::Under => 30,
         Shape::Drawn => draws.below(36),
     }
 }

@@ -102,6 +102,7 @@ fn play_shape<R: Print + AllocGlobal, L: Ledger>(
         Shape::Chain => ("chain of 1,000", 1, 1),
         Shape::Apart => ("10,000 apart", 1, 1),
         Shape::Beside => ("64 beside each other", 1, 1),
+        Shape::Under => ("64 under another each", 1, 1),
         Shape::Drawn => ("drawn", 25, 200),
     };
     play.counts = NOTHING_SEEN;
@@ -151,11 +152,12 @@ fn play_all<R: Print + AllocGlobal, L: Ledger>(blank: Blank, rt: &R)
         left: 0,
         moved: 0,
     };
-    for index in 0..4 {
+    for index in 0..5 {
         let shape = match index {
             0 => Shape::Chain,
             1 => Shape::Apart,
             2 => Shape::Beside,
+            3 => Shape::Under,
             _ => Shape::Drawn,
         };
         play_shape(rt, shape, &mut play, &mut steps);

@@ -1,10 +1,8 @@
--- The uses by members, one after the other, and the search for a target's cone.
-use Rattle.std.proofs.Common.{◌≡◌, ◌≢◌, inl, inr, ℕ, zero, suc, ◌+◌, ◌*◌, ◌<◌, ◌≤◌, Bool, true, false, cond, nat_eq, List, [], ◌∷◌, ◌++◌, length, take, drop, get_or, refl, sym, ap, ◌∙◌, arith}
-use Rattle.std.proofs.lemmas.Bool.Decides.{eqb_tells}
-use Rattle.std.proofs.lemmas.List.{take_more, drop_more}
+-- The uses by members, one after the other.
+use Rattle.std.proofs.Common.{◌≡◌, ℕ, zero, suc, ◌+◌, ◌*◌, ◌<◌, ◌≤◌, Bool, true, false, cond, List, [], ◌∷◌, ◌++◌, length, take, get_or, refl, ap, ◌∙◌, arith}
+use Rattle.std.proofs.lemmas.List.{take_more}
 use Rattle.cbl_base.specs.declared.ids.NodeId.{NodeId}
-use Rattle.store_turns.specs.declared.frame.Cone.{Cone}
-use Rattle.store_turns.specs.Cones.{has, chosen, members_of}
+use Rattle.store_turns.specs.Cones.{has, chosen}
 
 choose : (b : Bool) (u : NodeId × ℕ) (us vs ws : List (NodeId × ℕ)) → us ≡ vs ++ ws → cond b (u ∷ us) us ≡ cond b (u ∷ vs) vs ++ ws
 choose true u us vs ws e = ap (λ l. u ∷ l) e
@@ -69,26 +67,3 @@ module _ (test : ℕ → Bool) (uses : List (NodeId × ℕ)) (i : ℕ) (d : Node
 pub all_chosen : (uses : List (NodeId × ℕ)) → chosen (has []) uses ≡ uses
 all_chosen [] = refl
 all_chosen (u ∷ us) = ap (λ l. u ∷ l) (all_chosen us)
-
--- ---- the search for a cone
-pub nothing_left : (cs : List Cone) (i target : ℕ) → length cs ≤ i → members_of (drop i cs) target ≡ []
-nothing_left [] zero target le = refl
-nothing_left [] (suc i) target le = refl
-nothing_left (c ∷ cs) zero target le = absurd (omega (arith, le))
-nothing_left (c ∷ cs) (suc i) target le = nothing_left cs i target (omega (arith, le))
-
-module _ (cs : List Cone) (i target : ℕ) (c : Cone) (lt : i < length cs) (is : c ≡ get_or cs i c) where
-  rest : members_of (drop i cs) target ≡ cond (nat_eq c.target target) c.members.items (members_of (drop (i + 1) cs) target)
-  rest = ap (λ l. members_of l target) (drop_more cs i c lt) ∙ ap (λ d. members_of (d ∷ drop (i + 1) cs) target) (sym is)
-
-  pub found_here : c.target ≡ target → members_of (drop i cs) target ≡ c.members.items
-  found_here e = elim (eqb_tells c.target target) [
-    | inl t ↦ rest ∙ ap (λ b. cond b c.members.items (members_of (drop (i + 1) cs) target)) t.0
-    | inr f ↦ absurd (f.1 e)
-  ]
-
-  pub found_later : c.target ≢ target → members_of (drop i cs) target ≡ members_of (drop (i + 1) cs) target
-  found_later ne = elim (eqb_tells c.target target) [
-    | inl t ↦ absurd (ne t.1)
-    | inr f ↦ rest ∙ ap (λ b. cond b c.members.items (members_of (drop (i + 1) cs) target)) f.0
-  ]

@@ -1,5 +1,6 @@
 -- The ids on which a target stands, and the lists that keep them. A rule of this project.
-use Rattle.std.specs.Prelude.{◌≡◌, ◌⊎◌, ℕ, ◌<◌, Bool, true, false, cond, nat_eq, List, [], ◌∷◌, length, slice_index_or, All}
+use Rattle.std.specs.Prelude.{◌≡◌, ◌⊎◌, ℕ, ◌<◌, Bool, true, cond, nat_eq, List, [], ◌∷◌, length, slice_index_or, All, Option, is_some}
+use Rattle.std.specs.List.{find}
 use Rattle.cbl_base.specs.declared.ids.NodeId.{NodeId}
 use Rattle.store_turns.specs.declared.frame.Cone.{Cone}
 use Rattle.store_turns.specs.declared.frame.Frame.{Frame}
@@ -32,12 +33,9 @@ pub record IsCone (inputs : ℕ → List ℕ) (count : ℕ) (cone : Cone) : Type
 abbrev pub AreCones : Frame → Type 0
 AreCones frame = All (λ c. IsCone (inputs_in frame) (length frame.inputs.items) c) frame.cones.items
 
--- the members of a target's cone, and no list where it has none
-abbrev pub members_of : List Cone → ℕ → List Bool
-members_of [] target = []
-members_of (c ∷ cs) target = cond (nat_eq c.target target) c.members.items (members_of cs target)
+-- the cone of a target, where it is kept
+abbrev pub cone_in : List Cone → ℕ → Option Cone
+cone_in cones target = find (λ c. nat_eq c.target target) cones
 
--- whether a target has a cone
 abbrev pub has_cone : List Cone → ℕ → Bool
-has_cone [] target = false
-has_cone (c ∷ cs) target = cond (nat_eq c.target target) true (has_cone cs target)
+has_cone cones target = is_some (cone_in cones target)

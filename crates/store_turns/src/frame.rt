@@ -1,6 +1,6 @@
 //! What stays as it is: how the nodes hang together.
-ghost use Rattle.std.specs.Prelude.{◌≡◌};
-ghost use Rattle.store_turns.specs.Cones.{members_of};
+ghost use Rattle.std.specs.Prelude.{◌≡◌, option_map};
+ghost use Rattle.store_turns.specs.Cones.{cone_in};
 
 use cbl_base::NodeId;
 
@@ -24,15 +24,10 @@ pub struct Frame {
 }
 
 impl Frame {
-    /// For each id whether the target stands on it; and no list where the target has no cone.
-    pub fn members(&self, target: NodeId) -> &[bool]
-        ensures { result.now ≡ members_of self.now.cones.items target.0 }
+    /// The ids on which a target stands, where they are kept.
+    pub fn cone(&self, target: NodeId) -> Option<&Cone>
+        ensures { option_map (λ cone. cone.now) result ≡ cone_in self.now.cones.items target.0 }
     {
-        for cone in &self.cones {
-            if cone.target == target.0 {
-                return cone.members.as_slice();
-            }
-        }
-        &[]
+        self.cones.iter().find(|cone| cone.target == target.0)
     }
 }

@@ -1,5 +1,5 @@
 -- The part of a store that a trial follows: the ids that pass a test. A rule of this project.
-use Rattle.std.specs.Prelude.{◌≡◌, ℕ, ℤ, pos, ◌-◌, ◌*◌, ◌+◌, ◌<◌, ◌≤◌, Bool, true, false, cond, ◌&&◌, List, [], ◌∷◌, length, map, slice_get}
+use Rattle.std.specs.Prelude.{◌≡◌, ℕ, ℤ, pos, ◌-◌, ◌*◌, ◌+◌, ◌<◌, ◌≤◌, Bool, true, false, cond, ◌&&◌, List, [], ◌∷◌, length, map, slice_get, Result, IfOk, IfErr}
 use Rattle.cbl_base.specs.NodeLaw.{Rule}
 use Rattle.cbl_base.specs.declared.ids.NodeId.{NodeId}
 use Rattle.cbl_base.specs.declared.ids.VarId.{VarId}
@@ -14,8 +14,10 @@ use Rattle.store_build.specs.Frames.{cell_of}
 use Rattle.store_build.specs.Kept.{IsKept}
 use Rattle.inc_store.specs.Moves.{moved_to, is_moved}
 use Rattle.inc_store.specs.Stores.{IsWithin}
+use Rattle.trial.specs.declared.fault.TrialFault.{TrialFault}
 use Rattle.trial.specs.declared.overlay.Overlay.{Overlay}
 use Rattle.trial.specs.Course.{Asked, InProbe, IsKnown}
+use Rattle.trial.specs.Differences.{IsDifference, IsRefusal}
 
 -- rules, what the nodes hold, how they hang together, and the values of all ids
 pub record Part : Type 0 where
@@ -81,3 +83,10 @@ abbrev pub IsWithinBelow : Graph → ℕ → (ℕ → Input) → (ℕ → Input)
 IsWithinBelow g target before free moved uses base steps =
     (o : ℕ → Outcome) → IsMeaning g free o → (test : ℕ → Bool) → ((j : ℕ) → StandsOn g.inputs target j → test j ≡ true)
     → steps ≤ base + 4 * touch_among test moved (λ j. differs (o j) (before j)) g.inputs uses g.size
+
+-- what a trial tells of a target: the difference of two fresh evaluations, or why there is none, within these steps
+pub record Tells (g : Graph) (uses : ℕ → List (NodeId × ℕ)) (before : ℕ → Input) (ms : List (VarId × ℤ)) (target : ℕ) (result : Result ℤ TrialFault) (base steps : ℕ) : Type 0 where
+  pub difference : IfOk result (λ d. IsDifference g before (moved_to ms before) target d)
+  pub fault : IfErr result (λ stop. IsRefusal g before (moved_to ms before) target stop)
+  pub steps_in_all : IsWithin g before (moved_to ms before) (is_moved ms) uses base steps
+  pub steps_below : IsWithinBelow g target before (moved_to ms before) (is_moved ms) uses base steps

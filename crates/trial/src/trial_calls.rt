@@ -1,14 +1,13 @@
 //! Trials.
 ghost use Rattle.std.specs.Prelude.{◌≡◌, ℕ, ◌+◌, ◌*◌, ◌<◌, ◌≤◌, true, not, IfOk, IfErr, length};
 ghost use Rattle.cbl_base.specs.Inputs.{number_kind, kind_of};
-ghost use Rattle.store_turns.specs.Cones.{has, has_cone};
+ghost use Rattle.store_turns.specs.Cones.{IsCone, has};
 ghost use Rattle.store_turns.specs.Meaning.{uses_in, is_empty};
-ghost use Rattle.inc_store.specs.Moves.{AreMoves, moved_to, is_moved};
-ghost use Rattle.inc_store.specs.Stores.{IsWithin};
-ghost use Rattle.inc_store.specs.Views.{IsUsable, graph_in, rules_in, value_at, count_of};
+ghost use Rattle.inc_store.specs.Moves.{AreMoves};
+ghost use Rattle.inc_store.specs.Views.{IsUsable, graph_in, rules_in, value_at, count_of, inputs_at};
 ghost use Rattle.trial.specs.Differences.{IsDifference, IsRefusal};
 ghost use Rattle.trial.specs.Overlays.{IsEmpty};
-ghost use Rattle.trial.specs.Parts.{Query, IsPart, IsPaid, IsWithinBelow, after_in, moves_of, part_graph, value_in};
+ghost use Rattle.trial.specs.Parts.{Query, IsPart, IsPaid, Tells, after_in, moves_of, part_graph, value_in};
 
 use crate::ending::conclude;
 use crate::fault::TrialFault;
@@ -19,12 +18,16 @@ use cbl_base::{NodeId, NodeRule, Steps, VarId};
 use inc_store::Store;
 use std::alloc::Global;
 use std::sync::ledger::Ledger;
-use store_turns::has;
+use store_build::find_cone;
+use store_turns::{Cone, has};
 
-/// What is needed to ask stores for differences. It serves any store, and between two calls it is empty.
+/// What is needed to ask stores for differences. It serves any store, and between two calls its overlay is
+/// empty.
 #[derive(Drop)]
 pub struct Trial {
     overlay: Overlay,
+    found: Cone,
+    stack: Vec<u32>,
     alloc: Global,
     ghost empty: { IsEmpty overlay },
 }
@@ -34,6 +37,11 @@ impl Trial {
     pub fn new(alloc: Global) -> Trial {
         Trial {
             overlay: Overlay::new(alloc),
+            found: Cone {
+                target: 0,
+                members: Vec::new(alloc),
+            },
+            stack: Vec::new(alloc),
             alloc,
         }
     }
@@ -41,12 +49,12 @@ impl Trial {
     /// The target's number after the moves less its number now; the store stays as it is. `Node` with the
     /// least node on which the target stands whose own operation fails after the moves though all its inputs
     /// have values, and its fault; or with the target and `Overflow`, where the difference doesn't fit. The
-    /// field `solver` of a variable isn't looked at. Whatever the answer, the steps are at most four times
-    /// what is touched.
+    /// field `solver` of a variable isn't looked at.
     ///
-    /// Where the store keeps on which ids the target stands, those alone are followed, and the steps are at
-    /// most four times what is touched among them. A store does so for at most 64 targets that nothing uses.
-    /// A trial of another target follows what waits up to the target's turn.
+    /// Only ids on which the target stands are followed: whatever the answer, the steps are at most four
+    /// times what is touched among them. Where the store doesn't keep which these are, they are searched
+    /// first, which makes no step, but looks at each of them, and at a byte for each id. `Store::build` keeps
+    /// them for targets that nothing uses, `Store::keep` for any other.
     pub fn probe<N: NodeRule, L: Ledger>(
         &mut self,
         store: &Store<N>,
@@ -58,36 +66,46 @@ impl Trial {
         requires moves { AreMoves (graph_in N.rule store.now) moves.now }
         requires target { target.0 < count_of store.now }
         requires number { kind_of (value_at store.now target.0) ≡ number_kind }
-        ensures difference { IfOk result (λ d.
-            IsDifference (graph_in N.rule store.now) (value_at store.now)
-            (moved_to moves.now (value_at store.now)) target.0 d) }
-        ensures fault { IfErr result (λ stop.
-            IsRefusal (graph_in N.rule store.now) (value_at store.now)
-            (moved_to moves.now (value_at store.now)) target.0 stop) }
-        ensures steps { IsWithin (graph_in N.rule store.now) (value_at store.now)
-            (moved_to moves.now (value_at store.now)) (is_moved moves.now)
-            (uses_in store.now.frame) steps.old steps.new }
-        ensures below { has_cone store.now.frame.cones.items target.0 ≡ true →
-            IsWithinBelow (graph_in N.rule store.now) target.0 (value_at store.now)
-            (moved_to moves.now (value_at store.now)) (is_moved moves.now)
-            (uses_in store.now.frame) steps.old steps.new }
+        ensures { Tells (graph_in N.rule store.now) (uses_in store.now.frame)
+            (value_at store.now) moves.now target.0 result steps.old steps.new }
     {
-        let members = store.frame().members(target);
-        if !any_moves(members, moves) {
-            return Ok(0);
+        let frame = store.frame();
+        let overlay = &mut self.overlay;
+        if let Some(cone) = frame.cone(target) {
+            return told(self.alloc, store, cone, overlay, moves, steps);
         }
-        let told = answer(
-            self.alloc,
-            store,
-            members,
-            &mut self.overlay,
-            moves,
-            target,
-            steps,
-        );
-        self.overlay.clear();
-        told
+        find_cone(&mut self.found, &mut self.stack, &frame.inputs, target.0)?;
+        told(self.alloc, store, &self.found, overlay, moves, steps)
     }
+}
+
+/// What a trial tells of the target of a cone, in an overlay that is empty before and after.
+fn told<N: NodeRule, L: Ledger>(
+    alloc: Global,
+    store: &Store<N>,
+    cone: &Cone,
+    overlay: &mut Overlay,
+    moves: &[(VarId, i64)],
+    steps: &mut Steps<L>,
+) -> Result<i64, TrialFault>
+    requires usable { IsUsable N.rule N.held N.ready store.now }
+    requires cone { IsCone (inputs_at store.now) (count_of store.now) cone.now }
+    requires empty { IsEmpty overlay.old }
+    requires moves { AreMoves (graph_in N.rule store.now) moves.now }
+    requires target { cone.now.target < count_of store.now }
+    requires number { kind_of (value_at store.now cone.now.target) ≡ number_kind }
+    ensures told { Tells (graph_in N.rule store.now) (uses_in store.now.frame)
+        (value_at store.now) moves.now cone.now.target result steps.old steps.new }
+    ensures empty { IsEmpty overlay.new }
+{
+    let members = cone.members.as_slice();
+    if !any_moves(members, moves) {
+        return Ok(0);
+    }
+    let target = NodeId(cone.target);
+    let found = answer(alloc, store, members, overlay, moves, target, steps);
+    overlay.clear();
+    found
 }
 
 /// Whether one of the moves is of a member.

@@ -1,4 +1,4 @@
-use Rattle.std.proofs.Common.{◌+◌, ◌*◌, ◌<◌, ◌≤◌, List, length, take, get_or, sym, ap, ◌∙◌, subst, arith, map}
+use Rattle.std.proofs.Common.{◌+◌, ◌*◌, ◌<◌, ◌≤◌, length, take, get_or, sym, ap, ◌∙◌, subst, arith, map}
 use Rattle.store_turns.specs.Waits.{waits}
 use Rattle.store_turns.specs.Cones.{has, chosen}
 use Rattle.store_turns.specs.Telling.{change_to, layer_in, places_in, pushed}

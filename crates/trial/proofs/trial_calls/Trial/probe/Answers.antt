@@ -1,57 +1,50 @@
-use Rattle.std.proofs.Common.{rules, ◌≡◌, map, refl, sym, ap, ◌∙◌}
+use Rattle.std.proofs.Common.{rules, ◌≡◌, ℕ, ◌<◌, List, Vec, Some, length, sym, ap, ◌∙◌, subst}
+use Rattle.std.specs.declared.alloc.Global.{Global}
+use Rattle.cbl_base.specs.Inputs.{number_kind, kind_of}
+use Rattle.cbl_base.specs.declared.ids.NodeId.{NodeId}
 use Rattle.store_turns.specs.declared.frame.Frame.{Frame}
-use Rattle.store_turns.specs.Cones.{has, members_of}
-use Rattle.trial.specs.Parts.{moves_of}
-use Rattle.trial.proofs.Probing.{none_of, some_of, member, part_is, moves_are, nothing_moved, difference_told, refusal_told, steps_told, below_told}
+use Rattle.store_turns.specs.Cones.{IsCone, cone_in}
+use Rattle.store_turns.specs.Meaning.{ids_of, uses_in}
+use Rattle.store_build.specs.Lists.{list_in}
+use Rattle.inc_store.specs.Views.{graph_in, value_at, count_of, inputs_at}
+use Rattle.trial.specs.Parts.{Tells}
+use Rattle.trial.proofs.PartCones.{found_is}
 use Rattle.trial.proofs.trial_calls.Trial.probe.Goals as goal
 
-pub returns-then-not-any_moves-clause-difference : goal.returns-then-not-any_moves-clause-difference
-returns-then-not-any_moves-clause-difference g c =
-    let is : c.members-members.result.now ≡ members_of c.args.store.now.frame.cones.items c.args.target.0 = c.members-members.ensures ∙ ap (λ (f : Frame). members_of f.cones.items c.args.target.0) c.frame.ensures in
-    nothing_moved (map g.N.NodeRule.rule c.args.store.now.nodes.items) (map g.N.NodeRule.held c.args.store.now.nodes.items) c.args.store.now.frame c.args.store.now.cells c.requires.usable.2 c.args.moves.now c.args.target.0 c.requires.target c.members-members.result.now is (none_of (moves_of (has c.members-members.result.now) c.args.moves.now) (sym c.any_moves.ensures ∙ c.if-not-any_moves.true)) c.requires.number
+pub told-requires-clause-cone : goal.told-requires-clause-cone
+told-requires-clause-cone g c κs within =
+    let s = c.args.store.now in
+    let e : cone_in s.frame.cones.items c.args.target.0 ≡ Some c.in-Some.cone.now = search rules in
+    (found_is (IsCone (inputs_at s) (count_of s)) c.args.target.0 s.frame.cones.items c.in-Some.cone.now c.requires.usable.2.framed.cones e).0
 
-pub answer-told-requires : goal.answer-told-requires
-answer-told-requires g c κs within =
-    let is : c.members-members.result.now ≡ members_of c.args.store.now.frame.cones.items c.args.target.0 = c.members-members.ensures ∙ ap (λ (f : Frame). members_of f.cones.items c.args.target.0) c.frame.ensures in
-    let some = some_of (moves_of (has c.members-members.result.now) c.args.moves.now) (sym c.any_moves.ensures ∙ c.if-not-any_moves.false) in (
-      search (rules, within),
-      (
-        search (rules, within),
-        (
-          c.type_bounds.send-N,
-          (
-            c.type_bounds.sync-N,
-            (
-              c.requires.usable,
-              (
-                c.args.self.now.empty,
-                (
-                  part_is (map g.N.NodeRule.rule c.args.store.now.nodes.items) (map g.N.NodeRule.held c.args.store.now.nodes.items) c.args.store.now.frame c.args.store.now.cells c.requires.usable.2 c.args.moves.now c.args.target.0 c.requires.target c.members-members.result.now is,
-                  (refl, (refl, (moves_are (map g.N.NodeRule.rule c.args.store.now.nodes.items) (map g.N.NodeRule.held c.args.store.now.nodes.items) c.args.store.now.frame c.args.store.now.cells c.requires.usable.2 c.args.moves.now c.args.target.0 c.requires.target c.members-members.result.now is c.requires.moves, (some, (c.requires.target, (member (map g.N.NodeRule.rule c.args.store.now.nodes.items) (map g.N.NodeRule.held c.args.store.now.nodes.items) c.args.store.now.frame c.args.store.now.cells c.requires.usable.2 c.args.moves.now c.args.target.0 c.requires.target c.members-members.result.now is, c.requires.number)))))),
-                ),
-              ),
-            ),
-          ),
-        ),
-      ),
-    )
+pub told-requires-clause-target : goal.told-requires-clause-target
+told-requires-clause-target g c κs within =
+    let s = c.args.store.now in
+    let e : cone_in s.frame.cones.items c.args.target.0 ≡ Some c.in-Some.cone.now = search rules in
+    let known = found_is (IsCone (inputs_at s) (count_of s)) c.args.target.0 s.frame.cones.items c.in-Some.cone.now c.requires.usable.2.framed.cones e in
+    subst (λ (t : ℕ). t < count_of s) (sym known.1) c.requires.target
 
-pub returns-clause-difference : goal.returns-clause-difference
-returns-clause-difference g c =
-    let is : c.members-members.result.now ≡ members_of c.args.store.now.frame.cones.items c.args.target.0 = c.members-members.ensures ∙ ap (λ (f : Frame). members_of f.cones.items c.args.target.0) c.frame.ensures in
-    difference_told (map g.N.NodeRule.rule c.args.store.now.nodes.items) (map g.N.NodeRule.held c.args.store.now.nodes.items) c.args.store.now.frame c.args.store.now.cells c.requires.usable.2 c.args.moves.now c.args.target.0 c.requires.target c.members-members.result.now is c.args.steps.now c.answer-told.result c.answer-told.ensures.difference
+pub told-requires-clause-number : goal.told-requires-clause-number
+told-requires-clause-number g c κs within =
+    let s = c.args.store.now in
+    let e : cone_in s.frame.cones.items c.args.target.0 ≡ Some c.in-Some.cone.now = search rules in
+    let known = found_is (IsCone (inputs_at s) (count_of s)) c.args.target.0 s.frame.cones.items c.in-Some.cone.now c.requires.usable.2.framed.cones e in
+    subst (λ (t : ℕ). kind_of (value_at s t) ≡ number_kind) (sym known.1) c.requires.number
 
-pub returns-clause-fault : goal.returns-clause-fault
-returns-clause-fault g c =
-    let is : c.members-members.result.now ≡ members_of c.args.store.now.frame.cones.items c.args.target.0 = c.members-members.ensures ∙ ap (λ (f : Frame). members_of f.cones.items c.args.target.0) c.frame.ensures in
-    refusal_told (map g.N.NodeRule.rule c.args.store.now.nodes.items) (map g.N.NodeRule.held c.args.store.now.nodes.items) c.args.store.now.frame c.args.store.now.cells c.requires.usable.2 c.args.moves.now c.args.target.0 c.requires.target c.members-members.result.now is c.args.steps.now c.answer-told.result c.answer-told.ensures.fault
+pub returns-in-Some : goal.returns-in-Some
+returns-in-Some g c =
+    let s = c.args.store.now in
+    let e : cone_in s.frame.cones.items c.args.target.0 ≡ Some c.in-Some.cone.now = search rules in
+    let known = found_is (IsCone (inputs_at s) (count_of s)) c.args.target.0 s.frame.cones.items c.in-Some.cone.now c.requires.usable.2.framed.cones e in
+    subst (λ (t : ℕ). Tells (graph_in g.N.NodeRule.rule s) (uses_in s.frame) (value_at s) c.args.moves.now t c.told.result c.args.steps.now c.told.new.steps) known.1 c.told.ensures.told
 
-pub returns-clause-steps : goal.returns-clause-steps
-returns-clause-steps g c =
-    let is : c.members-members.result.now ≡ members_of c.args.store.now.frame.cones.items c.args.target.0 = c.members-members.ensures ∙ ap (λ (f : Frame). members_of f.cones.items c.args.target.0) c.frame.ensures in
-    steps_told (map g.N.NodeRule.rule c.args.store.now.nodes.items) (map g.N.NodeRule.held c.args.store.now.nodes.items) c.args.store.now.frame c.args.store.now.cells c.requires.usable.2 c.args.moves.now c.args.target.0 c.requires.target c.members-members.result.now is c.args.steps.now c.answer-told.new.steps c.answer-told.ensures.steps
+pub told-requires-2-clause-cone : goal.told-requires-2-clause-cone
+told-requires-2-clause-cone g c κs within =
+    let s = c.args.store.now in
+    let same = c.deref.ensures.value ∙ ap (λ (f : Frame). f.inputs.items) c.frame-frame.ensures in
+    subst (λ (v : List (Vec NodeId Global)). IsCone (λ id. ids_of (list_in v id)) (length v) c.find_cone.new.cone) same c.in_ok-find_cone.ensures.cone
 
-pub returns-clause-below : goal.returns-clause-below
-returns-clause-below g c =
-    let is : c.members-members.result.now ≡ members_of c.args.store.now.frame.cones.items c.args.target.0 = c.members-members.ensures ∙ ap (λ (f : Frame). members_of f.cones.items c.args.target.0) c.frame.ensures in
-    below_told (map g.N.NodeRule.rule c.args.store.now.nodes.items) (map g.N.NodeRule.held c.args.store.now.nodes.items) c.args.store.now.frame c.args.store.now.cells c.requires.usable.2 c.args.moves.now c.args.target.0 c.requires.target c.members-members.result.now is c.args.steps.now c.answer-told.new.steps c.answer-told.ensures.steps
+pub returns : goal.returns
+returns g c =
+    let s = c.args.store.now in
+    subst (λ (t : ℕ). Tells (graph_in g.N.NodeRule.rule s) (uses_in s.frame) (value_at s) c.args.moves.now t c.told-2.result c.args.steps.now c.told-2.new.steps) c.in_ok-find_cone.ensures.target c.told-2.ensures.told

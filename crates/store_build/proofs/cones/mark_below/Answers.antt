@@ -5,14 +5,14 @@ use Rattle.store_build.specs.Lists.{list_in}
 use Rattle.store_build.specs.Marking.{Marks, IsMarking}
 use Rattle.store_build.proofs.ListLemmas.{in-read}
 use Rattle.store_build.proofs.MarkSteps.{marking_start, marking_more, marking_end, same_cone, on_old, has_inputs}
-use Rattle.store_build.proofs.cones.cone_of.Goals as goal
+use Rattle.store_build.proofs.cones.mark_below.Goals as goal
 
 pub loop-id-init : goal.loop-id-init
 loop-id-init c =
     let inputs = c.args.inputs.now in
-    let none : c.in_ok-members.members.items ≡ replicate (length inputs) false = search rules in
-    let empty : c.new-stack.result.items ≡ [] = search rules in
-    marking_start (λ j. ids_of (list_in inputs j)) (length inputs) c.args.target c.requires c.in_ok-members.members.items c.mark.new.members.items c.new-stack.result.items c.mark.new.stack.items none empty c.in_ok-mark.ensures
+    let none : c.unmark.new.members.items ≡ replicate (length inputs) false = search rules in
+    let empty : c.clear.new.self.items ≡ [] = search rules in
+    marking_start (λ j. ids_of (list_in inputs j)) (length inputs) c.args.target c.requires c.unmark.new.members.items c.mark.new.members.items c.clear.new.self.items c.mark.new.stack.items none empty c.in_ok-mark.ensures
 
 pub bounds-inputs-id : goal.bounds-inputs-id
 bounds-inputs-id c =
@@ -31,8 +31,8 @@ loop-id-preserved c =
     subst (λ (is : List NodeId). Marks (ids_of is) c.loop-id.members.items c.pop.new.self.items c.mark_all.new.members.items c.mark_all.new.stack.items) same c.in_ok-mark_all.ensures in
     marking_more (λ j. ids_of (list_in inputs j)) (length inputs) c.args.target id c.loop-id.members.items c.mark_all.new.members.items c.loop-id.stack.items c.pop.new.self.items c.mark_all.new.stack.items popped c.loop-id.invariant step
 
-pub returns-clause-cone : goal.returns-clause-cone
-returns-clause-cone c =
+pub returns : goal.returns
+returns c =
     let inputs = c.args.inputs.now in
     let empty : c.loop-id.stack.items ≡ [] = search rules in
     same_cone (λ j. ids_of (list_in inputs j)) (length inputs) (record { target = c.args.target; members = c.loop-id.members }) (record { target = c.args.target; members = c.shorten.new.members }) refl c.shorten.ensures

@@ -2,7 +2,7 @@ use Rattle.std.proofs.Common.{map}
 use Rattle.store_turns.specs.Cones.{has}
 use Rattle.trial.specs.Parts.{moves_of}
 use Rattle.trial.proofs.PartFrames.{part_of}
-use Rattle.trial.proofs.trial_calls.Trial.probe.Given as goal
+use Rattle.trial.proofs.trial_calls.told.Given as goal
 
 abbrev pub ghost-answer : goal.ghost-answer
 ghost-answer g a = record {
