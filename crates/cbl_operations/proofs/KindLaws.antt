@@ -16,29 +16,19 @@ use Rattle.cbl_violations.specs.Violations.MultiKnapsack.{multi_knapsack_violati
 use Rattle.cbl_violations.specs.Violations.NotHeld.{not_held_violations}
 use Rattle.cbl_violations.specs.Violations.Relations.{of_two, eq_violations, ne_violations, le_violations, lt_violations}
 use Rattle.cbl_violations.specs.Violations.Sequence.{sequence_violations}
-use Rattle.cbl_operations.specs.Operations.Abs.{abs}
-use Rattle.cbl_operations.specs.Operations.Add.{add}
+use Rattle.cbl_operations.specs.Binary.{rule_of_binary}
 use Rattle.cbl_operations.specs.Operations.And.{and}
 use Rattle.cbl_operations.specs.Operations.Count.{count}
-use Rattle.cbl_operations.specs.Operations.Div.{div}
 use Rattle.cbl_operations.specs.Operations.Element.{element}
 use Rattle.cbl_operations.specs.Operations.Element2.{element2}
-use Rattle.cbl_operations.specs.Operations.Eq.{eq}
 use Rattle.cbl_operations.specs.Operations.Greatest.{greatest}
-use Rattle.cbl_operations.specs.Operations.Le.{le}
 use Rattle.cbl_operations.specs.Operations.Least.{least}
-use Rattle.cbl_operations.specs.Operations.Lt.{lt}
-use Rattle.cbl_operations.specs.Operations.Mul.{mul}
-use Rattle.cbl_operations.specs.Operations.Ne.{ne}
-use Rattle.cbl_operations.specs.Operations.Neg.{neg}
-use Rattle.cbl_operations.specs.Operations.Not.{not}
 use Rattle.cbl_operations.specs.Operations.Or.{or}
-use Rattle.cbl_operations.specs.Operations.Rem.{rem}
-use Rattle.cbl_operations.specs.Operations.Sub.{sub}
 use Rattle.cbl_operations.specs.Operations.Sum.{sum}
 use Rattle.cbl_operations.specs.RuleOf.{rule_of, value_kind, is_constraint}
+use Rattle.cbl_operations.specs.Unary.{rule_of_unary}
 use Rattle.cbl_operations.specs.declared.op.Op.{Op}
-use Rattle.cbl_operations.specs.declared.op.Op.TheVariants.{Add, Sub, Mul, Div, Rem, Neg, Abs, Least, Greatest, Sum, ArgMin, ArgMax, Count, Element, Element2, Eq, Ne, Le, Lt, And, Or, Not, SetOf, Union, Inter, Minus, Card, Member, ViolEq, ViolNe, ViolLe, ViolLt, AllDifferent, AtMost, AtLeast, Exactly, Knapsack, MultiKnapsack, Sequence, AllOf, AnyOf, NotHeld, User}
+use Rattle.cbl_operations.specs.declared.op.Op.TheVariants.{Unary, Binary, Least, Greatest, Sum, ArgMin, ArgMax, Count, Element, Element2, And, Or, SetOf, Union, Inter, Minus, Card, Member, ViolEq, ViolNe, ViolLe, ViolLt, AllDifferent, AtMost, AtLeast, Exactly, Knapsack, MultiKnapsack, Sequence, AllOf, AnyOf, NotHeld, User}
 
 number_if_ok : (value : Result ℤ RunFault) → kind_if_ok (as_value value) ≡ number_kind
 number_if_ok (Ok x) = refl
@@ -49,13 +39,8 @@ a_number : (value : Result ℤ RunFault) (x : Input) → as_value value ≡ Ok x
 a_number value x e = kind_of-value (as_value value) x e ∙ number_if_ok value
 
 pub kind_of_values : (users : ℕ → NumberRule) (op : Op) (inputs : List Input) (x : Input) → (rule_of users op).value inputs ≡ Ok x → kind_of x ≡ value_kind op
-kind_of_values users Add inputs x e = a_number (add.value (numbers_of inputs)) x e
-kind_of_values users Sub inputs x e = a_number (sub.value (numbers_of inputs)) x e
-kind_of_values users Mul inputs x e = a_number (mul.value (numbers_of inputs)) x e
-kind_of_values users Div inputs x e = a_number (div.value (numbers_of inputs)) x e
-kind_of_values users Rem inputs x e = a_number (rem.value (numbers_of inputs)) x e
-kind_of_values users Neg inputs x e = a_number (neg.value (numbers_of inputs)) x e
-kind_of_values users Abs inputs x e = a_number (abs.value (numbers_of inputs)) x e
+kind_of_values users (Unary op) inputs x e = a_number ((rule_of_unary op).value (numbers_of inputs)) x e
+kind_of_values users (Binary op) inputs x e = a_number ((rule_of_binary op).value (numbers_of inputs)) x e
 kind_of_values users Least inputs x e = a_number (least.value (numbers_of inputs)) x e
 kind_of_values users Greatest inputs x e = a_number (greatest.value (numbers_of inputs)) x e
 kind_of_values users Sum inputs x e = a_number (sum.value (numbers_of inputs)) x e
@@ -64,13 +49,8 @@ kind_of_values users (ArgMax keys) inputs x e = kind_of-value ((rule_of users (A
 kind_of_values users Count inputs x e = a_number (count.value (numbers_of inputs)) x e
 kind_of_values users (Element low len) inputs x e = a_number ((element low len).value (numbers_of inputs)) x e
 kind_of_values users (Element2 low1 len1 low2 len2) inputs x e = a_number ((element2 low1 len1 low2 len2).value (numbers_of inputs)) x e
-kind_of_values users Eq inputs x e = a_number (eq.value (numbers_of inputs)) x e
-kind_of_values users Ne inputs x e = a_number (ne.value (numbers_of inputs)) x e
-kind_of_values users Le inputs x e = a_number (le.value (numbers_of inputs)) x e
-kind_of_values users Lt inputs x e = a_number (lt.value (numbers_of inputs)) x e
 kind_of_values users And inputs x e = a_number (and.value (numbers_of inputs)) x e
 kind_of_values users Or inputs x e = a_number (or.value (numbers_of inputs)) x e
-kind_of_values users Not inputs x e = a_number (not.value (numbers_of inputs)) x e
 kind_of_values users (SetOf keys) inputs x e = kind_of-value ((rule_of users (SetOf keys)).value inputs) x e
 kind_of_values users Union inputs x e = kind_of-value ((rule_of users Union).value inputs) x e
 kind_of_values users Inter inputs x e = kind_of-value ((rule_of users Inter).value inputs) x e
@@ -97,13 +77,8 @@ pub one_kind : (users : ℕ → NumberRule) (op : Op) → GivesOneKind (rule_of 
 one_kind users op = one_kind_from (rule_of users op) (value_kind op) (kind_of_values users op)
 
 pub not_violated : (users : ℕ → NumberRule) (op : Op) (inputs : List Input) (place : ℕ) → is_constraint op ≡ false → (rule_of users op).violation_at inputs place ≡ pos 0
-not_violated users Add inputs place free = refl
-not_violated users Sub inputs place free = refl
-not_violated users Mul inputs place free = refl
-not_violated users Div inputs place free = refl
-not_violated users Rem inputs place free = refl
-not_violated users Neg inputs place free = refl
-not_violated users Abs inputs place free = refl
+not_violated users (Unary op) inputs place free = refl
+not_violated users (Binary op) inputs place free = refl
 not_violated users Least inputs place free = refl
 not_violated users Greatest inputs place free = refl
 not_violated users Sum inputs place free = refl
@@ -112,13 +87,8 @@ not_violated users (ArgMax keys) inputs place free = refl
 not_violated users Count inputs place free = refl
 not_violated users (Element low len) inputs place free = refl
 not_violated users (Element2 low1 len1 low2 len2) inputs place free = refl
-not_violated users Eq inputs place free = refl
-not_violated users Ne inputs place free = refl
-not_violated users Le inputs place free = refl
-not_violated users Lt inputs place free = refl
 not_violated users And inputs place free = refl
 not_violated users Or inputs place free = refl
-not_violated users Not inputs place free = refl
 not_violated users (SetOf keys) inputs place free = refl
 not_violated users Union inputs place free = refl
 not_violated users Inter inputs place free = refl

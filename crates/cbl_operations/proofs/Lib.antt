@@ -3,6 +3,7 @@ pub mod KeyLaws
 pub mod KindLaws
 pub mod LeastLaws
 pub mod LeastLemmas
+pub mod OpNumbers
 pub mod QuotientLaws
 pub mod SetLaws
 pub mod TruthLaws

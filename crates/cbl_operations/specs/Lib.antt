@@ -1,3 +1,4 @@
+pub mod Binary
 pub mod Cells
 pub mod Forms
 pub mod Operations
@@ -5,3 +6,4 @@ pub mod Places
 pub mod RuleOf
 pub mod SetForms
 pub mod Truth
+pub mod Unary

@@ -1,29 +1,17 @@
--- The rule of each operation of a term, one file each.
-pub mod Abs
-pub mod Add
+-- The rule of each other operation of a term, one file each.
 pub mod And
 pub mod ArgMax
 pub mod ArgMin
 pub mod Card
 pub mod Count
-pub mod Div
 pub mod Element
 pub mod Element2
-pub mod Eq
 pub mod Greatest
 pub mod Inter
-pub mod Le
 pub mod Least
-pub mod Lt
 pub mod Member
 pub mod Minus
-pub mod Mul
-pub mod Ne
-pub mod Neg
-pub mod Not
 pub mod Or
-pub mod Rem
 pub mod SetOf
-pub mod Sub
 pub mod Sum
 pub mod Union

@@ -15,45 +15,30 @@ use Rattle.cbl_violations.specs.Violations.MultiKnapsack.{multi_knapsack}
 use Rattle.cbl_violations.specs.Violations.NotHeld.{not_held}
 use Rattle.cbl_violations.specs.Violations.Relations.{viol_eq, viol_ne, viol_le, viol_lt}
 use Rattle.cbl_violations.specs.Violations.Sequence.{sequence}
-use Rattle.cbl_operations.specs.Operations.Abs.{abs}
-use Rattle.cbl_operations.specs.Operations.Add.{add}
+use Rattle.cbl_operations.specs.Binary.{rule_of_binary}
 use Rattle.cbl_operations.specs.Operations.And.{and}
 use Rattle.cbl_operations.specs.Operations.ArgMax.{arg_max}
 use Rattle.cbl_operations.specs.Operations.ArgMin.{arg_min}
 use Rattle.cbl_operations.specs.Operations.Card.{card}
 use Rattle.cbl_operations.specs.Operations.Count.{count}
-use Rattle.cbl_operations.specs.Operations.Div.{div}
 use Rattle.cbl_operations.specs.Operations.Element.{element}
 use Rattle.cbl_operations.specs.Operations.Element2.{element2}
-use Rattle.cbl_operations.specs.Operations.Eq.{eq}
 use Rattle.cbl_operations.specs.Operations.Greatest.{greatest}
 use Rattle.cbl_operations.specs.Operations.Inter.{inter}
-use Rattle.cbl_operations.specs.Operations.Le.{le}
 use Rattle.cbl_operations.specs.Operations.Least.{least}
-use Rattle.cbl_operations.specs.Operations.Lt.{lt}
 use Rattle.cbl_operations.specs.Operations.Member.{member}
 use Rattle.cbl_operations.specs.Operations.Minus.{minus}
-use Rattle.cbl_operations.specs.Operations.Mul.{mul}
-use Rattle.cbl_operations.specs.Operations.Ne.{ne}
-use Rattle.cbl_operations.specs.Operations.Neg.{neg}
-use Rattle.cbl_operations.specs.Operations.Not.{not}
 use Rattle.cbl_operations.specs.Operations.Or.{or}
-use Rattle.cbl_operations.specs.Operations.Rem.{rem}
 use Rattle.cbl_operations.specs.Operations.SetOf.{set_of_ones}
-use Rattle.cbl_operations.specs.Operations.Sub.{sub}
 use Rattle.cbl_operations.specs.Operations.Sum.{sum}
 use Rattle.cbl_operations.specs.Operations.Union.{union}
+use Rattle.cbl_operations.specs.Unary.{rule_of_unary}
 use Rattle.cbl_operations.specs.declared.op.Op.{Op}
-use Rattle.cbl_operations.specs.declared.op.Op.TheVariants.{Add, Sub, Mul, Div, Rem, Neg, Abs, Least, Greatest, Sum, ArgMin, ArgMax, Count, Element, Element2, Eq, Ne, Le, Lt, And, Or, Not, SetOf, Union, Inter, Minus, Card, Member, ViolEq, ViolNe, ViolLe, ViolLt, AllDifferent, AtMost, AtLeast, Exactly, Knapsack, MultiKnapsack, Sequence, AllOf, AnyOf, NotHeld, User}
+use Rattle.cbl_operations.specs.declared.op.Op.TheVariants.{Unary, Binary, Least, Greatest, Sum, ArgMin, ArgMax, Count, Element, Element2, And, Or, SetOf, Union, Inter, Minus, Card, Member, ViolEq, ViolNe, ViolLe, ViolLt, AllDifferent, AtMost, AtLeast, Exactly, Knapsack, MultiKnapsack, Sequence, AllOf, AnyOf, NotHeld, User}
 
 abbrev pub rule_of : (ℕ → NumberRule) → Op → Rule
-rule_of users Add = rule_of_numbers add
-rule_of users Sub = rule_of_numbers sub
-rule_of users Mul = rule_of_numbers mul
-rule_of users Div = rule_of_numbers div
-rule_of users Rem = rule_of_numbers rem
-rule_of users Neg = rule_of_numbers neg
-rule_of users Abs = rule_of_numbers abs
+rule_of users (Unary op) = rule_of_numbers (rule_of_unary op)
+rule_of users (Binary op) = rule_of_numbers (rule_of_binary op)
 rule_of users Least = rule_of_numbers least
 rule_of users Greatest = rule_of_numbers greatest
 rule_of users Sum = rule_of_numbers sum
@@ -62,13 +47,8 @@ rule_of users (ArgMax keys) = arg_max keys
 rule_of users Count = rule_of_numbers count
 rule_of users (Element low len) = rule_of_numbers (element low len)
 rule_of users (Element2 low1 len1 low2 len2) = rule_of_numbers (element2 low1 len1 low2 len2)
-rule_of users Eq = rule_of_numbers eq
-rule_of users Ne = rule_of_numbers ne
-rule_of users Le = rule_of_numbers le
-rule_of users Lt = rule_of_numbers lt
 rule_of users And = rule_of_numbers and
 rule_of users Or = rule_of_numbers or
-rule_of users Not = rule_of_numbers not
 rule_of users (SetOf keys) = set_of_ones keys
 rule_of users Union = union
 rule_of users Inter = inter

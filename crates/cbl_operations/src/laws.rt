@@ -8,30 +8,29 @@ ghost use Rattle.cbl_base.specs.declared.input.Input.{Input};
 ghost use Rattle.cbl_base.specs.Sets.{IsRising, is_member};
 ghost use Rattle.cbl_base.specs.declared.input.Input.TheVariants.{Int, Set};
 ghost use Rattle.cbl_base.specs.declared.faults.RunFault.TheVariants.{OutOfRange};
+ghost use Rattle.cbl_operations.specs.Binary.{binary_number, binary_value};
 ghost use Rattle.cbl_operations.specs.Forms.{number_at};
 ghost use Rattle.cbl_operations.specs.Places.{IsLeastOf, IsGreatestOf, IsKeyWhere};
 ghost use Rattle.cbl_operations.specs.Operations.And.{and};
 ghost use Rattle.cbl_operations.specs.Operations.ArgMax.{arg_max};
 ghost use Rattle.cbl_operations.specs.Operations.ArgMin.{arg_min};
 ghost use Rattle.cbl_operations.specs.Operations.Count.{count};
-ghost use Rattle.cbl_operations.specs.Operations.Div.{div};
 ghost use Rattle.cbl_operations.specs.Operations.Element.{element};
 ghost use Rattle.cbl_operations.specs.Operations.Element2.{element2};
-ghost use Rattle.cbl_operations.specs.Operations.Eq.{eq};
 ghost use Rattle.cbl_operations.specs.Operations.Greatest.{greatest};
 ghost use Rattle.cbl_operations.specs.Operations.Inter.{inter};
-ghost use Rattle.cbl_operations.specs.Operations.Le.{le};
 ghost use Rattle.cbl_operations.specs.Operations.Least.{least};
-ghost use Rattle.cbl_operations.specs.Operations.Lt.{lt};
 ghost use Rattle.cbl_operations.specs.Operations.Minus.{minus};
-ghost use Rattle.cbl_operations.specs.Operations.Ne.{ne};
-ghost use Rattle.cbl_operations.specs.Operations.Not.{not as not_rule};
 ghost use Rattle.cbl_operations.specs.Operations.Or.{or};
-ghost use Rattle.cbl_operations.specs.Operations.Rem.{rem};
 ghost use Rattle.cbl_operations.specs.Operations.SetOf.{set_of_ones};
 ghost use Rattle.cbl_operations.specs.Operations.Union.{union};
 ghost use Rattle.cbl_operations.specs.RuleOf.{rule_of, value_kind, is_constraint};
+ghost use Rattle.cbl_operations.specs.Unary.{unary_number, unary_value};
+ghost use Rattle.cbl_operations.specs.declared.binary.BinaryOp.{BinaryOp};
+ghost use Rattle.cbl_operations.specs.declared.binary.BinaryOp.TheVariants.{Div, Rem, Eq, Ne, Le, Lt};
 ghost use Rattle.cbl_operations.specs.declared.op.Op.{Op};
+ghost use Rattle.cbl_operations.specs.declared.unary.UnaryOp.{UnaryOp};
+ghost use Rattle.cbl_operations.specs.declared.unary.UnaryOp.TheVariants.{Not};
 
 /// The least of some numbers is one of them, and none is below it; the greatest is one of them, and none
 /// is above it.
@@ -45,16 +44,16 @@ pub fn least_and_greatest()
 /// The dividend is the divisor times the quotient and the remainder. The remainder is nearer to 0 than the
 /// divisor, and not of the other sign than the dividend.
 pub fn quotient_and_remainder()
-    ensures { (a b q r : ℤ) → div.value (a ∷ b ∷ []) ≡ Ok q → rem.value (a ∷ b ∷ []) ≡ Ok r →
+    ensures { (a b q r : ℤ) → binary_value Div a b ≡ Ok q → binary_value Rem a b ≡ Ok r →
         (a ≡ q *ℤ b +ℤ r) × (unsigned_abs r < unsigned_abs b) × (pos 0 ≤ℤ a → pos 0 ≤ℤ r) × (a ≤ℤ pos 0 → r ≤ℤ pos 0) }
 {}
 
 /// A relation is 1 exactly where it holds.
 pub fn relations_hold()
-    ensures equal { (a b : ℤ) → (eq.value (a ∷ b ∷ []) ≡ Ok (pos 1)) ↔ (a ≡ b) }
-    ensures unequal { (a b : ℤ) → (ne.value (a ∷ b ∷ []) ≡ Ok (pos 1)) ↔ (a ≢ b) }
-    ensures at_most { (a b : ℤ) → (le.value (a ∷ b ∷ []) ≡ Ok (pos 1)) ↔ (a ≤ℤ b) }
-    ensures below { (a b : ℤ) → (lt.value (a ∷ b ∷ []) ≡ Ok (pos 1)) ↔ (a <ℤ b) }
+    ensures equal { (a b : ℤ) → (binary_value Eq a b ≡ Ok (pos 1)) ↔ (a ≡ b) }
+    ensures unequal { (a b : ℤ) → (binary_value Ne a b ≡ Ok (pos 1)) ↔ (a ≢ b) }
+    ensures at_most { (a b : ℤ) → (binary_value Le a b ≡ Ok (pos 1)) ↔ (a ≤ℤ b) }
+    ensures below { (a b : ℤ) → (binary_value Lt a b ≡ Ok (pos 1)) ↔ (a <ℤ b) }
 {}
 
 /// `and` is 1 exactly where no operand is 0, `or` exactly where some operand isn't 0, and `!` exactly where
@@ -62,7 +61,7 @@ pub fn relations_hold()
 pub fn truth_of_parts()
     ensures all { (xs : List ℤ) → (and.value xs ≡ Ok (pos 1)) ↔ All (λ x. x ≢ pos 0) xs }
     ensures some { (xs : List ℤ) → (or.value xs ≡ Ok (pos 1)) ↔ Any (λ x. x ≢ pos 0) xs }
-    ensures none { (x : ℤ) → (not_rule.value (x ∷ []) ≡ Ok (pos 1)) ↔ (x ≡ pos 0) }
+    ensures none { (x : ℤ) → (unary_value Not x ≡ Ok (pos 1)) ↔ (x ≡ pos 0) }
 {}
 
 /// What is counted stands behind the cells.
@@ -107,6 +106,12 @@ pub fn keys_of_numbers()
         IsTrue (is_member key s) ↔ IsKeyWhere (IsGreatestOf xs) keys xs key }
     ensures ones { (keys xs s : List ℤ) (key : ℤ) → (set_of_ones keys).value (as_inputs xs) ≡ Ok (Set s) →
         IsTrue (is_member key s) ↔ IsKeyWhere (λ x. x ≡ pos 1) keys xs key }
+{}
+
+/// The number of an operation on one number tells which it is, and so does that of one on two.
+pub fn operations_by_number()
+    ensures unary { (a b : UnaryOp) → unary_number a ≡ unary_number b → a ≡ b }
+    ensures binary { (a b : BinaryOp) → binary_number a ≡ binary_number b → a ≡ b }
 {}
 
 /// All values of an operation are of its kind, so over inputs of the same kinds they are of one.

@@ -1,6 +1,7 @@
 //! The operations of terms and the constraints by their names (`Op`), and what each means: its rule as
-//! a node. Beside the definition of each operation stands a plain function that gives exactly the
-//! rule's value, from scratch; those of the constraints stand in `cbl_violations`.
+//! a node. Those on one number and on two are types of their own (`UnaryOp`, `BinaryOp`), of which `Op`
+//! has one variant each. Beside the definition of each operation stands a plain function that gives
+//! exactly the rule's value, from scratch; those of the constraints stand in `cbl_violations`.
 //!
 //! It knows nothing of nodes that are kept up to date, of terms, solvers or programs. The layers above
 //! use the rule of each `Op` (`rule_of`), that all its values are of one kind, that an operation has no
@@ -9,24 +10,24 @@
 //! either set, and so on.
 #![tactic(auto)]
 
-mod arithmetic;
+mod binary;
 mod counting;
 mod elements;
 mod laws;
 mod op;
 mod order;
 mod sets;
+mod sums;
 mod truth;
+mod unary;
 
-pub use arithmetic::{
-    abs_value, add_value, div_value, mul_value, neg_value, rem_value, sub_value, sum_value,
-};
+pub use binary::BinaryOp;
 pub use counting::count_value;
 pub use elements::{element_value, element2_value};
 pub use laws::{
     cells_by_index, cells_by_row_and_column, count_of_cells, keys_of_numbers, least_and_greatest,
-    members_of_sets, operations_have_no_violation, quotient_and_remainder, relations_hold,
-    truth_of_parts, values_of_one_kind,
+    members_of_sets, operations_by_number, operations_have_no_violation, quotient_and_remainder,
+    relations_hold, truth_of_parts, values_of_one_kind,
 };
 pub use op::Op;
 pub use order::{greatest_value, least_value};
@@ -34,4 +35,6 @@ pub use sets::{
     arg_max_value, arg_min_value, card_value, inter_value, member_value, minus_value, set_of_value,
     union_value,
 };
-pub use truth::{and_value, eq_value, le_value, lt_value, ne_value, not_value, or_value};
+pub use sums::sum_value;
+pub use truth::{and_value, or_value};
+pub use unary::UnaryOp;

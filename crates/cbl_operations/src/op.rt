@@ -1,18 +1,15 @@
 //! Which operation a node computes.
 
+use crate::binary::BinaryOp;
+use crate::unary::UnaryOp;
 use cbl_base::{IntSet, Numbers};
 
 /// An operation of a term, or a constraint, with what it keeps beside its inputs. An array that is kept or
 /// that the inputs are counts from `low`; `keys` has a number for each input.
 #[derive(Drop, Debug)]
 pub enum Op {
-    Add,
-    Sub,
-    Mul,
-    Div,
-    Rem,
-    Neg,
-    Abs,
+    Unary(UnaryOp),
+    Binary(BinaryOp),
     Least,
     Greatest,
     Sum,
@@ -36,13 +33,8 @@ pub enum Op {
         low2: i64,
         len2: u32,
     },
-    Eq,
-    Ne,
-    Le,
-    Lt,
     And,
     Or,
-    Not,
     SetOf {
         keys: Numbers,
     },

@@ -1,6 +1,6 @@
 use Rattle.std.proofs.Common.{◌≡◌, ◌*◌, ◌^◌, take, pos, neg_ℤ, ◌≤ℤ◌}
 use Rattle.cbl_base.specs.Totals.{total}
-use Rattle.cbl_operations.proofs.arithmetic.total_of.Given as goal
+use Rattle.cbl_operations.proofs.sums.total_of.Given as goal
 
 abbrev pub invariant-loop-x : goal.invariant-loop-x
 invariant-loop-x l =

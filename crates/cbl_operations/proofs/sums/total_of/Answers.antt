@@ -1,7 +1,7 @@
 use Rattle.std.proofs.Common.{pos, arith}
 use Rattle.std.proofs.lemmas.Int.{ints}
 use Rattle.cbl_base.proofs.TotalLemmas.{total-more}
-use Rattle.cbl_operations.proofs.arithmetic.total_of.Goals as goal
+use Rattle.cbl_operations.proofs.sums.total_of.Goals as goal
 
 pub loop-x-preserved : goal.loop-x-preserved
 loop-x-preserved c =

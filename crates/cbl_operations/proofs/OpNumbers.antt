@@ -1,0 +1,38 @@
+-- An operation on one number or on two is made again from its number, so its number tells which it is.
+use Rattle.std.proofs.Common.{◌≡◌, ℕ, List, [], ◌∷◌, refl, sym, ap, ◌∙◌}
+use Rattle.std.specs.Prelude.{slice_index_or}
+use Rattle.cbl_operations.specs.Binary.{binary_number}
+use Rattle.cbl_operations.specs.Unary.{unary_number}
+use Rattle.cbl_operations.specs.declared.binary.BinaryOp.{BinaryOp}
+use Rattle.cbl_operations.specs.declared.binary.BinaryOp.TheVariants.{Add, Sub, Mul, Div, Rem, Eq, Ne, Le, Lt}
+use Rattle.cbl_operations.specs.declared.unary.UnaryOp.{UnaryOp}
+use Rattle.cbl_operations.specs.declared.unary.UnaryOp.TheVariants.{Neg, Abs, Not}
+
+-- the operation with a number
+abbrev pub unary_at : ℕ → UnaryOp
+unary_at n = slice_index_or (Neg ∷ Abs ∷ Not ∷ []) n Neg
+
+abbrev pub binary_at : ℕ → BinaryOp
+binary_at n = slice_index_or (Add ∷ Sub ∷ Mul ∷ Div ∷ Rem ∷ Eq ∷ Ne ∷ Le ∷ Lt ∷ []) n Add
+
+pub unary_again : (op : UnaryOp) → unary_at (unary_number op) ≡ op
+unary_again Neg = refl
+unary_again Abs = refl
+unary_again Not = refl
+
+pub binary_again : (op : BinaryOp) → binary_at (binary_number op) ≡ op
+binary_again Add = refl
+binary_again Sub = refl
+binary_again Mul = refl
+binary_again Div = refl
+binary_again Rem = refl
+binary_again Eq = refl
+binary_again Ne = refl
+binary_again Le = refl
+binary_again Lt = refl
+
+pub unary_same : (a b : UnaryOp) → unary_number a ≡ unary_number b → a ≡ b
+unary_same a b e = sym (unary_again a) ∙ ap unary_at e ∙ unary_again b
+
+pub binary_same : (a b : BinaryOp) → binary_number a ≡ binary_number b → a ≡ b
+binary_same a b e = sym (binary_again a) ∙ ap binary_at e ∙ binary_again b

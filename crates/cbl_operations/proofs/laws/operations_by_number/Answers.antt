@@ -1,0 +1,8 @@
+use Rattle.cbl_operations.proofs.OpNumbers.{unary_same, binary_same}
+use Rattle.cbl_operations.proofs.laws.operations_by_number.Goals as goal
+
+pub returns-clause-unary : goal.returns-clause-unary
+returns-clause-unary c = unary_same
+
+pub returns-clause-binary : goal.returns-clause-binary
+returns-clause-binary c = binary_same

@@ -1,9 +1,0 @@
--- `a == b` is 1 where the two are equal, and 0 else. A rule of this project.
-use Rattle.std.specs.Prelude.{Ok}
-use Rattle.std.specs.Ordering.{int_eq}
-use Rattle.cbl_base.specs.NumberRule.{NumberRule}
-use Rattle.cbl_operations.specs.Truth.{truth}
-use Rattle.cbl_operations.specs.Forms.{rule_of_two}
-
-abbrev pub eq : NumberRule
-eq = rule_of_two (λ a b. Ok (truth (int_eq a b)))

@@ -1,8 +1,0 @@
--- `a <= b` is 1 where the first is at most the second, and 0 else. A rule of this project.
-use Rattle.std.specs.Prelude.{Ok, int_le}
-use Rattle.cbl_base.specs.NumberRule.{NumberRule}
-use Rattle.cbl_operations.specs.Truth.{truth}
-use Rattle.cbl_operations.specs.Forms.{rule_of_two}
-
-abbrev pub le : NumberRule
-le = rule_of_two (λ a b. Ok (truth (int_le a b)))
