@@ -1,5 +1,5 @@
 -- An operation on one number or on two is made again from its number, so its number tells which it is.
-use Rattle.std.proofs.Common.{◌≡◌, ℕ, List, [], ◌∷◌, refl, sym, ap, ◌∙◌}
+use Rattle.std.proofs.Common.{◌≡◌, ℕ, [], ◌∷◌, refl, sym, ap, ◌∙◌}
 use Rattle.std.specs.Prelude.{slice_index_or}
 use Rattle.cbl_operations.specs.Binary.{binary_number}
 use Rattle.cbl_operations.specs.Unary.{unary_number}
