@@ -5,7 +5,7 @@ use Rattle.std.proofs.lemmas.List.Elements.{All-nil, All-cons}
 use Rattle.cbl_base.specs.Inputs.{InputKind}
 use Rattle.cbl_operations.specs.RuleOf.{rule_of, value_kind}
 use Rattle.cbl_operations.specs.declared.op.Op.{Op}
-use Rattle.cbl_operations.specs.declared.op.Op.TheVariants.{Add, Sub, Mul, Div, Rem, Neg, Abs, Least, Greatest, Sum, ArgMin, ArgMax, Count, Element, Element2, Eq, Ne, Le, Lt, And, Or, Not, SetOf, Union, Inter, Minus, Card, Member, ViolEq, ViolNe, ViolLe, ViolLt, AllDifferent, AtMost, AtLeast, Exactly, Knapsack, MultiKnapsack, Sequence, AllOf, AnyOf, NotHeld, User}
+use Rattle.cbl_operations.specs.declared.op.Op.TheVariants.{Unary, Binary, Least, Greatest, Sum, ArgMin, ArgMax, Count, Element, Element2, And, Or, SetOf, Union, Inter, Minus, Card, Member, ViolEq, ViolNe, ViolLe, ViolLt, AllDifferent, AtMost, AtLeast, Exactly, Knapsack, MultiKnapsack, Sequence, AllOf, AnyOf, NotHeld, User}
 use Rattle.term_model.specs.Kinds.{gather_kind, all_kinds, node_kind, has_fields}
 use Rattle.term_model.specs.Users.{user_rules, no_users}
 use Rattle.term_model.specs.declared.term.Term.{Term}
@@ -38,13 +38,8 @@ args_kinded op kind ts h = all_some (Some []) kind ts (some_kinds op (all_kinds 
 
 -- a user's constraint takes the same whatever its violations
 takes_same : (viol_of : ℕ → List ℤ → ℤ) (viol_at : ℕ → List ℤ → ℕ → ℤ) (op : Op) (kinds : List InputKind) → (rule_of (user_rules viol_of viol_at) op).takes kinds ≡ (rule_of no_users op).takes kinds
-takes_same viol_of viol_at Add kinds = refl
-takes_same viol_of viol_at Sub kinds = refl
-takes_same viol_of viol_at Mul kinds = refl
-takes_same viol_of viol_at Div kinds = refl
-takes_same viol_of viol_at Rem kinds = refl
-takes_same viol_of viol_at Neg kinds = refl
-takes_same viol_of viol_at Abs kinds = refl
+takes_same viol_of viol_at (Unary op) kinds = refl
+takes_same viol_of viol_at (Binary op) kinds = refl
 takes_same viol_of viol_at Least kinds = refl
 takes_same viol_of viol_at Greatest kinds = refl
 takes_same viol_of viol_at Sum kinds = refl
@@ -53,13 +48,8 @@ takes_same viol_of viol_at (ArgMax keys) kinds = refl
 takes_same viol_of viol_at Count kinds = refl
 takes_same viol_of viol_at (Element low len) kinds = refl
 takes_same viol_of viol_at (Element2 low1 len1 low2 len2) kinds = refl
-takes_same viol_of viol_at Eq kinds = refl
-takes_same viol_of viol_at Ne kinds = refl
-takes_same viol_of viol_at Le kinds = refl
-takes_same viol_of viol_at Lt kinds = refl
 takes_same viol_of viol_at And kinds = refl
 takes_same viol_of viol_at Or kinds = refl
-takes_same viol_of viol_at Not kinds = refl
 takes_same viol_of viol_at (SetOf keys) kinds = refl
 takes_same viol_of viol_at Union kinds = refl
 takes_same viol_of viol_at Inter kinds = refl

@@ -6,8 +6,9 @@ use Rattle.std.specs.Ordering.{int_eq}
 use lib.Pointwise.{pointwise}
 use Rattle.std.proofs.lemmas.Bool.{and_parts}
 use Rattle.std.specs.Cmp.Rules.{signed_items}
+use Rattle.cbl_operations.proofs.OpNumbers.{unary_at, binary_at, unary_again, binary_again}
 use Rattle.cbl_operations.specs.declared.op.Op.{Op}
-use Rattle.cbl_operations.specs.declared.op.Op.TheVariants.{Add, Sub, Mul, Div, Rem, Neg, Abs, Least, Greatest, Sum, ArgMin, ArgMax, Count, Element, Element2, Eq, Ne, Le, Lt, And, Or, Not, SetOf, Union, Inter, Minus, Card, Member, ViolEq, ViolNe, ViolLe, ViolLt, AllDifferent, AtMost, AtLeast, Exactly, Knapsack, MultiKnapsack, Sequence, AllOf, AnyOf, NotHeld, User}
+use Rattle.cbl_operations.specs.declared.op.Op.TheVariants.{Unary, Binary, Least, Greatest, Sum, ArgMin, ArgMax, Count, Element, Element2, And, Or, SetOf, Union, Inter, Minus, Card, Member, ViolEq, ViolNe, ViolLe, ViolLt, AllDifferent, AtMost, AtLeast, Exactly, Knapsack, MultiKnapsack, Sequence, AllOf, AnyOf, NotHeld, User}
 use Rattle.term_model.specs.SameOperations.{name_of, numbers_of, first_of, second_of, same_operation}
 
 abbrev Maker : Type 0
@@ -22,13 +23,8 @@ natural (negsuc n) = 0
 
 abbrev makers : List Maker
 makers =
-    (λ ns first second. Add) ∷
-    (λ ns first second. Sub) ∷
-    (λ ns first second. Mul) ∷
-    (λ ns first second. Div) ∷
-    (λ ns first second. Rem) ∷
-    (λ ns first second. Neg) ∷
-    (λ ns first second. Abs) ∷
+    (λ ns first second. Unary (unary_at (natural (at ns 0)))) ∷
+    (λ ns first second. Binary (binary_at (natural (at ns 0)))) ∷
     (λ ns first second. Least) ∷
     (λ ns first second. Greatest) ∷
     (λ ns first second. Sum) ∷
@@ -37,13 +33,8 @@ makers =
     (λ ns first second. Count) ∷
     (λ ns first second. Element (at ns 0) (natural (at ns 1))) ∷
     (λ ns first second. Element2 (at ns 0) (natural (at ns 1)) (at ns 2) (natural (at ns 3))) ∷
-    (λ ns first second. Eq) ∷
-    (λ ns first second. Ne) ∷
-    (λ ns first second. Le) ∷
-    (λ ns first second. Lt) ∷
     (λ ns first second. And) ∷
     (λ ns first second. Or) ∷
-    (λ ns first second. Not) ∷
     (λ ns first second. SetOf first) ∷
     (λ ns first second. Union) ∷
     (λ ns first second. Inter) ∷
@@ -73,13 +64,8 @@ made op None = op
 
 -- what an operation is made again from
 again : (op : Op) → made op (slice_get makers (name_of op)) ≡ op
-again Add = refl
-again Sub = refl
-again Mul = refl
-again Div = refl
-again Rem = refl
-again Neg = refl
-again Abs = refl
+again (Unary op) = ap Unary (unary_again op)
+again (Binary op) = ap Binary (binary_again op)
 again Least = refl
 again Greatest = refl
 again Sum = refl
@@ -88,13 +74,8 @@ again (ArgMax keys) = refl
 again Count = refl
 again (Element low len) = refl
 again (Element2 low1 len1 low2 len2) = refl
-again Eq = refl
-again Ne = refl
-again Le = refl
-again Lt = refl
 again And = refl
 again Or = refl
-again Not = refl
 again (SetOf keys) = refl
 again Union = refl
 again Inter = refl
@@ -118,13 +99,8 @@ again NotHeld = refl
 again (User number) = refl
 
 there : (op : Op) → None ≡ slice_get makers (name_of op) → ⊥
-there Add e = cc
-there Sub e = cc
-there Mul e = cc
-there Div e = cc
-there Rem e = cc
-there Neg e = cc
-there Abs e = cc
+there (Unary op) e = cc
+there (Binary op) e = cc
 there Least e = cc
 there Greatest e = cc
 there Sum e = cc
@@ -133,13 +109,8 @@ there (ArgMax keys) e = cc
 there Count e = cc
 there (Element low len) e = cc
 there (Element2 low1 len1 low2 len2) e = cc
-there Eq e = cc
-there Ne e = cc
-there Le e = cc
-there Lt e = cc
 there And e = cc
 there Or e = cc
-there Not e = cc
 there (SetOf keys) e = cc
 there Union e = cc
 there Inter e = cc

@@ -3,57 +3,52 @@
 use Rattle.std.specs.Prelude.{ℕ, ℤ, pos, Bool, ◌&&◌, List, [], ◌∷◌, nat_eq}
 use Rattle.std.specs.Ordering.{int_eq}
 use lib.Pointwise.{pointwise}
+use Rattle.cbl_operations.specs.Binary.{binary_number}
+use Rattle.cbl_operations.specs.Unary.{unary_number}
 use Rattle.cbl_operations.specs.declared.op.Op.{Op}
-use Rattle.cbl_operations.specs.declared.op.Op.TheVariants.{Add, Sub, Mul, Div, Rem, Neg, Abs, Least, Greatest, Sum, ArgMin, ArgMax, Count, Element, Element2, Eq, Ne, Le, Lt, And, Or, Not, SetOf, Union, Inter, Minus, Card, Member, ViolEq, ViolNe, ViolLe, ViolLt, AllDifferent, AtMost, AtLeast, Exactly, Knapsack, MultiKnapsack, Sequence, AllOf, AnyOf, NotHeld, User}
+use Rattle.cbl_operations.specs.declared.op.Op.TheVariants.{Unary, Binary, Least, Greatest, Sum, ArgMin, ArgMax, Count, Element, Element2, And, Or, SetOf, Union, Inter, Minus, Card, Member, ViolEq, ViolNe, ViolLe, ViolLt, AllDifferent, AtMost, AtLeast, Exactly, Knapsack, MultiKnapsack, Sequence, AllOf, AnyOf, NotHeld, User}
 
 -- the names as numbers, in order of declaration
 abbrev pub name_of : Op → ℕ
-name_of Add = 0
-name_of Sub = 1
-name_of Mul = 2
-name_of Div = 3
-name_of Rem = 4
-name_of Neg = 5
-name_of Abs = 6
-name_of Least = 7
-name_of Greatest = 8
-name_of Sum = 9
-name_of (ArgMin keys) = 10
-name_of (ArgMax keys) = 11
-name_of Count = 12
-name_of (Element low len) = 13
-name_of (Element2 low1 len1 low2 len2) = 14
-name_of Eq = 15
-name_of Ne = 16
-name_of Le = 17
-name_of Lt = 18
-name_of And = 19
-name_of Or = 20
-name_of Not = 21
-name_of (SetOf keys) = 22
-name_of Union = 23
-name_of Inter = 24
-name_of Minus = 25
-name_of Card = 26
-name_of Member = 27
-name_of ViolEq = 28
-name_of ViolNe = 29
-name_of ViolLe = 30
-name_of ViolLt = 31
-name_of AllDifferent = 32
-name_of (AtMost low bounds) = 33
-name_of (AtLeast low bounds) = 34
-name_of (Exactly low bounds) = 35
-name_of (Knapsack weights capacity) = 36
-name_of (MultiKnapsack sizes low capacities) = 37
-name_of (Sequence values most window) = 38
-name_of AllOf = 39
-name_of AnyOf = 40
-name_of NotHeld = 41
-name_of (User number) = 42
+name_of (Unary op) = 0
+name_of (Binary op) = 1
+name_of Least = 2
+name_of Greatest = 3
+name_of Sum = 4
+name_of (ArgMin keys) = 5
+name_of (ArgMax keys) = 6
+name_of Count = 7
+name_of (Element low len) = 8
+name_of (Element2 low1 len1 low2 len2) = 9
+name_of And = 10
+name_of Or = 11
+name_of (SetOf keys) = 12
+name_of Union = 13
+name_of Inter = 14
+name_of Minus = 15
+name_of Card = 16
+name_of Member = 17
+name_of ViolEq = 18
+name_of ViolNe = 19
+name_of ViolLe = 20
+name_of ViolLt = 21
+name_of AllDifferent = 22
+name_of (AtMost low bounds) = 23
+name_of (AtLeast low bounds) = 24
+name_of (Exactly low bounds) = 25
+name_of (Knapsack weights capacity) = 26
+name_of (MultiKnapsack sizes low capacities) = 27
+name_of (Sequence values most window) = 28
+name_of AllOf = 29
+name_of AnyOf = 30
+name_of NotHeld = 31
+name_of (User number) = 32
 
--- what is kept: numbers, of which an operation has four at most, and two lists
+-- what is kept: numbers, of which an operation has four at most, and two lists; of an operation on one number
+-- or on two the number that tells which it is
 abbrev pub numbers_of : Op → List ℤ
+numbers_of (Unary op) = pos (unary_number op) ∷ pos 0 ∷ pos 0 ∷ pos 0 ∷ []
+numbers_of (Binary op) = pos (binary_number op) ∷ pos 0 ∷ pos 0 ∷ pos 0 ∷ []
 numbers_of (Element low len) = low ∷ pos len ∷ pos 0 ∷ pos 0 ∷ []
 numbers_of (Element2 low1 len1 low2 len2) = low1 ∷ pos len1 ∷ low2 ∷ pos len2 ∷ []
 numbers_of (AtMost low bounds) = low ∷ pos 0 ∷ pos 0 ∷ pos 0 ∷ []

@@ -19,7 +19,7 @@ mod posting;
 mod term;
 mod usable;
 
-pub use cbl_operations::Op;
+pub use cbl_operations::{BinaryOp, Op, UnaryOp};
 pub use definitions::{definitions_of, dependencies_of, push_variables};
 pub use equal_operations::{Fields, fields_of, name_of, same_operation};
 pub use equal_terms::same_term;
