@@ -3,14 +3,16 @@ ghost use Rattle.std.specs.Prelude.{◌≡◌, ◌<◌, Some, IsTrue, IfOk, leng
 ghost use Rattle.cbl_base.specs.Inputs.{kinds_of, numbers_of, number_of, number_kind, set_kind};
 ghost use Rattle.cbl_base.specs.NumberRule.{as_value};
 ghost use Rattle.cbl_base.specs.declared.input.Input.TheVariants.{Int, Set};
+ghost use Rattle.cbl_operations.specs.Binary.{rule_of_binary};
 ghost use Rattle.cbl_operations.specs.RuleOf.{rule_of};
 ghost use Rattle.cbl_operations.specs.SetForms.{members_at};
+ghost use Rattle.cbl_operations.specs.Unary.{rule_of_unary};
 ghost use Rattle.term_model.specs.Users.{user_rules};
 
 use crate::users::UserValues;
 use cbl_base::{Input, IntSet, NoMemory, RunFault};
 use cbl_operations as operations;
-use cbl_operations::Op;
+use cbl_operations::{BinaryOp, Op, UnaryOp};
 use cbl_violations as violations;
 use std::alloc::Global;
 
@@ -57,6 +59,22 @@ fn as_value(value: Result<i64, RunFault>) -> Result<Input, RunFault>
     value.map(Input::Int)
 }
 
+/// The value of an operation on one number.
+fn of_one(op: UnaryOp, numbers: &[i64]) -> Result<i64, RunFault>
+    requires { IsTrue ((rule_of_unary op).takes (length numbers.now)) }
+    ensures { result ≡ (rule_of_unary op).value numbers.now }
+{
+    op.value(numbers[0])
+}
+
+/// The value of an operation on two numbers.
+fn of_two(op: BinaryOp, numbers: &[i64]) -> Result<i64, RunFault>
+    requires { IsTrue ((rule_of_binary op).takes (length numbers.now)) }
+    ensures { result ≡ (rule_of_binary op).value numbers.now }
+{
+    op.value(numbers[0], numbers[1])
+}
+
 #[tactic(auto, using(crate::proofs::KeyedValues::arg_min_again, crate::proofs::KeyedValues::arg_max_again, crate::proofs::KeyedValues::set_of_again))]
 /// The value of an operation that takes these inputs: the value of its rule.
 pub fn value_of<U: UserValues>(
@@ -98,13 +116,8 @@ pub fn value_of<U: UserValues>(
         }
         Op::Card => Ok(operations::card_value(set_at(inputs, 0))),
         Op::Member => Ok(operations::member_value(number_at(inputs, 0), set_at(inputs, 1))),
-        Op::Add => operations::add_value(&xs),
-        Op::Sub => operations::sub_value(&xs),
-        Op::Mul => operations::mul_value(&xs),
-        Op::Div => operations::div_value(&xs),
-        Op::Rem => operations::rem_value(&xs),
-        Op::Neg => operations::neg_value(&xs),
-        Op::Abs => operations::abs_value(&xs),
+        Op::Unary(op) => of_one(*op, &xs),
+        Op::Binary(op) => of_two(*op, &xs),
         Op::Least => operations::least_value(&xs),
         Op::Greatest => operations::greatest_value(&xs),
         Op::Sum => operations::sum_value(&xs),
@@ -116,13 +129,8 @@ pub fn value_of<U: UserValues>(
             low2,
             len2,
         } => { operations::element2_value(*low1, *len1, *low2, *len2, &xs) }
-        Op::Eq => operations::eq_value(&xs),
-        Op::Ne => operations::ne_value(&xs),
-        Op::Le => operations::le_value(&xs),
-        Op::Lt => operations::lt_value(&xs),
         Op::And => operations::and_value(&xs),
         Op::Or => operations::or_value(&xs),
-        Op::Not => operations::not_value(&xs),
         Op::ViolEq => violations::eq_violations(&xs),
         Op::ViolNe => violations::ne_violations(&xs),
         Op::ViolLe => violations::le_violations(&xs),

@@ -10,44 +10,31 @@ use Rattle.cbl_violations.specs.Violations.MultiKnapsack.{multi_knapsack_violati
 use Rattle.cbl_violations.specs.Violations.NotHeld.{not_held_violations}
 use Rattle.cbl_violations.specs.Violations.Relations.{of_two, eq_violations, ne_violations, le_violations, lt_violations}
 use Rattle.cbl_violations.specs.Violations.Sequence.{sequence_violations}
+use Rattle.cbl_operations.specs.Binary.{rule_of_binary}
 use Rattle.cbl_operations.specs.Operations.And.{and}
 use Rattle.cbl_operations.specs.Operations.Count.{count}
 use Rattle.cbl_operations.specs.Operations.Element.{element}
 use Rattle.cbl_operations.specs.Operations.Element2.{element2}
-use Rattle.cbl_operations.specs.Operations.Eq.{eq}
-use Rattle.cbl_operations.specs.Operations.Le.{le}
-use Rattle.cbl_operations.specs.Operations.Lt.{lt}
-use Rattle.cbl_operations.specs.Operations.Ne.{ne}
-use Rattle.cbl_operations.specs.Operations.Not.{not}
 use Rattle.cbl_operations.specs.Operations.Or.{or}
+use Rattle.cbl_operations.specs.Unary.{rule_of_unary}
 use Rattle.operation_values.proofs.KeyedValues.{of_value, arg_min_again, arg_max_again, set_of_again}
 use Rattle.operation_values.proofs.operation.value_of.Goals as goal
-use Rattle.operation_values.proofs.operation.value_of.Goals.{in-Card, in-Member, in-Add, in-Sub, in-Mul, in-Div, in-Rem, in-Neg, in-Abs, in-Least, in-Greatest, in-Sum, in-Count, in-Element, in-Element2, in-Eq, in-Ne, in-Le, in-Lt, in-And, in-Or, in-Not, in-ViolEq, in-ViolNe, in-ViolLe, in-ViolLt, in-AllDifferent, in-AtMost, in-AtLeast, in-Exactly, in-Knapsack, in-MultiKnapsack, in-Sequence, in-AllOf, in-AnyOf, in-NotHeld, in-User+in_ok-value-in-User}
+use Rattle.operation_values.proofs.operation.value_of.Goals.{in-Card, in-Member, in-Unary, in-Binary, in-Least, in-Greatest, in-Sum, in-Count, in-Element, in-Element2, in-And, in-Or, in-ViolEq, in-ViolNe, in-ViolLe, in-ViolLt, in-AllDifferent, in-AtMost, in-AtLeast, in-Exactly, in-Knapsack, in-MultiKnapsack, in-Sequence, in-AllOf, in-AnyOf, in-NotHeld, in-User+in_ok-value-in-User}
 
 pub returns : goal.returns
 returns g c = elim c.match-op.branch [
   | in-Card w ↦ search rules
   | in-Member w ↦ search rules
-  | in-Add w ↦ search rules
-  | in-Sub w ↦ search rules
-  | in-Mul w ↦ search rules
-  | in-Div w ↦ search rules
-  | in-Rem w ↦ search rules
-  | in-Neg w ↦ search rules
-  | in-Abs w ↦ search rules
+  | in-Unary w ↦ rw w.in-Unary.is (of_value (rule_of_unary w.in-Unary.op).value c.args.inputs.now c.in_ok-xs.xs.items c.match-op.number _ (search rules) (search rules) (search rules))
+  | in-Binary w ↦ rw w.in-Binary.is (of_value (rule_of_binary w.in-Binary.op).value c.args.inputs.now c.in_ok-xs.xs.items c.match-op.number _ (search rules) (search rules) (search rules))
   | in-Least w ↦ search rules
   | in-Greatest w ↦ search rules
   | in-Sum w ↦ search rules
   | in-Count w ↦ rw w.in-Count.is (of_value count.value c.args.inputs.now c.in_ok-xs.xs.items c.match-op.number _ (search rules) (search rules) (search rules))
   | in-Element w ↦ rw w.in-Element.is (of_value (element w.in-Element.low w.in-Element.len).value c.args.inputs.now c.in_ok-xs.xs.items c.match-op.number _ (search rules) (search rules) (search rules))
   | in-Element2 w ↦ rw w.in-Element2.is (of_value (element2 w.in-Element2.low1 w.in-Element2.len1 w.in-Element2.low2 w.in-Element2.len2).value c.args.inputs.now c.in_ok-xs.xs.items c.match-op.number _ (search rules) (search rules) (search rules))
-  | in-Eq w ↦ rw w.in-Eq.is (of_value eq.value c.args.inputs.now c.in_ok-xs.xs.items c.match-op.number _ (search rules) (search rules) (search rules))
-  | in-Ne w ↦ rw w.in-Ne.is (of_value ne.value c.args.inputs.now c.in_ok-xs.xs.items c.match-op.number _ (search rules) (search rules) (search rules))
-  | in-Le w ↦ rw w.in-Le.is (of_value le.value c.args.inputs.now c.in_ok-xs.xs.items c.match-op.number _ (search rules) (search rules) (search rules))
-  | in-Lt w ↦ rw w.in-Lt.is (of_value lt.value c.args.inputs.now c.in_ok-xs.xs.items c.match-op.number _ (search rules) (search rules) (search rules))
   | in-And w ↦ rw w.in-And.is (of_value and.value c.args.inputs.now c.in_ok-xs.xs.items c.match-op.number _ (search rules) (search rules) (search rules))
   | in-Or w ↦ rw w.in-Or.is (of_value or.value c.args.inputs.now c.in_ok-xs.xs.items c.match-op.number _ (search rules) (search rules) (search rules))
-  | in-Not w ↦ rw w.in-Not.is (of_value not.value c.args.inputs.now c.in_ok-xs.xs.items c.match-op.number _ (search rules) (search rules) (search rules))
   | in-ViolEq w ↦ rw w.in-ViolEq.is (of_value (of_two eq_violations) c.args.inputs.now c.in_ok-xs.xs.items c.match-op.number _ (search rules) (search rules) (search rules))
   | in-ViolNe w ↦ rw w.in-ViolNe.is (of_value (of_two ne_violations) c.args.inputs.now c.in_ok-xs.xs.items c.match-op.number _ (search rules) (search rules) (search rules))
   | in-ViolLe w ↦ rw w.in-ViolLe.is (of_value (of_two le_violations) c.args.inputs.now c.in_ok-xs.xs.items c.match-op.number _ (search rules) (search rules) (search rules))
