@@ -33,13 +33,8 @@ pub(crate) fn copy_of(alloc: Global, op: &Op) -> Result<Op, NoMemory>
     ensures { IfOk result (λ copy. copy ≡ op.now) }
 {
     match op {
-        Op::Add => Ok(Op::Add),
-        Op::Sub => Ok(Op::Sub),
-        Op::Mul => Ok(Op::Mul),
-        Op::Div => Ok(Op::Div),
-        Op::Rem => Ok(Op::Rem),
-        Op::Neg => Ok(Op::Neg),
-        Op::Abs => Ok(Op::Abs),
+        Op::Unary(op) => Ok(Op::Unary(*op)),
+        Op::Binary(op) => Ok(Op::Binary(*op)),
         Op::Least => Ok(Op::Least),
         Op::Greatest => Ok(Op::Greatest),
         Op::Sum => Ok(Op::Sum),
@@ -67,13 +62,8 @@ pub(crate) fn copy_of(alloc: Global, op: &Op) -> Result<Op, NoMemory>
             low2: *low2,
             len2: *len2,
         }),
-        Op::Eq => Ok(Op::Eq),
-        Op::Ne => Ok(Op::Ne),
-        Op::Le => Ok(Op::Le),
-        Op::Lt => Ok(Op::Lt),
         Op::And => Ok(Op::And),
         Op::Or => Ok(Op::Or),
-        Op::Not => Ok(Op::Not),
         Op::SetOf { keys } => {
             let keys = copy_of_numbers(alloc, keys)?;
             Ok(Op::SetOf { keys })
