@@ -5,8 +5,12 @@ use Rattle.std.specs.Prelude.{ℤ, pos, ◌||◌, List, [], ◌∷◌, ◌++◌,
 use Rattle.cbl_base.specs.declared.place.Place.{Place}
 use Rattle.cbl_base.specs.declared.faults.Limit.TheVariants as limits
 use Rattle.cbl_base.specs.declared.faults.RunFault.TheVariants.{EmptyRange, TooMany}
+use Rattle.cbl_operations.specs.declared.binary.BinaryOp.{BinaryOp}
+use Rattle.cbl_operations.specs.declared.binary.BinaryOp.TheVariants.{Add, Sub, Mul, Div, Rem, Eq, Ne, Le, Lt}
 use Rattle.cbl_operations.specs.declared.op.Op.{Op}
 use Rattle.cbl_operations.specs.declared.op.Op.TheVariants as ops
+use Rattle.cbl_operations.specs.declared.unary.UnaryOp.{UnaryOp}
+use Rattle.cbl_operations.specs.declared.unary.UnaryOp.TheVariants.{Neg, Abs, Not}
 use Rattle.term_model.specs.Depth.{depth_of}
 use Rattle.term_model.specs.declared.term.Term.{Term}
 use Rattle.comet_syntax.specs.declared.tree.expressions.Aggregate.{Aggregate}
@@ -40,22 +44,22 @@ single m = m >>= λ t. give (Single t)
 
 -- `-e` and `!e`
 
-abbrev pub unary_op : UnaryOperator → Op
-unary_op unaries.Negative = ops.Neg
-unary_op unaries.Not = ops.Not
+abbrev pub unary_op : UnaryOperator → UnaryOp
+unary_op unaries.Negative = Neg
+unary_op unaries.Not = Not
 
 unfoldable pub unary_term : Level → Place → UnaryOperator → Shape → Act Term
-unary_term l at o e = term l e >>= λ t. node_form at (unary_op o) (t ∷ [])
+unary_term l at o e = term l e >>= λ t. node_form at (ops.Unary (unary_op o)) (t ∷ [])
 
 -- `a == b` and its like: `>` and `>=` are `<` and `<=` of the sides exchanged
 
-abbrev pub comparison_op : Comparison → Op
-comparison_op comparisons.Equal = ops.Eq
-comparison_op comparisons.NotEqual = ops.Ne
-comparison_op comparisons.Less = ops.Lt
-comparison_op comparisons.LessEqual = ops.Le
-comparison_op comparisons.Greater = ops.Lt
-comparison_op comparisons.GreaterEqual = ops.Le
+abbrev pub comparison_op : Comparison → BinaryOp
+comparison_op comparisons.Equal = Eq
+comparison_op comparisons.NotEqual = Ne
+comparison_op comparisons.Less = Lt
+comparison_op comparisons.LessEqual = Le
+comparison_op comparisons.Greater = Lt
+comparison_op comparisons.GreaterEqual = Le
 
 abbrev pub sides : Comparison → Term → Term → List Term
 sides comparisons.Greater t u = u ∷ t ∷ []
@@ -66,7 +70,7 @@ unfoldable pub compare_term : Level → Place → Comparison → Shape → Shape
 compare_term l at c a b = do
   t ← term l a
   u ← term l b
-  node_form at (comparison_op c) (sides c t u)
+  node_form at (ops.Binary (comparison_op c)) (sides c t u)
 
 -- chains: one of `&&` or of `||` is one operation at its first operator, and any other one is an operation for each
 -- operator, so that no front of it is a part of its own
@@ -74,11 +78,11 @@ compare_term l at c a b = do
 abbrev pub chain_op : ChainOperator → Op
 chain_op chains.Or = ops.Or
 chain_op chains.And = ops.And
-chain_op chains.Add = ops.Add
-chain_op chains.Subtract = ops.Sub
-chain_op chains.Multiply = ops.Mul
-chain_op chains.Divide = ops.Div
-chain_op chains.Remainder = ops.Rem
+chain_op chains.Add = ops.Binary Add
+chain_op chains.Subtract = ops.Binary Sub
+chain_op chains.Multiply = ops.Binary Mul
+chain_op chains.Divide = ops.Binary Div
+chain_op chains.Remainder = ops.Binary Rem
 
 -- one more operand
 unfoldable pub linked_term : Level → Place → ChainOperator → Shape → Term → Act Term
@@ -221,7 +225,7 @@ count_term l at a e = do
 
 -- a function of terms; a checked program asks no other here
 abbrev pub builtin_node : Place → Builtin → List Term → Act Term
-builtin_node at builtins.Abs ts = node_form at ops.Abs ts
+builtin_node at builtins.Abs ts = node_form at (ops.Unary Abs) ts
 builtin_node at builtins.Min ts = node_form at ops.Least ts
 builtin_node at builtins.Max ts = node_form at ops.Greatest ts
 builtin_node at builtins.Card ts = node_form at ops.Card ts

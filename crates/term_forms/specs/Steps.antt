@@ -2,7 +2,7 @@
 use Rattle.std.specs.Prelude.{ℕ, zero, suc, ℤ, List, [], ◌∷◌, ◌++◌, length}
 use Rattle.cbl_base.specs.declared.place.Place.{Place}
 use Rattle.cbl_operations.specs.declared.op.Op.{Op}
-use Rattle.cbl_operations.specs.declared.op.Op.TheVariants.{Count, Element2}
+use Rattle.cbl_operations.specs.declared.op.Op.TheVariants.{Binary, Count, Element2, Unary}
 use Rattle.term_model.specs.declared.term.Term.{Term}
 use Rattle.comet_syntax.specs.declared.tree.expressions.ChainOperator.{ChainOperator}
 use Rattle.comet_syntax.specs.declared.tree.expressions.Comparison.{Comparison}
@@ -19,11 +19,11 @@ use Rattle.comet_meaning.specs.Values.{Bounds, size_of}
 
 -- `-e` and `!e`
 abbrev pub unary_node : Place → UnaryOperator → Term → Act Term
-unary_node at o t = node_form at (unary_op o) (t ∷ [])
+unary_node at o t = node_form at (Unary (unary_op o)) (t ∷ [])
 
 -- `a == b` and its like
 abbrev pub compared : Place → Comparison → Term → Term → Act Term
-compared at c t u = node_form at (comparison_op c) (sides c t u)
+compared at c t u = node_form at (Binary (comparison_op c)) (sides c t u)
 
 -- a chain so far with one more operand
 abbrev pub joined : Place → ChainOperator → Term → Term → Act Term

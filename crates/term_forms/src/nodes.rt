@@ -18,7 +18,7 @@ ghost use Rattle.run_values.specs.declared.stop.Stop.TheVariants.{NoMemory};
 ghost use Rattle.term_forms.specs.Steps.{called_node, compared, count_node, element_node, grid_node, joined, picked, picked_twice, plane_op, unary_node};
 
 use cbl_base::{Place, RunFault};
-use cbl_operations::Op;
+use cbl_operations::{BinaryOp, Op, UnaryOp};
 use checked_tree::Builtin;
 use comet_syntax::tree::{ChainOperator, Comparison, UnaryOperator};
 use expression_forms::solvers_of_runs::Built;
@@ -114,17 +114,17 @@ pub fn unary_of(
 {
     match operand {
         Err(stop) => Err(stop),
-        Ok(operand) => node_of_one(alloc, at, unary_operation(operator), operand),
+        Ok(operand) => node_of_one(alloc, at, Op::Unary(unary_operation(operator)), operand),
     }
 }
 
 /// The operation of an operator.
-fn unary_operation(operator: UnaryOperator) -> Op
+fn unary_operation(operator: UnaryOperator) -> UnaryOp
     ensures { result ≡ unary_op operator }
 {
     match operator {
-        UnaryOperator::Negative => Op::Neg,
-        UnaryOperator::Not => Op::Not,
+        UnaryOperator::Negative => UnaryOp::Neg,
+        UnaryOperator::Not => UnaryOp::Not,
     }
 }
 
@@ -140,12 +140,12 @@ fn comparison_of(
         Does (λ t. t) result s (compared at comparison left right s) }
 {
     match comparison {
-        Comparison::Equal => node_of_two(alloc, at, Op::Eq, left, right),
-        Comparison::NotEqual => node_of_two(alloc, at, Op::Ne, left, right),
-        Comparison::Less => node_of_two(alloc, at, Op::Lt, left, right),
-        Comparison::LessEqual => node_of_two(alloc, at, Op::Le, left, right),
-        Comparison::Greater => node_of_two(alloc, at, Op::Lt, right, left),
-        Comparison::GreaterEqual => node_of_two(alloc, at, Op::Le, right, left),
+        Comparison::Equal => node_of_two(alloc, at, Op::Binary(BinaryOp::Eq), left, right),
+        Comparison::NotEqual => node_of_two(alloc, at, Op::Binary(BinaryOp::Ne), left, right),
+        Comparison::Less => node_of_two(alloc, at, Op::Binary(BinaryOp::Lt), left, right),
+        Comparison::LessEqual => node_of_two(alloc, at, Op::Binary(BinaryOp::Le), left, right),
+        Comparison::Greater => node_of_two(alloc, at, Op::Binary(BinaryOp::Lt), right, left),
+        Comparison::GreaterEqual => node_of_two(alloc, at, Op::Binary(BinaryOp::Le), right, left),
     }
 }
 
@@ -173,11 +173,11 @@ fn chain_operation(operator: ChainOperator) -> Op
     match operator {
         ChainOperator::Or => Op::Or,
         ChainOperator::And => Op::And,
-        ChainOperator::Add => Op::Add,
-        ChainOperator::Subtract => Op::Sub,
-        ChainOperator::Multiply => Op::Mul,
-        ChainOperator::Divide => Op::Div,
-        ChainOperator::Remainder => Op::Rem,
+        ChainOperator::Add => Op::Binary(BinaryOp::Add),
+        ChainOperator::Subtract => Op::Binary(BinaryOp::Sub),
+        ChainOperator::Multiply => Op::Binary(BinaryOp::Mul),
+        ChainOperator::Divide => Op::Binary(BinaryOp::Div),
+        ChainOperator::Remainder => Op::Binary(BinaryOp::Rem),
     }
 }
 
@@ -451,7 +451,7 @@ fn function_of(at: Place, function: Builtin, terms: Vec<Built>) -> Result<Built,
         Does (λ t. t) result s (forms.builtin_node at function terms.items s) }
 {
     match function {
-        Builtin::Abs => node_of(at, Op::Abs, terms),
+        Builtin::Abs => node_of(at, Op::Unary(UnaryOp::Abs), terms),
         Builtin::Min => node_of(at, Op::Least, terms),
         Builtin::Max => node_of(at, Op::Greatest, terms),
         Builtin::Card => node_of(at, Op::Card, terms),
