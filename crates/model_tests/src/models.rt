@@ -3,7 +3,8 @@ use cbl_base::{IntSet, NoMemory, Place, VarId};
 use std::alloc::Global;
 use std::test::*;
 use term_model::{
-    Definition, Member, Model, Op, Posted, Term, Total, VarDecl, VarKind, is_usable, kind_within,
+    BinaryOp, Definition, Member, Model, Op, Posted, Term, Total, VarDecl, VarKind, is_usable,
+    kind_within,
 };
 
 const NOWHERE: Place = Place { line: 1, col: 1 };
@@ -144,15 +145,25 @@ fn kinds_of_terms(rt: HostRuntime) -> Result<(), Fail> {
     let alloc = rt.alloc();
     let model = model_of(alloc, 1)?;
     for (op, first, second, wanted) in [
-        (Op::Add, var(0), Term::Const(1), Some(VarKind::Number)),
+        (
+            Op::Binary(BinaryOp::Add),
+            var(0),
+            Term::Const(1),
+            Some(VarKind::Number),
+        ),
         (
             Op::Union,
             Term::ConstSet(IntSet::new(alloc)),
             Term::ConstSet(IntSet::new(alloc)),
             Some(VarKind::Set),
         ),
-        (Op::Add, var(0), Term::ConstSet(IntSet::new(alloc)), None),
-        (Op::Add, var(0), var(1), None),
+        (
+            Op::Binary(BinaryOp::Add),
+            var(0),
+            Term::ConstSet(IntSet::new(alloc)),
+            None,
+        ),
+        (Op::Binary(BinaryOp::Add), var(0), var(1), None),
     ] {
         let mut args = Vec::new(alloc);
         args.push(first)?;

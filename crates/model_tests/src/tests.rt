@@ -1,6 +1,6 @@
 //! Models that are built and asked, with the values that the language's description gives.
 use cbl_base::{NoMemory, Place, RunFault, VarId};
-use cbl_operations::Op;
+use cbl_operations::{BinaryOp, Op};
 use model_values::{AskStop, ModelStop, Move, NoUsers, Whole, delta, fresh};
 use std::alloc::Global;
 use std::process::Abort;
@@ -124,7 +124,13 @@ fn queens(alloc: Global) -> Result<Model, NoMemory> {
             (2, slope + slope),
             (3, slope + slope + slope),
         ] {
-            args.push(node(alloc, Op::Add, var(index), Term::Const(shift), 5)?)?;
+            args.push(node(
+                alloc,
+                Op::Binary(BinaryOp::Add),
+                var(index),
+                Term::Const(shift),
+                5,
+            )?)?;
         }
         let term = Term::Node {
             op: Op::AllDifferent,
@@ -316,7 +322,7 @@ fn a_weight_multiplies(rt: HostRuntime) -> Result<(), Fail> {
 fn the_delta_of_a_square(rt: HostRuntime) -> Result<(), Fail> {
     let alloc = rt.alloc();
     let mut model = model_of(alloc, 1)?;
-    let square = node(alloc, Op::Mul, var(0), var(0), 3)?;
+    let square = node(alloc, Op::Binary(BinaryOp::Mul), var(0), var(0), 3)?;
     add_part(&mut model, 0, square)?;
     let asked = ask(&rt, alloc, &model);
     asked.objective(&[3], Ok(9));
@@ -355,8 +361,8 @@ fn an_element_out_of_range_after_a_move(rt: HostRuntime) -> Result<(), Fail> {
 fn a_partial_sum_that_does_not_fit(rt: HostRuntime) -> Result<(), Fail> {
     let alloc = rt.alloc();
     let mut model = model_of(alloc, 2)?;
-    let sum = node(alloc, Op::Add, var(0), var(0), 19)?;
-    let term = node(alloc, Op::Sub, sum, var(0), 21)?;
+    let sum = node(alloc, Op::Binary(BinaryOp::Add), var(0), var(0), 19)?;
+    let term = node(alloc, Op::Binary(BinaryOp::Sub), sum, var(0), 21)?;
     define(&mut model, 1, term)?;
     post(&mut model, Posted::Define(0))?;
     let stop = ModelStop::Fault(at(19), RunFault::Overflow);
@@ -399,7 +405,13 @@ fn definitions_used_before_their_declaration(rt: HostRuntime) -> Result<(), Fail
     for index in 0..count {
         assignment.push(0)?;
         if index + 1 < count {
-            let term = node(alloc, Op::Add, var(index + 1), Term::Const(1), 5)?;
+            let term = node(
+                alloc,
+                Op::Binary(BinaryOp::Add),
+                var(index + 1),
+                Term::Const(1),
+                5,
+            )?;
             define(&mut model, index, term)?;
             post(&mut model, Posted::Define(index))?;
         }
@@ -436,7 +448,7 @@ fn violations_through_a_definition(rt: HostRuntime) -> Result<(), Fail> {
 fn a_fault_of_another_system(rt: HostRuntime) -> Result<(), Fail> {
     let alloc = rt.alloc();
     let mut model = model_of(alloc, 1)?;
-    let sum = node(alloc, Op::Add, var(0), var(0), 3)?;
+    let sum = node(alloc, Op::Binary(BinaryOp::Add), var(0), var(0), 3)?;
     let zero = node(alloc, Op::ViolEq, sum, Term::Const(0), 5)?;
     constrain(&mut model, 0, zero, 1)?;
     let term = node(alloc, Op::ViolLe, var(0), Term::Const(1), 9)?;
@@ -461,10 +473,10 @@ fn a_subterm_that_was_posted_to_another_system(rt: HostRuntime) -> Result<(), Fa
     let cell = cell_of(alloc, bracket)?;
     let most = node(alloc, Op::ViolLe, cell, Term::Const(90), 12)?;
     constrain(&mut model, 0, most, 1)?;
-    let rest = node(alloc, Op::Sub, Term::Const(4), var(0), 51)?;
-    let part = node(alloc, Op::Div, Term::Const(12), rest, 50)?;
+    let rest = node(alloc, Op::Binary(BinaryOp::Sub), Term::Const(4), var(0), 51)?;
+    let part = node(alloc, Op::Binary(BinaryOp::Div), Term::Const(12), rest, 50)?;
     let again = cell_of(alloc, Place { line: 5, col: 60 })?;
-    let sum = node(alloc, Op::Add, part, again, 55)?;
+    let sum = node(alloc, Op::Binary(BinaryOp::Add), part, again, 55)?;
     let term = node(alloc, Op::ViolLe, sum, Term::Const(20), 65)?;
     constrain_second(alloc, &mut model, term)?;
     let change = Move::Assign { var: 0, value: 4 };

@@ -9,7 +9,7 @@ use std::alloc::Global;
 use std::marker::Brand;
 use std::sync::ledger::{Blank, Ledger};
 use std::test::*;
-use term_model::{Op, Term, VarKind};
+use term_model::{BinaryOp, Op, Term, VarKind};
 use user_constraint::{LocalConstraint, UserConstraint};
 
 const NOWHERE: Place = Place { line: 1, col: 1 };
@@ -66,19 +66,25 @@ fn twice(alloc: Global, op: Op, place: Place, x: VarId) -> Result<Term, Fail> {
 fn chain(alloc: Global, x: VarId, operands: u32) -> Result<Term, Fail> {
     let mut sum = Term::Var(x);
     for _operand in 1..operands {
-        sum = binary(alloc, Op::Add, NOWHERE, sum, Term::Var(x))?;
+        sum = binary(alloc, Op::Binary(BinaryOp::Add), NOWHERE, sum, Term::Var(x))?;
     }
     Ok(sum)
 }
 
 fn square_and_one(alloc: Global, x: VarId) -> Result<Term, Fail> {
-    let square = twice(alloc, Op::Mul, NOWHERE, x)?;
-    binary(alloc, Op::Add, NOWHERE, square, Term::Const(1))
+    let square = twice(alloc, Op::Binary(BinaryOp::Mul), NOWHERE, x)?;
+    binary(
+        alloc,
+        Op::Binary(BinaryOp::Add),
+        NOWHERE,
+        square,
+        Term::Const(1),
+    )
 }
 
 fn twice_less_once(alloc: Global, x: VarId) -> Result<Term, Fail> {
-    let sum = twice(alloc, Op::Add, SUM, x)?;
-    binary(alloc, Op::Sub, NOWHERE, sum, Term::Var(x))
+    let sum = twice(alloc, Op::Binary(BinaryOp::Add), SUM, x)?;
+    binary(alloc, Op::Binary(BinaryOp::Sub), NOWHERE, sum, Term::Var(x))
 }
 
 fn term_of(alloc: Global, shape: Shape) -> Result<Term, Fail> {
@@ -86,7 +92,13 @@ fn term_of(alloc: Global, shape: Shape) -> Result<Term, Fail> {
         Shape::Number(number) => Ok(Term::Const(number)),
         Shape::Variable(x) => Ok(Term::Var(x)),
         Shape::SquareAndOne(x) => square_and_one(alloc, x),
-        Shape::Next(x) => binary(alloc, Op::Add, NOWHERE, Term::Var(x), Term::Const(1)),
+        Shape::Next(x) => binary(
+            alloc,
+            Op::Binary(BinaryOp::Add),
+            NOWHERE,
+            Term::Var(x),
+            Term::Const(1),
+        ),
         Shape::TwiceLessOnce(x) => twice_less_once(alloc, x),
         Shape::Chain(x, operands) => chain(alloc, x, operands),
     }

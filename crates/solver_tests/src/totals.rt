@@ -7,7 +7,7 @@ use std::alloc::Global;
 use std::marker::Brand;
 use std::sync::ledger::{Blank, Ledger};
 use std::test::*;
-use term_model::{Op, Term};
+use term_model::{BinaryOp, Op, Term};
 use user_constraint::{LocalConstraint, UserConstraint};
 
 const SOLVER: u32 = 4;
@@ -101,7 +101,13 @@ fn different(alloc: Global, step: i64) -> Result<Term, Fail> {
     let mut args = Vec::new(alloc);
     for index in 0..4 {
         let offset = Term::Const(step.wrapping_mul(i64::from(index) + 1));
-        args.push(node(alloc, Op::Add, NOWHERE, queen(index), offset)?)?;
+        args.push(node(
+            alloc,
+            Op::Binary(BinaryOp::Add),
+            NOWHERE,
+            queen(index),
+            offset,
+        )?)?;
     }
     Ok(Term::Node {
         op: Op::AllDifferent,
@@ -132,9 +138,27 @@ fn joined(alloc: Global, op: Op, five: i64, one: i64) -> Result<Term, Fail> {
 }
 
 fn quotient_and_cell(alloc: Global) -> Result<Term, Fail> {
-    let below = node(alloc, Op::Sub, AGAIN, Term::Const(4), Term::Var(X))?;
-    let quotient = node(alloc, Op::Div, QUOTIENT, Term::Const(12), below)?;
-    let sum = node(alloc, Op::Add, AGAIN, quotient, cell(alloc, AGAIN)?)?;
+    let below = node(
+        alloc,
+        Op::Binary(BinaryOp::Sub),
+        AGAIN,
+        Term::Const(4),
+        Term::Var(X),
+    )?;
+    let quotient = node(
+        alloc,
+        Op::Binary(BinaryOp::Div),
+        QUOTIENT,
+        Term::Const(12),
+        below,
+    )?;
+    let sum = node(
+        alloc,
+        Op::Binary(BinaryOp::Add),
+        AGAIN,
+        quotient,
+        cell(alloc, AGAIN)?,
+    )?;
     node(alloc, Op::ViolLe, AGAIN, sum, Term::Const(20))
 }
 
@@ -144,7 +168,13 @@ fn term_of(alloc: Global, shape: Shape) -> Result<Term, Fail> {
         Shape::FourAndNone => joined(alloc, Op::AllOf, 4, 0),
         Shape::FiveOrOne => joined(alloc, Op::AnyOf, 5, 1),
         Shape::AtMostTwenty => against(alloc, Op::ViolLe, Y, 20),
-        Shape::Square => node(alloc, Op::Mul, NOWHERE, Term::Var(X), Term::Var(X)),
+        Shape::Square => node(
+            alloc,
+            Op::Binary(BinaryOp::Mul),
+            NOWHERE,
+            Term::Var(X),
+            Term::Var(X),
+        ),
         Shape::Cell(place) => cell(alloc, place),
         Shape::CellAtMost(place) => {
             let cell = cell(alloc, place)?;

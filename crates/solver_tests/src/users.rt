@@ -13,7 +13,7 @@ use std::alloc::Global;
 use std::sync::Arc;
 use std::sync::atomic::{AtomicU64, Ordering};
 use std::test::*;
-use term_model::{Op, Term, VarKind};
+use term_model::{BinaryOp, Op, Term, VarKind};
 use user_constraint::{LocalConstraint, UserConstraint};
 
 const NOWHERE: Place = Place { line: 1, col: 1 };
@@ -231,7 +231,7 @@ fn sum_of(alloc: Global, sum: Sum) -> Result<Term, Fail> {
     }
     let args = vec![in alloc; Term::Var(sum.var), Term::Const(sum.number)]?;
     Ok(Term::Node {
-        op: Op::Add,
+        op: Op::Binary(BinaryOp::Add),
         args,
         place: NOWHERE,
     })
