@@ -11,7 +11,7 @@ mod junction;
 mod sum;
 mod unary;
 
-pub use binary::{Binary, BinaryOperation};
+pub use binary::Binary;
 pub use junction::{Junction, JunctionKind};
 pub use sum::Sum;
-pub use unary::{Unary, UnaryOperation};
+pub use unary::Unary;

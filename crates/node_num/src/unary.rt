@@ -1,28 +1,21 @@
-//! Operations on one number.
-ghost use Rattle.std.specs.Prelude.{◌≡◌, ◌∷◌, []};
-ghost use Rattle.node_num.specs.UnaryRules.{rule_of_unary};
+//! The node of an operation on one number.
+ghost use Rattle.std.specs.Prelude.{◌≡◌};
+ghost use Rattle.cbl_operations.specs.Unary.{rule_of_unary};
 
 use cbl_base::{NoMemory, NodeFault, RunFault};
+use cbl_operations::UnaryOp;
 use node_base::{NumberChange, NumberNode, probe_answer};
 
-/// An operation on one number.
-#[derive(Clone, Copy, PartialEq, Eq, Debug)]
-pub enum UnaryOperation {
-    Neg,
-    Abs,
-    Not,
-}
-
-/// A node that computes such an operation.
+/// A node that computes an operation on one number.
 #[derive(Drop)]
 pub struct Unary {
-    operation: UnaryOperation,
+    operation: UnaryOp,
     operands: [i64; 1],
 }
 
 impl Unary {
     /// A node with the rule of this operation.
-    pub fn new(operation: UnaryOperation) -> Unary
+    pub fn new(operation: UnaryOp) -> Unary
         ensures rule { ⟦<Unary as NumberNode>⟧.number_rule result ≡ rule_of_unary operation }
     {
         Unary {
@@ -33,7 +26,7 @@ impl Unary {
 }
 
 impl NumberNode for Unary {
-    ghost use Rattle.node_num.specs.UnaryRules.{rule_of_unary};
+    ghost use Rattle.cbl_operations.specs.Unary.{rule_of_unary};
 
     ghost number_rule = { λ s. rule_of_unary s.operation };
 
@@ -56,25 +49,14 @@ impl NumberNode for Unary {
         for change in changes {
             operands[change.place] = change.new;
         }
-        probe_answer(unary_value(self.operation, operands[0]))
+        probe_answer(self.operation.value(operands[0]))
     }
 
     fn value(&self) -> Result<i64, RunFault> {
-        unary_value(self.operation, self.operands[0])
+        self.operation.value(self.operands[0])
     }
 
     fn place_violation(&self, _place: usize) -> i64 {
         0
-    }
-}
-
-/// The operation's value of a number, or its fault.
-fn unary_value(operation: UnaryOperation, operand: i64) -> Result<i64, RunFault>
-    ensures { result ≡ (rule_of_unary operation).value (operand ∷ []) }
-{
-    match operation {
-        UnaryOperation::Neg => operand.checked_neg().ok_or(RunFault::Overflow),
-        UnaryOperation::Abs => operand.checked_abs().ok_or(RunFault::Overflow),
-        UnaryOperation::Not => Ok(i64::from(operand == 0)),
     }
 }

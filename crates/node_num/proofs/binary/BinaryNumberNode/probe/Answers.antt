@@ -3,7 +3,7 @@ use Rattle.std.specs.Prelude.{FitsSigned, pos}
 use Rattle.std.proofs.lemmas.Int.{to_z-of_z}
 use Rattle.std.proofs.lemmas.List.{take_all}
 use Rattle.node_base.specs.NumberChanges.{after_number_changes}
-use Rattle.node_num.specs.BinaryRules.{rule_of_binary}
+use Rattle.cbl_operations.specs.Binary.{rule_of_binary}
 use Rattle.node_num.proofs.Operands.{two_numbers}
 use Rattle.node_base.proofs.ChangeLemmas.{no_change, number_within, number_first, length-after_numbers, value_answers}
 use Rattle.node_num.proofs.binary.BinaryNumberNode.probe.Goals as goal
@@ -30,4 +30,4 @@ returns c =
     c.loop-change.invariant ∙ ap (after_number_changes c.args.self.now.operands) (take_all c.loop-change.change-index c.args.changes.now c.loop-change-test.false) in
     let long : length ys ≡ 2 = ap length after ∙ length-after_numbers c.args.self.now.operands c.args.changes.now ∙ two in
     let rule = rule_of_binary c.args.self.now.operation in
-    value_answers _ _ _ ((simp (to_z-of_z w64 (get_or ys 0 (pos 0)) first, to_z-of_z w64 (get_or ys 1 (pos 0)) second) at c.binary_value.ensures) ∙ ap rule.value (two_numbers ys (pos 0) (pos 0) long ∙ after)) c.probe_answer.ensures
+    value_answers _ _ _ ((simp (to_z-of_z w64 (get_or ys 0 (pos 0)) first, to_z-of_z w64 (get_or ys 1 (pos 0)) second) at c.value.ensures) ∙ ap rule.value (two_numbers ys (pos 0) (pos 0) long ∙ after)) c.probe_answer.ensures
