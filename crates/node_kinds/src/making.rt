@@ -7,14 +7,14 @@ ghost use Rattle.cbl_violations.specs.Violations.MultiKnapsack.{multi_knapsack};
 ghost use Rattle.cbl_violations.specs.Violations.Repeat.{repeat};
 ghost use Rattle.cbl_violations.specs.Violations.Sequence.{sequence};
 ghost use Rattle.cbl_violations.specs.Violations.WeightedTotal.{weighted_total};
+ghost use Rattle.cbl_operations.specs.Binary.{rule_of_binary};
 ghost use Rattle.cbl_operations.specs.Operations.ArgMax.{arg_max};
 ghost use Rattle.cbl_operations.specs.Operations.ArgMin.{arg_min};
 ghost use Rattle.cbl_operations.specs.Operations.SetOf.{set_of_ones};
 ghost use Rattle.cbl_operations.specs.RuleOf.{rule_of, is_constraint};
+ghost use Rattle.cbl_operations.specs.Unary.{rule_of_unary};
 ghost use Rattle.diff_global.specs.CardinalityRules.{rule_of_cardinality};
-ghost use Rattle.node_num.specs.BinaryRules.{rule_of_binary};
 ghost use Rattle.node_num.specs.JunctionRules.{rule_of_junction};
-ghost use Rattle.node_num.specs.UnaryRules.{rule_of_unary};
 ghost use Rattle.node_kinds.specs.ConstantRule.{rule_of_constant};
 ghost use Rattle.node_kinds.specs.OpNodes.{has_sets, is_user, users_of};
 
@@ -24,13 +24,13 @@ use crate::copying::copy_of_set;
 use crate::kind::KindOf;
 use crate::operation_kind::OperationKind;
 use cbl_base::{IntSet, NoMemory, NodeRule, NodeValue, Numbers};
-use cbl_operations::Op;
+use cbl_operations::{BinaryOp, Op, UnaryOp};
 use diff_comb::{AllOf, AnyOf, OfOne, Relation, WeightedTotal};
 use diff_global::{AllDifferent, Cardinality, Demand};
 use diff_load_seq::{Knapsack, MultiKnapsack, Sequence};
 use node_base::{NumberNode, OverNumbers};
 use node_count::{Count, Element, Element2};
-use node_num::{Binary, BinaryOperation, Junction, JunctionKind, Sum, Unary, UnaryOperation};
+use node_num::{Binary, Junction, JunctionKind, Sum, Unary};
 use node_order::{ArgExtreme, Greatest, Least};
 use node_set::{Card, Member, SetOf, TwoSets};
 use std::alloc::Global;
@@ -99,18 +99,8 @@ impl<U: UserConstraint> KindOf<U> {
         ensures { ⟦<KindOf<U> as NodeRule>⟧.rule result ≡ rule_of (users_of None) op.now }
     {
         match op {
-            Op::Add => KindOf::binary(alloc, BinaryOperation::Add),
-            Op::Sub => KindOf::binary(alloc, BinaryOperation::Sub),
-            Op::Mul => KindOf::binary(alloc, BinaryOperation::Mul),
-            Op::Div => KindOf::binary(alloc, BinaryOperation::Div),
-            Op::Rem => KindOf::binary(alloc, BinaryOperation::Rem),
-            Op::Eq => KindOf::binary(alloc, BinaryOperation::Eq),
-            Op::Ne => KindOf::binary(alloc, BinaryOperation::Ne),
-            Op::Le => KindOf::binary(alloc, BinaryOperation::Le),
-            Op::Lt => KindOf::binary(alloc, BinaryOperation::Lt),
-            Op::Neg => KindOf::unary(alloc, UnaryOperation::Neg),
-            Op::Abs => KindOf::unary(alloc, UnaryOperation::Abs),
-            Op::Not => KindOf::unary(alloc, UnaryOperation::Not),
+            Op::Unary(op) => KindOf::unary(alloc, *op),
+            Op::Binary(op) => KindOf::binary(alloc, *op),
             Op::And => KindOf::junction(alloc, JunctionKind::And),
             Op::Or => KindOf::junction(alloc, JunctionKind::Or),
             Op::Least => KindOf::operation(alloc, OperationKind::Least(Least::new(alloc))),
@@ -211,7 +201,7 @@ impl<U: UserConstraint> KindOf<U> {
     }
 
     /// The node of an operation on two numbers.
-    fn binary(alloc: Global, operation: BinaryOperation) -> KindOf<U>
+    fn binary(alloc: Global, operation: BinaryOp) -> KindOf<U>
         ensures { ⟦<KindOf<U> as NodeRule>⟧.rule result ≡
             rule_of_numbers (rule_of_binary operation) }
     {
@@ -219,7 +209,7 @@ impl<U: UserConstraint> KindOf<U> {
     }
 
     /// The node of an operation on one number.
-    fn unary(alloc: Global, operation: UnaryOperation) -> KindOf<U>
+    fn unary(alloc: Global, operation: UnaryOp) -> KindOf<U>
         ensures { ⟦<KindOf<U> as NodeRule>⟧.rule result ≡
             rule_of_numbers (rule_of_unary operation) }
     {
