@@ -6,11 +6,10 @@ use Rattle.cbl_base.specs.NodeLaw.{Rule}
 use Rattle.cbl_base.specs.NumberRule.{NumberRule, rule_of_numbers}
 use Rattle.cbl_base.specs.declared.ids.VarId.{VarId}
 use Rattle.cbl_violations.specs.Violations.AllDifferent.{all_different}
-use Rattle.cbl_operations.specs.Operations.Add.{add}
-use Rattle.cbl_operations.specs.Operations.Sub.{sub}
+use Rattle.cbl_operations.specs.Binary.{rule_of_binary}
 use Rattle.cbl_operations.specs.Operations.Sum.{sum}
+use Rattle.cbl_operations.specs.declared.binary.BinaryOp.TheVariants.{Add, Sub}
 use Rattle.node_base.specs.declared.over_numbers.OverNumbers.{OverNumbers}
-use Rattle.node_num.specs.BinaryRules.{rule_of_binary}
 use Rattle.diff_global.specs.NumberRules.{all_different_rule}
 use Rattle.store_turns.specs.Meaning.{Graph}
 use Rattle.store_build.specs.Lists.{list_in}
@@ -21,8 +20,8 @@ use Rattle.bench_store.specs.declared.pieces.Piece.{Piece}
 use Rattle.bench_store.specs.declared.pieces.Piece.TheVariants.{Binary, AllDifferent, Sum}
 
 abbrev pub rule_of_part : Part → Rule
-rule_of_part Plus = rule_of_numbers add
-rule_of_part Minus = rule_of_numbers sub
+rule_of_part Plus = rule_of_numbers (rule_of_binary Add)
+rule_of_part Minus = rule_of_numbers (rule_of_binary Sub)
 rule_of_part Differing = all_different
 rule_of_part Total = rule_of_numbers sum
 

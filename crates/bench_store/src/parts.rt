@@ -4,9 +4,10 @@ ghost use Rattle.bench_store.specs.Parts.{rule_of_node, rule_of_part, taken_by};
 
 use crate::pieces::Piece;
 use cbl_base::NoMemory;
+use cbl_operations::BinaryOp;
 use diff_global::AllDifferent;
 use node_base::OverNumbers;
-use node_num::{Binary, BinaryOperation, Sum};
+use node_num::{Binary, Sum};
 use std::alloc::Global;
 
 /// What a node of queens is.
@@ -23,8 +24,8 @@ fn node_of(alloc: Global, part: Part) -> OverNumbers<Piece>
     ensures { rule_of_node result ≡ rule_of_part part }
 {
     let piece = match part {
-        Part::Plus => Piece::Binary(Binary::new(BinaryOperation::Add)),
-        Part::Minus => Piece::Binary(Binary::new(BinaryOperation::Sub)),
+        Part::Plus => Piece::Binary(Binary::new(BinaryOp::Add)),
+        Part::Minus => Piece::Binary(Binary::new(BinaryOp::Sub)),
         Part::AllDifferent => Piece::AllDifferent(AllDifferent::new(alloc)),
         Part::Total => Piece::Sum(Sum::new(alloc)),
     };
