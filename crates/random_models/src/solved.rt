@@ -3,7 +3,7 @@ use crate::drawn::{Drawn, Kind, Step, index_of};
 use crate::draws::Draws;
 use crate::plain::{Answer, comes_to, place_of};
 use cbl_base::{NoMemory, VarId};
-use cbl_operations::Op;
+use cbl_operations::{BinaryOp, Op, UnaryOp};
 use ls_events::VarChange;
 use ls_solver::{Solver, SolverFault};
 use std::alloc::Global;
@@ -35,20 +35,20 @@ fn id(index: u32) -> VarId {
 
 fn op_of(kind: Kind) -> Op {
     match kind {
-        Kind::Add => Op::Add,
-        Kind::Subtract => Op::Sub,
-        Kind::Multiply => Op::Mul,
-        Kind::Divide => Op::Div,
-        Kind::Remainder => Op::Rem,
-        Kind::Negate => Op::Neg,
-        Kind::Absolute => Op::Abs,
+        Kind::Add => Op::Binary(BinaryOp::Add),
+        Kind::Subtract => Op::Binary(BinaryOp::Sub),
+        Kind::Multiply => Op::Binary(BinaryOp::Mul),
+        Kind::Divide => Op::Binary(BinaryOp::Div),
+        Kind::Remainder => Op::Binary(BinaryOp::Rem),
+        Kind::Negate => Op::Unary(UnaryOp::Neg),
+        Kind::Absolute => Op::Unary(UnaryOp::Abs),
         Kind::Least => Op::Least,
         Kind::Greatest => Op::Greatest,
         Kind::Sum => Op::Sum,
-        Kind::Equal => Op::Eq,
-        Kind::Unequal => Op::Ne,
-        Kind::AtMost => Op::Le,
-        Kind::Below => Op::Lt,
+        Kind::Equal => Op::Binary(BinaryOp::Eq),
+        Kind::Unequal => Op::Binary(BinaryOp::Ne),
+        Kind::AtMost => Op::Binary(BinaryOp::Le),
+        Kind::Below => Op::Binary(BinaryOp::Lt),
         Kind::Cell => Op::Element { low: 0, len: 2 },
     }
 }
