@@ -1,9 +1,8 @@
 //! What expressions are.
-ghost use Rattle.std.specs.Prelude.{◌≡◌, false, [], ◌∷◌, map, option_map, Option};
+ghost use Rattle.std.specs.Prelude.{◌≡◌, [], ◌∷◌, map, option_map, Option};
 ghost use Rattle.tree_makers.specs.Makes.{Makes};
 ghost use Rattle.checked_tree.specs.Shape as shapes;
 ghost use Rattle.checked_tree.specs.Shape.{shape_of, shape_of_link, shape_of_generator, seen};
-ghost use Rattle.checked_tree.specs.declared.kind.Kind.TheVariants as kind;
 ghost use Rattle.type_rules.specs.Rules as rules;
 ghost use Rattle.type_scopes.specs.Did.{Did};
 ghost use Rattle.type_scopes.specs.State as acts;
@@ -12,9 +11,10 @@ ghost use Rattle.type_expressions.specs.Expressions as expressions;
 ghost use Rattle.type_expressions.specs.Expressions.{judge, judge_link, judge_argument, judge_suffix, judge_generator, judge_generators};
 ghost use Rattle.type_expressions.specs.View.{front_of, values_of, generators_of};
 
+use crate::leaves::{check_name, check_number, check_truth};
 use cbl_base::{Place, Text};
 use checked_tree::{
-    Builtin, Cause, Generator as CheckedGenerator, Kind, Link as CheckedLink, Slot, Stop, Typed,
+    Builtin, Cause, Generator as CheckedGenerator, Kind, Link as CheckedLink, Stop, Typed,
 };
 use comet_syntax::tree::{
     Aggregate, Argument, ChainOperator, Comparison, Expression, Extreme, Generator, Generators,
@@ -24,97 +24,18 @@ use std::alloc::Global;
 use tree_makers::kept::{behind, beside, pushed};
 use tree_makers::make_expressions::{
     make_aggregate, make_builtin, make_cell, make_chain, make_compare, make_conditional,
-    make_generator, make_index, make_link, make_list, make_name, make_number, make_parentheses,
-    make_range, make_set, make_text, make_truth, make_unary,
+    make_generator, make_index, make_link, make_list, make_parentheses, make_range, make_set,
+    make_text, make_unary,
 };
 use type_calls::{all_numbers, any_moving, called, first_context, made, method_called, note_of};
-use type_rules::kinds::{is_incremental, is_same};
 use type_rules::rows::method_named;
 use type_rules::rules::{
     aggregate_rule, chain_rule, compare_rule, conditional_rule, extreme_rule, generator_rule,
-    grid_rule, index_rule, inner, inside, is_joining, is_logical, is_term, list_rule, made_pure,
-    parentheses_rule, range_rule, set_rule, unary_rule, with_moving,
+    grid_rule, index_rule, inner, inside, is_joining, is_logical, list_rule, made_pure,
+    parentheses_rule, range_rule, set_rule, unary_rule,
 };
 use type_rules::{Context, Note};
-use type_scopes::{Checker, Found, Scope};
-
-fn name_rule(context: Context, kind: Kind) -> Result<Note, Cause>
-    ensures { result ≡ expressions.name_rule context kind }
-{
-    if is_same(kind, Kind::Function) {
-        Err(Cause::WrongType)
-    } else {
-        with_moving(kind, is_term(context) && is_incremental(kind))
-    }
-}
-
-/// Notes an incremental variable that a term names.
-fn noted(checker: &mut Checker, slot: Slot, typed: Typed) -> Result<Typed, Stop>
-    ensures { Did seen result checker.new (expressions.noted slot (seen typed) checker.old) }
-{
-    if typed.moving {
-        let typed = behind(checker.name_in_term(slot), typed)?;
-        Ok(typed)
-    } else {
-        Ok(typed)
-    }
-}
-
-fn named(
-    checker: &mut Checker,
-    place: Place,
-    scope: Scope,
-    found: Option<Found>,
-) -> Result<Typed, Stop>
-    ensures { Did seen result checker.new (expressions.named place scope found checker.old) }
-{
-    match found {
-        None => Err(Stop::Fault(place, Cause::UnknownName)),
-        Some(found) => {
-            let slot = scope.slot_of(found.index);
-            let typed = made(
-                place,
-                place,
-                make_name(slot),
-                name_rule(scope.context, found.kind),
-            )?;
-            noted(checker, slot, typed)
-        }
-    }
-}
-
-/// What a name is.
-#[tactic(auto, unfolding(crate::specs::Expressions::name_form))]
-pub fn check_name(checker: &mut Checker, scope: Scope, name: &Name) -> Result<Typed, Stop>
-    ensures { Did seen result checker.new (expressions.name_form name.now scope checker.old) }
-{
-    let found = checker.look(name.text.as_slice());
-    named(checker, name.place, scope, found)
-}
-
-fn check_number(value: &i64, place: Place) -> Typed
-    ensures { seen result ≡ record { start = place; place = place; kind = kind.Int; moving = false; form = shapes.number value.now } }
-{
-    Typed {
-        start: place,
-        place,
-        kind: Kind::Int,
-        moving: false,
-        form: make_number(value),
-    }
-}
-
-fn check_truth(value: bool, place: Place) -> Typed
-    ensures { seen result ≡ record { start = place; place = place; kind = kind.Bool; moving = false; form = shapes.truth value } }
-{
-    Typed {
-        start: place,
-        place,
-        kind: Kind::Bool,
-        moving: false,
-        form: make_truth(value),
-    }
-}
+use type_scopes::{Checker, Scope};
 
 fn operand_context(operator: UnaryOperator, context: Context) -> Context
     ensures { result ≡ expressions.operand_context operator context }

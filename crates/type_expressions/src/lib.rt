@@ -5,7 +5,9 @@
 #![tactic(auto)]
 
 pub mod expressions;
+mod leaves;
 
 pub use expressions::{
-    check_arguments, check_condition, check_expression, check_name, condition_note, generated,
+    check_arguments, check_condition, check_expression, condition_note, generated,
 };
+pub use leaves::check_name;
