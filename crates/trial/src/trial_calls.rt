@@ -54,7 +54,7 @@ impl Trial {
     /// Only ids on which the target stands are followed: whatever the answer, the steps are at most four
     /// times what is touched among them. Where the store doesn't keep which these are, they are searched
     /// first, which makes no step, but looks at each of them, and at a byte for each id. `Store::build` keeps
-    /// them for targets that nothing uses, `Store::keep` for any other.
+    /// them for at most 64 targets that nothing uses, `Store::keep` for any other.
     pub fn probe<N: NodeRule, L: Ledger>(
         &mut self,
         store: &Store<N>,
