@@ -3,7 +3,7 @@
 use crate::int_set::IntSet;
 
 /// A number, or a set of numbers.
-#[derive(Drop, Debug)]
+#[derive(Clone, Drop, Debug)]
 pub enum Input {
     Int(i64),
     Set(IntSet),

@@ -7,7 +7,7 @@ use std::alloc::Global;
 use std::marker::Model;
 
 /// A set of 64-bit signed numbers, and seen as the list of its members, which rises.
-#[derive(Drop, Debug)]
+#[derive(Clone, Drop, Debug)]
 pub struct IntSet {
     members: Vec<i64>,
 }

@@ -6,7 +6,7 @@ use std::alloc::Global;
 use std::marker::Model;
 
 /// A list of 64-bit signed numbers, and seen as that list.
-#[derive(Drop, Debug)]
+#[derive(Clone, Drop, Debug)]
 pub struct Numbers {
     numbers: Vec<i64>,
 }

@@ -3,6 +3,7 @@ pub mod BelowLaws
 pub mod BoundLemmas
 pub mod CardinalityLaws
 pub mod CombinedLaws
+pub mod ConstraintNumbers
 pub mod FitLemmas
 pub mod IndexTotals
 pub mod KnapsackRun

@@ -1,4 +1,5 @@
 pub mod Bounds
+pub mod Constraints
 pub mod Fitting
 pub mod Pairs
 pub mod Violations

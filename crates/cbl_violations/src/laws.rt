@@ -5,7 +5,10 @@ ghost use Rattle.std.specs.Prelude.{◌≡◌, ◌≢◌, ◌↔◌, ◌+◌, �
 ghost use Rattle.std.specs.Ordering.{int_eq};
 ghost use Rattle.cbl_base.specs.Counts.{count_of};
 ghost use Rattle.cbl_base.specs.NodeLaw.{GivesOneKind};
+ghost use Rattle.cbl_base.specs.NumberRule.{rule_of_numbers};
 ghost use Rattle.cbl_violations.specs.Bounds.{EachBounded};
+ghost use Rattle.cbl_violations.specs.Constraints.{constraint_numbers, first_kept, second_kept};
+ghost use Rattle.cbl_violations.specs.declared.constraint.Constraint.{Constraint};
 ghost use Rattle.cbl_violations.specs.Pairs.{pair_total};
 ghost use Rattle.cbl_violations.specs.Violations.AllDifferent.{all_different, all_different_violations, all_different_violation_at};
 ghost use Rattle.cbl_violations.specs.Violations.Relations.{viol_eq, viol_ne, viol_le, viol_lt, of_two, at_each, eq_violations, ne_violations, le_violations, lt_violations};
@@ -27,7 +30,7 @@ pub fn eq_law()
     ensures never_negative { (a b z : ℤ) → eq_violations a b ≡ Ok z → pos 0 ≤ℤ z }
     ensures places { (xs : List ℤ) → of_two eq_violations xs ≡ Ok (pos 0) → (place : ℕ) →
         at_each eq_violations xs place ≡ pos 0 }
-    ensures one_kind { GivesOneKind viol_eq }
+    ensures one_kind { GivesOneKind (rule_of_numbers viol_eq) }
 {}
 
 /// `!=` has 0 violations exactly where the two differ.
@@ -36,7 +39,7 @@ pub fn ne_law()
     ensures never_negative { (a b z : ℤ) → ne_violations a b ≡ Ok z → pos 0 ≤ℤ z }
     ensures places { (xs : List ℤ) → of_two ne_violations xs ≡ Ok (pos 0) → (place : ℕ) →
         at_each ne_violations xs place ≡ pos 0 }
-    ensures one_kind { GivesOneKind viol_ne }
+    ensures one_kind { GivesOneKind (rule_of_numbers viol_ne) }
 {}
 
 /// `<=` has 0 violations exactly where the first is at most the second.
@@ -45,7 +48,7 @@ pub fn le_law()
     ensures never_negative { (a b z : ℤ) → le_violations a b ≡ Ok z → pos 0 ≤ℤ z }
     ensures places { (xs : List ℤ) → of_two le_violations xs ≡ Ok (pos 0) → (place : ℕ) →
         at_each le_violations xs place ≡ pos 0 }
-    ensures one_kind { GivesOneKind viol_le }
+    ensures one_kind { GivesOneKind (rule_of_numbers viol_le) }
 {}
 
 /// `<` has 0 violations exactly where the first is below the second.
@@ -54,7 +57,7 @@ pub fn lt_law()
     ensures never_negative { (a b z : ℤ) → lt_violations a b ≡ Ok z → pos 0 ≤ℤ z }
     ensures places { (xs : List ℤ) → of_two lt_violations xs ≡ Ok (pos 0) → (place : ℕ) →
         at_each lt_violations xs place ≡ pos 0 }
-    ensures one_kind { GivesOneKind viol_lt }
+    ensures one_kind { GivesOneKind (rule_of_numbers viol_lt) }
 {}
 
 /// `alldifferent` has 0 violations exactly where no two places have the same value.
@@ -65,7 +68,7 @@ pub fn all_different_law()
         pos 0 ≤ℤ z }
     ensures places { (xs : List ℤ) → all_different_violations xs ≡ Ok (pos 0) →
         (place : ℕ) → place < length xs → all_different_violation_at xs place ≡ pos 0 }
-    ensures one_kind { GivesOneKind all_different }
+    ensures one_kind { GivesOneKind (rule_of_numbers all_different) }
 {}
 
 /// `atmost` has 0 violations exactly where each bounded value stands at no more places than its bound.
@@ -76,7 +79,8 @@ pub fn at_most_law()
         at_most_violations low bounds xs ≡ Ok z → pos 0 ≤ℤ z }
     ensures places { (low : ℤ) (bounds xs : List ℤ) → at_most_violations low bounds xs ≡ Ok (pos 0) →
         (place : ℕ) → at_most_violation_at low bounds xs place ≡ pos 0 }
-    ensures one_kind { (low : ℤ) (bounds : List ℤ) → GivesOneKind (at_most low bounds) }
+    ensures one_kind { (low : ℤ) (bounds : List ℤ) →
+        GivesOneKind (rule_of_numbers (at_most low bounds)) }
 {}
 
 /// `atleast` has 0 violations exactly where each bounded value stands at no fewer places than its bound.
@@ -87,7 +91,8 @@ pub fn at_least_law()
         at_least_violations low bounds xs ≡ Ok z → pos 0 ≤ℤ z }
     ensures places { (low : ℤ) (bounds xs : List ℤ) → at_least_violations low bounds xs ≡ Ok (pos 0) →
         (place : ℕ) → at_least_violation_at low bounds xs place ≡ pos 0 }
-    ensures one_kind { (low : ℤ) (bounds : List ℤ) → GivesOneKind (at_least low bounds) }
+    ensures one_kind { (low : ℤ) (bounds : List ℤ) →
+        GivesOneKind (rule_of_numbers (at_least low bounds)) }
 {}
 
 /// `exactly` has 0 violations exactly where each bounded value stands at as many places as its bound.
@@ -98,7 +103,8 @@ pub fn exactly_law()
         exactly_violations low bounds xs ≡ Ok z → pos 0 ≤ℤ z }
     ensures places { (low : ℤ) (bounds xs : List ℤ) → exactly_violations low bounds xs ≡ Ok (pos 0) →
         (place : ℕ) → exactly_violation_at low bounds xs place ≡ pos 0 }
-    ensures one_kind { (low : ℤ) (bounds : List ℤ) → GivesOneKind (exactly low bounds) }
+    ensures one_kind { (low : ℤ) (bounds : List ℤ) →
+        GivesOneKind (rule_of_numbers (exactly low bounds)) }
 {}
 
 /// `knapsack` has 0 violations exactly where the sum of the numbers, each times its weight, is at most
@@ -111,7 +117,7 @@ pub fn knapsack_law()
     ensures places { (weights : List ℤ) (capacity : ℤ) (xs : List ℤ) → knapsack_violations weights capacity xs ≡ Ok (pos 0) →
         (place : ℕ) → knapsack_violation_at weights capacity xs place ≡ pos 0 }
     ensures one_kind { (weights : List ℤ) (capacity : ℤ) →
-        GivesOneKind (knapsack weights capacity) }
+        GivesOneKind (rule_of_numbers (knapsack weights capacity)) }
 {}
 
 /// `multiknapsack` has 0 violations exactly where the sizes of the items in each bin are at most its
@@ -125,7 +131,7 @@ pub fn multi_knapsack_law()
     ensures places { (sizes : List ℤ) (low : ℤ) (capacities xs : List ℤ) → multi_knapsack_violations sizes low capacities xs ≡ Ok (pos 0) →
         (place : ℕ) → multi_knapsack_violation_at sizes low capacities xs place ≡ pos 0 }
     ensures one_kind { (sizes : List ℤ) (low : ℤ) (capacities : List ℤ) →
-        GivesOneKind (multi_knapsack sizes low capacities) }
+        GivesOneKind (rule_of_numbers (multi_knapsack sizes low capacities)) }
 {}
 
 /// `sequence` has 0 violations exactly where of each `window` places in a row at most `most` have a value
@@ -138,7 +144,7 @@ pub fn sequence_law()
     ensures places { (values : List ℤ) (most window : ℤ) (xs : List ℤ) → sequence_violations values most window xs ≡ Ok (pos 0) →
         (place : ℕ) → sequence_violation_at values most window xs place ≡ pos 0 }
     ensures one_kind { (values : List ℤ) (most window : ℤ) →
-        GivesOneKind (sequence values most window) }
+        GivesOneKind (rule_of_numbers (sequence values most window)) }
 {}
 
 /// Where no member is below 0, `and` has 0 violations exactly where each member has 0.
@@ -147,7 +153,7 @@ pub fn all_of_law()
         (z ≡ pos 0) ↔ All (λ m. m ≡ pos 0) members }
     ensures never_negative { (members : List ℤ) (z : ℤ) → All (λ m. pos 0 ≤ℤ m) members →
         all_of_violations members ≡ Ok z → pos 0 ≤ℤ z }
-    ensures one_kind { GivesOneKind all_of }
+    ensures one_kind { GivesOneKind (rule_of_numbers all_of) }
 {}
 
 /// The violations of `or` are those of a member, where there is one, and at most those of each member.
@@ -158,7 +164,7 @@ pub fn any_of_law()
         All (λ m. z ≤ℤ m) members }
     ensures never_negative { (members : List ℤ) (z : ℤ) → All (λ m. pos 0 ≤ℤ m) members →
         any_of_violations members ≡ Ok z → pos 0 ≤ℤ z }
-    ensures one_kind { GivesOneKind any_of }
+    ensures one_kind { GivesOneKind (rule_of_numbers any_of) }
 {}
 
 /// `!` has 0 violations exactly where its member has some.
@@ -167,7 +173,7 @@ pub fn not_held_law()
         (z ≡ pos 0) ↔ (slice_index_or members 0 (pos 0) ≢ pos 0) }
     ensures never_negative { (members : List ℤ) (z : ℤ) → not_held_violations members ≡ Ok z →
         pos 0 ≤ℤ z }
-    ensures one_kind { GivesOneKind not_held }
+    ensures one_kind { GivesOneKind (rule_of_numbers not_held) }
 {}
 
 /// A total isn't below 0 where no member and no weight is, and the repeat of one number is a number.
@@ -176,4 +182,10 @@ pub fn total_law()
         All (λ m. pos 0 ≤ℤ m) inputs → weighted_total_value members inputs ≡ Ok z → pos 0 ≤ℤ z }
     ensures one_kind { (members : ℕ) → GivesOneKind (weighted_total members) }
     ensures repeated { GivesOneKind repeat }
+{}
+
+/// What a constraint is as numbers and lists tells which it is.
+pub fn constraints_by_numbers()
+    ensures { (a b : Constraint) → constraint_numbers a ≡ constraint_numbers b →
+        first_kept a ≡ first_kept b → second_kept a ≡ second_kept b → a ≡ b }
 {}

@@ -9,6 +9,7 @@
 mod all_different;
 mod cardinality;
 mod combined;
+mod constraint;
 mod counting;
 mod knapsack;
 mod laws;
@@ -26,11 +27,12 @@ pub use combined::{
     all_of_violations, any_of_violations, combined_violation_at, not_held_violations, repeat_value,
     weighted_total_value,
 };
+pub use constraint::{Constraint, Fields};
 pub use knapsack::{knapsack_violation_at, knapsack_violations};
 pub use laws::{
-    all_different_law, all_of_law, any_of_law, at_least_law, at_most_law, eq_law, exactly_law,
-    knapsack_law, le_law, lt_law, multi_knapsack_law, ne_law, not_held_law, sequence_law,
-    total_law,
+    all_different_law, all_of_law, any_of_law, at_least_law, at_most_law, constraints_by_numbers,
+    eq_law, exactly_law, knapsack_law, le_law, lt_law, multi_knapsack_law, ne_law, not_held_law,
+    sequence_law, total_law,
 };
 pub use multi_knapsack::{multi_knapsack_violation_at, multi_knapsack_violations};
 pub use relations::{

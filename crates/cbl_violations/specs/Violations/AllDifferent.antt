@@ -4,8 +4,7 @@ use Rattle.std.specs.Prelude.{ℕ, ℤ, pos, ◌-◌, List, Result, true, nat_le
 use Rattle.cbl_base.specs.Arithmetic.{exact}
 use Rattle.cbl_base.specs.Counts.{count_of, values_in}
 use Rattle.cbl_base.specs.Totals.{total_by}
-use Rattle.cbl_base.specs.NodeLaw.{Rule}
-use Rattle.cbl_base.specs.NumberRule.{rule_of_numbers}
+use Rattle.cbl_base.specs.NumberRule.{NumberRule}
 use Rattle.cbl_base.specs.declared.faults.RunFault.{RunFault}
 
 -- at how many places more than one the value stands
@@ -19,9 +18,9 @@ unfoldable pub all_different_violation_at : List ℤ → ℕ → ℤ
 all_different_violation_at xs place =
     if nat_le 2 (count_of (slice_index_or xs place (pos 0)) xs) then pos 1 else pos 0
 
-abbrev pub all_different : Rule
-all_different = rule_of_numbers (record {
+abbrev pub all_different : NumberRule
+all_different = record {
   takes = λ _. true;
   value = all_different_violations;
   violation_at = all_different_violation_at;
-})
+}

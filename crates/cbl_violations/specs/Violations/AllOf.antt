@@ -3,8 +3,7 @@
 use Rattle.std.specs.Prelude.{ℕ, ℤ, pos, List, Result, true}
 use Rattle.cbl_base.specs.Arithmetic.{exact}
 use Rattle.cbl_base.specs.Totals.{total}
-use Rattle.cbl_base.specs.NodeLaw.{Rule}
-use Rattle.cbl_base.specs.NumberRule.{rule_of_numbers}
+use Rattle.cbl_base.specs.NumberRule.{NumberRule}
 use Rattle.cbl_base.specs.declared.faults.RunFault.{RunFault}
 
 unfoldable pub all_of_violations : List ℤ → Result ℤ RunFault
@@ -14,9 +13,9 @@ all_of_violations members = exact (total members)
 abbrev pub combined_violation_at : List ℤ → ℕ → ℤ
 combined_violation_at members place = pos 0
 
-abbrev pub all_of : Rule
-all_of = rule_of_numbers (record {
+abbrev pub all_of : NumberRule
+all_of = record {
   takes = λ _. true;
   value = all_of_violations;
   violation_at = combined_violation_at;
-})
+}

@@ -2,8 +2,7 @@
 -- of this project.
 use Rattle.std.specs.Prelude.{ℤ, pos, List, [], ◌∷◌, Result, Ok, true, fold}
 use Rattle.std.specs.Int.{int_min}
-use Rattle.cbl_base.specs.NodeLaw.{Rule}
-use Rattle.cbl_base.specs.NumberRule.{rule_of_numbers}
+use Rattle.cbl_base.specs.NumberRule.{NumberRule}
 use Rattle.cbl_base.specs.declared.faults.RunFault.{RunFault}
 use Rattle.cbl_violations.specs.Violations.AllOf.{combined_violation_at}
 
@@ -15,9 +14,9 @@ least (x ∷ xs) = fold int_min x xs
 unfoldable pub any_of_violations : List ℤ → Result ℤ RunFault
 any_of_violations members = Ok (least members)
 
-abbrev pub any_of : Rule
-any_of = rule_of_numbers (record {
+abbrev pub any_of : NumberRule
+any_of = record {
   takes = λ _. true;
   value = any_of_violations;
   violation_at = combined_violation_at;
-})
+}

@@ -6,8 +6,7 @@ use Rattle.std.specs.Result.{result_unwrap_or}
 use Rattle.std.specs.Ordering.{int_eq}
 use Rattle.cbl_base.specs.Counts.{count_of}
 use Rattle.cbl_base.specs.Totals.{total_by}
-use Rattle.cbl_base.specs.NodeLaw.{Rule}
-use Rattle.cbl_base.specs.NumberRule.{rule_of_numbers}
+use Rattle.cbl_base.specs.NumberRule.{NumberRule}
 use Rattle.cbl_base.specs.declared.faults.RunFault.{RunFault}
 use Rattle.cbl_violations.specs.Fitting.{where_all_fit, each_below, excess}
 use Rattle.cbl_violations.specs.Violations.AtMost.{is_over}
@@ -30,9 +29,9 @@ at_least_violation_at low bounds xs place =
     let v = slice_index_or xs place (pos 0) in
     if is_violated (at_least_violations low bounds xs) && unwrap_or (is_over low bounds xs v) true then pos 1 else pos 0
 
-abbrev pub at_least : ℤ → List ℤ → Rule
-at_least low bounds = rule_of_numbers (record {
+abbrev pub at_least : ℤ → List ℤ → NumberRule
+at_least low bounds = record {
   takes = λ _. true;
   value = at_least_violations low bounds;
   violation_at = at_least_violation_at low bounds;
-})
+}

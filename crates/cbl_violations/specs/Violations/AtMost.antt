@@ -4,8 +4,7 @@ use Rattle.std.specs.Prelude.{ℕ, ℤ, pos, ◌+ℤ◌, ◌-ℤ◌, List, [], �
 use Rattle.std.specs.Option.{option_map}
 use Rattle.cbl_base.specs.Counts.{count_of}
 use Rattle.cbl_base.specs.Totals.{total_by}
-use Rattle.cbl_base.specs.NodeLaw.{Rule}
-use Rattle.cbl_base.specs.NumberRule.{rule_of_numbers}
+use Rattle.cbl_base.specs.NumberRule.{NumberRule}
 use Rattle.cbl_base.specs.declared.faults.RunFault.{RunFault}
 use Rattle.cbl_violations.specs.Fitting.{where_all_fit, each_below, excess}
 use Rattle.cbl_violations.specs.Bounds.{bound_of}
@@ -28,9 +27,9 @@ at_most_violation_at low bounds xs place =
     let v = slice_index_or xs place (pos 0) in
     if unwrap_or (is_over low bounds xs v) false then pos 1 else pos 0
 
-abbrev pub at_most : ℤ → List ℤ → Rule
-at_most low bounds = rule_of_numbers (record {
+abbrev pub at_most : ℤ → List ℤ → NumberRule
+at_most low bounds = record {
   takes = λ _. true;
   value = at_most_violations low bounds;
   violation_at = at_most_violation_at low bounds;
-})
+}

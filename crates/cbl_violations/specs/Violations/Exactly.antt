@@ -3,8 +3,7 @@
 -- bound, or has no bound while there are violations. Comet's `exactly`.
 use Rattle.std.specs.Prelude.{ℕ, ℤ, pos, List, [], ◌∷◌, ◌++◌, length, true, unwrap_or, Result, if◌then◌else◌, slice_index_or}
 use Rattle.cbl_base.specs.Totals.{total_by}
-use Rattle.cbl_base.specs.NodeLaw.{Rule}
-use Rattle.cbl_base.specs.NumberRule.{rule_of_numbers}
+use Rattle.cbl_base.specs.NumberRule.{NumberRule}
 use Rattle.cbl_base.specs.declared.faults.RunFault.{RunFault}
 use Rattle.cbl_violations.specs.Fitting.{where_all_fit, each_below, distance}
 use Rattle.cbl_violations.specs.Violations.AtMost.{surplus, is_over}
@@ -20,9 +19,9 @@ exactly_violation_at low bounds xs place =
     let v = slice_index_or xs place (pos 0) in
     if unwrap_or (is_over low bounds xs v) (is_violated (exactly_violations low bounds xs)) then pos 1 else pos 0
 
-abbrev pub exactly : ℤ → List ℤ → Rule
-exactly low bounds = rule_of_numbers (record {
+abbrev pub exactly : ℤ → List ℤ → NumberRule
+exactly low bounds = record {
   takes = λ _. true;
   value = exactly_violations low bounds;
   violation_at = exactly_violation_at low bounds;
-})
+}

@@ -5,8 +5,7 @@ use Rattle.std.specs.Prelude.{◌==◌, ℕ, ℤ, pos, ◌-ℤ◌, ◌*ℤ◌, L
 use Rattle.std.specs.Result.{result_unwrap_or}
 use Rattle.std.specs.Int.{int_min}
 use Rattle.cbl_base.specs.Totals.{total}
-use Rattle.cbl_base.specs.NodeLaw.{Rule}
-use Rattle.cbl_base.specs.NumberRule.{rule_of_numbers}
+use Rattle.cbl_base.specs.NumberRule.{NumberRule}
 use Rattle.cbl_base.specs.declared.faults.RunFault.{RunFault}
 use Rattle.cbl_violations.specs.Fitting.{where_all_fit, each_below, excess}
 
@@ -25,9 +24,9 @@ knapsack_violation_at weights capacity xs place =
     let violations = result_unwrap_or (knapsack_violations weights capacity xs) (pos 0) in
     excess (int_min violations (part_of_load weights xs place))
 
-abbrev pub knapsack : List ℤ → ℤ → Rule
-knapsack weights capacity = rule_of_numbers (record {
+abbrev pub knapsack : List ℤ → ℤ → NumberRule
+knapsack weights capacity = record {
   takes = λ n. n == length weights;
   value = knapsack_violations weights capacity;
   violation_at = knapsack_violation_at weights capacity;
-})
+}

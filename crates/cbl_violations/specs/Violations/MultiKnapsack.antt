@@ -4,8 +4,7 @@
 use Rattle.std.specs.Prelude.{◌==◌, ℕ, ℤ, pos, ◌+ℤ◌, ◌-ℤ◌, List, [], ◌∷◌, ◌++◌, length, Option, Some, None, Result, if◌then◌else◌, slice_index_or}
 use Rattle.std.specs.Ordering.{int_eq}
 use Rattle.cbl_base.specs.Totals.{total, total_by}
-use Rattle.cbl_base.specs.NodeLaw.{Rule}
-use Rattle.cbl_base.specs.NumberRule.{rule_of_numbers}
+use Rattle.cbl_base.specs.NumberRule.{NumberRule}
 use Rattle.cbl_base.specs.declared.faults.RunFault.{RunFault}
 use Rattle.cbl_violations.specs.Fitting.{where_all_fit, each_below, excess}
 use Rattle.cbl_violations.specs.Bounds.{bound_of}
@@ -42,9 +41,9 @@ multi_knapsack_violation_at sizes low capacities xs place =
     let bin = slice_index_or xs place (pos 0) in
     excess_of (bound_of low capacities bin) (load_of bin sizes xs)
 
-abbrev pub multi_knapsack : List ℤ → ℤ → List ℤ → Rule
-multi_knapsack sizes low capacities = rule_of_numbers (record {
+abbrev pub multi_knapsack : List ℤ → ℤ → List ℤ → NumberRule
+multi_knapsack sizes low capacities = record {
   takes = λ n. n == length sizes;
   value = multi_knapsack_violations sizes low capacities;
   violation_at = multi_knapsack_violation_at sizes low capacities;
-})
+}

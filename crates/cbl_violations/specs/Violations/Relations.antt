@@ -4,8 +4,7 @@
 use Rattle.std.specs.Prelude.{◌==◌, ℕ, ℤ, pos, ◌+ℤ◌, ◌-ℤ◌, List, [], ◌∷◌, Result, if◌then◌else◌, slice_index_or}
 use Rattle.std.specs.Result.{result_unwrap_or}
 use Rattle.std.specs.Ordering.{int_eq}
-use Rattle.cbl_base.specs.NodeLaw.{Rule}
-use Rattle.cbl_base.specs.NumberRule.{rule_of_numbers}
+use Rattle.cbl_base.specs.NumberRule.{NumberRule}
 use Rattle.cbl_base.specs.declared.faults.RunFault.{RunFault}
 use Rattle.cbl_violations.specs.Fitting.{where_all_fit, excess, distance}
 
@@ -29,21 +28,21 @@ of_two violations xs = violations (slice_index_or xs 0 (pos 0)) (slice_index_or 
 abbrev pub at_each : (ℤ → ℤ → Result ℤ RunFault) → List ℤ → ℕ → ℤ
 at_each violations xs place = result_unwrap_or (of_two violations xs) (pos 0)
 
-abbrev pub relation : (ℤ → ℤ → Result ℤ RunFault) → Rule
-relation violations = rule_of_numbers (record {
+abbrev pub relation : (ℤ → ℤ → Result ℤ RunFault) → NumberRule
+relation violations = record {
   takes = λ n. n == 2;
   value = of_two violations;
   violation_at = at_each violations;
-})
+}
 
-abbrev pub viol_eq : Rule
+abbrev pub viol_eq : NumberRule
 viol_eq = relation eq_violations
 
-abbrev pub viol_ne : Rule
+abbrev pub viol_ne : NumberRule
 viol_ne = relation ne_violations
 
-abbrev pub viol_le : Rule
+abbrev pub viol_le : NumberRule
 viol_le = relation le_violations
 
-abbrev pub viol_lt : Rule
+abbrev pub viol_lt : NumberRule
 viol_lt = relation lt_violations

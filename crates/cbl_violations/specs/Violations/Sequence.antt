@@ -5,8 +5,7 @@ use Rattle.std.specs.Prelude.{ℕ, ℤ, pos, negsuc, ◌+◌, ◌-◌, ◌-ℤ�
 use Rattle.std.specs.List.{range_with_len}
 use Rattle.cbl_base.specs.Sets.{is_member}
 use Rattle.cbl_base.specs.Totals.{total_by}
-use Rattle.cbl_base.specs.NodeLaw.{Rule}
-use Rattle.cbl_base.specs.NumberRule.{rule_of_numbers}
+use Rattle.cbl_base.specs.NumberRule.{NumberRule}
 use Rattle.cbl_base.specs.declared.faults.RunFault.{RunFault}
 use Rattle.cbl_violations.specs.Fitting.{where_all_fit, each_below, excess}
 
@@ -45,9 +44,9 @@ sequence_violation_at values most window xs place =
     then total_by (λ start. excess (surplus_in_window values most size xs start)) holding
     else pos 0
 
-abbrev pub sequence : List ℤ → ℤ → ℤ → Rule
-sequence values most window = rule_of_numbers (record {
+abbrev pub sequence : List ℤ → ℤ → ℤ → NumberRule
+sequence values most window = record {
   takes = λ _. true;
   value = sequence_violations values most window;
   violation_at = sequence_violation_at values most window;
-})
+}
