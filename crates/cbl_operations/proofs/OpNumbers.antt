@@ -1,10 +1,13 @@
--- An operation on one number or on two is made again from its number, so its number tells which it is.
+-- An operation on one number, on two or on a list is made again from its number, so its number tells which it is.
 use Rattle.std.proofs.Common.{◌≡◌, ℕ, [], ◌∷◌, refl, sym, ap, ◌∙◌}
 use Rattle.std.specs.Prelude.{slice_index_or}
 use Rattle.cbl_operations.specs.Binary.{binary_number}
+use Rattle.cbl_operations.specs.Nary.{nary_number}
 use Rattle.cbl_operations.specs.Unary.{unary_number}
 use Rattle.cbl_operations.specs.declared.binary.BinaryOp.{BinaryOp}
 use Rattle.cbl_operations.specs.declared.binary.BinaryOp.TheVariants.{Add, Sub, Mul, Div, Rem, Eq, Ne, Le, Lt}
+use Rattle.cbl_operations.specs.declared.nary.NaryOp.{NaryOp}
+use Rattle.cbl_operations.specs.declared.nary.NaryOp.TheVariants.{Least, Greatest, Sum, Count, And, Or}
 use Rattle.cbl_operations.specs.declared.unary.UnaryOp.{UnaryOp}
 use Rattle.cbl_operations.specs.declared.unary.UnaryOp.TheVariants.{Neg, Abs, Not}
 
@@ -14,6 +17,9 @@ unary_at n = slice_index_or (Neg ∷ Abs ∷ Not ∷ []) n Neg
 
 abbrev pub binary_at : ℕ → BinaryOp
 binary_at n = slice_index_or (Add ∷ Sub ∷ Mul ∷ Div ∷ Rem ∷ Eq ∷ Ne ∷ Le ∷ Lt ∷ []) n Add
+
+abbrev pub nary_at : ℕ → NaryOp
+nary_at n = slice_index_or (Least ∷ Greatest ∷ Sum ∷ Count ∷ And ∷ Or ∷ []) n Least
 
 pub unary_again : (op : UnaryOp) → unary_at (unary_number op) ≡ op
 unary_again Neg = refl
@@ -31,8 +37,19 @@ binary_again Ne = refl
 binary_again Le = refl
 binary_again Lt = refl
 
+pub nary_again : (op : NaryOp) → nary_at (nary_number op) ≡ op
+nary_again Least = refl
+nary_again Greatest = refl
+nary_again Sum = refl
+nary_again Count = refl
+nary_again And = refl
+nary_again Or = refl
+
 pub unary_same : (a b : UnaryOp) → unary_number a ≡ unary_number b → a ≡ b
 unary_same a b e = sym (unary_again a) ∙ ap unary_at e ∙ unary_again b
 
 pub binary_same : (a b : BinaryOp) → binary_number a ≡ binary_number b → a ≡ b
 binary_same a b e = sym (binary_again a) ∙ ap binary_at e ∙ binary_again b
+
+pub nary_same : (a b : NaryOp) → nary_number a ≡ nary_number b → a ≡ b
+nary_same a b e = sym (nary_again a) ∙ ap nary_at e ∙ nary_again b

@@ -1,6 +1,7 @@
 pub mod Binary
 pub mod Cells
 pub mod Forms
+pub mod Nary
 pub mod Operations
 pub mod Places
 pub mod RuleOf

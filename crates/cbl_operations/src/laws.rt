@@ -11,6 +11,7 @@ ghost use Rattle.cbl_base.specs.declared.faults.RunFault.TheVariants.{OutOfRange
 ghost use Rattle.cbl_operations.specs.Binary.{binary_number, binary_value};
 ghost use Rattle.cbl_operations.specs.Forms.{number_at};
 ghost use Rattle.cbl_operations.specs.Places.{IsLeastOf, IsGreatestOf, IsKeyWhere};
+ghost use Rattle.cbl_operations.specs.Nary.{nary_number};
 ghost use Rattle.cbl_operations.specs.Operations.And.{and};
 ghost use Rattle.cbl_operations.specs.Operations.ArgMax.{arg_max};
 ghost use Rattle.cbl_operations.specs.Operations.ArgMin.{arg_min};
@@ -28,6 +29,7 @@ ghost use Rattle.cbl_operations.specs.RuleOf.{rule_of, value_kind, is_constraint
 ghost use Rattle.cbl_operations.specs.Unary.{unary_number, unary_value};
 ghost use Rattle.cbl_operations.specs.declared.binary.BinaryOp.{BinaryOp};
 ghost use Rattle.cbl_operations.specs.declared.binary.BinaryOp.TheVariants.{Div, Rem, Eq, Ne, Le, Lt};
+ghost use Rattle.cbl_operations.specs.declared.nary.NaryOp.{NaryOp};
 ghost use Rattle.cbl_operations.specs.declared.op.Op.{Op};
 ghost use Rattle.cbl_operations.specs.declared.unary.UnaryOp.{UnaryOp};
 ghost use Rattle.cbl_operations.specs.declared.unary.UnaryOp.TheVariants.{Not};
@@ -108,10 +110,12 @@ pub fn keys_of_numbers()
         IsTrue (is_member key s) ↔ IsKeyWhere (λ x. x ≡ pos 1) keys xs key }
 {}
 
-/// The number of an operation on one number tells which it is, and so does that of one on two.
+/// The number of an operation on one number tells which it is, and so does that of one on two, or on a
+/// list.
 pub fn operations_by_number()
     ensures unary { (a b : UnaryOp) → unary_number a ≡ unary_number b → a ≡ b }
     ensures binary { (a b : BinaryOp) → binary_number a ≡ binary_number b → a ≡ b }
+    ensures nary { (a b : NaryOp) → nary_number a ≡ nary_number b → a ≡ b }
 {}
 
 /// All values of an operation are of its kind, so over inputs of the same kinds they are of one.

@@ -1,6 +1,6 @@
 //! The operations of terms and the constraints by their names (`Op`), and what each means: its rule as
-//! a node. Those on one number and on two are types of their own (`UnaryOp`, `BinaryOp`), of which `Op`
-//! has one variant each. Beside the definition of each operation stands a plain function that gives
+//! a node. Those on one number, on two and on a list are types of their own (`UnaryOp`, `BinaryOp`,
+//! `NaryOp`), of which `Op` has one variant each, as it has one for all constraints. Beside the definition of each operation stands a plain function that gives
 //! exactly the rule's value, from scratch; those of the constraints stand in `cbl_violations`.
 //!
 //! It knows nothing of nodes that are kept up to date, of terms, solvers or programs. The layers above
@@ -14,6 +14,7 @@ mod binary;
 mod counting;
 mod elements;
 mod laws;
+mod nary;
 mod op;
 mod order;
 mod sets;
@@ -29,6 +30,7 @@ pub use laws::{
     members_of_sets, operations_by_number, operations_have_no_violation, quotient_and_remainder,
     relations_hold, truth_of_parts, values_of_one_kind,
 };
+pub use nary::NaryOp;
 pub use op::Op;
 pub use order::{greatest_value, least_value};
 pub use sets::{

@@ -1,26 +1,24 @@
 //! Which operation a node computes.
 
 use crate::binary::BinaryOp;
+use crate::nary::NaryOp;
 use crate::unary::UnaryOp;
-use cbl_base::{IntSet, Numbers};
+use cbl_base::Numbers;
+use cbl_violations::Constraint;
 
-/// An operation of a term, or a constraint, with what it keeps beside its inputs. An array that is kept or
-/// that the inputs are counts from `low`; `keys` has a number for each input.
-#[derive(Drop, Debug)]
+/// An operation of a term, or a constraint, with what it keeps beside its inputs. An array that the inputs
+/// are counts from `low`; `keys` has a number for each input.
+#[derive(Clone, Drop, Debug)]
 pub enum Op {
     Unary(UnaryOp),
     Binary(BinaryOp),
-    Least,
-    Greatest,
-    Sum,
+    Nary(NaryOp),
     ArgMin {
         keys: Numbers,
     },
     ArgMax {
         keys: Numbers,
     },
-    /// The cells, and then the number that is counted.
-    Count,
     /// The index, and then the `len` cells.
     Element {
         low: i64,
@@ -33,8 +31,6 @@ pub enum Op {
         low2: i64,
         len2: u32,
     },
-    And,
-    Or,
     SetOf {
         keys: Numbers,
     },
@@ -44,40 +40,7 @@ pub enum Op {
     Card,
     /// The number, and then the set.
     Member,
-    ViolEq,
-    ViolNe,
-    ViolLe,
-    ViolLt,
-    AllDifferent,
-    AtMost {
-        low: i64,
-        bounds: Numbers,
-    },
-    AtLeast {
-        low: i64,
-        bounds: Numbers,
-    },
-    Exactly {
-        low: i64,
-        bounds: Numbers,
-    },
-    Knapsack {
-        weights: Numbers,
-        capacity: i64,
-    },
-    MultiKnapsack {
-        sizes: Numbers,
-        low: i64,
-        capacities: Numbers,
-    },
-    Sequence {
-        values: IntSet,
-        most: i64,
-        window: i64,
-    },
-    AllOf,
-    AnyOf,
-    NotHeld,
+    Constraint(Constraint),
     /// The user's constraint with this number, counted from 0 in order of posting.
     User {
         number: u32,

@@ -1,4 +1,4 @@
-use Rattle.cbl_operations.proofs.OpNumbers.{unary_same, binary_same}
+use Rattle.cbl_operations.proofs.OpNumbers.{unary_same, binary_same, nary_same}
 use Rattle.cbl_operations.proofs.laws.operations_by_number.Goals as goal
 
 pub returns-clause-unary : goal.returns-clause-unary
@@ -6,3 +6,6 @@ returns-clause-unary c = unary_same
 
 pub returns-clause-binary : goal.returns-clause-binary
 returns-clause-binary c = binary_same
+
+pub returns-clause-nary : goal.returns-clause-nary
+returns-clause-nary c = nary_same
