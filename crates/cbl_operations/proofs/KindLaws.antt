@@ -15,7 +15,7 @@ use Rattle.cbl_operations.specs.Unary.{rule_of_unary}
 use Rattle.cbl_operations.specs.declared.nary.NaryOp.{NaryOp}
 use Rattle.cbl_operations.specs.declared.nary.NaryOp.TheVariants.{Least, Greatest, Sum, Count, And, Or}
 use Rattle.cbl_operations.specs.declared.op.Op.{Op}
-use Rattle.cbl_operations.specs.declared.op.Op.TheVariants.{Unary, Binary, Nary, ArgMin, ArgMax, Element, Element2, SetOf, Union, Inter, Minus, Card, Member, Constraint, User}
+use Rattle.cbl_operations.specs.declared.op.Op.TheVariants.{Unary, Binary, Nary, Keyed, Element, Element2, TwoSets, Card, Member, Constraint, User}
 
 number_if_ok : (value : Result ℤ RunFault) → kind_if_ok (as_value value) ≡ number_kind
 number_if_ok (Ok x) = refl
@@ -29,14 +29,10 @@ pub kind_of_values : (users : ℕ → NumberRule) (op : Op) (inputs : List Input
 kind_of_values users (Unary op) inputs x e = a_number ((rule_of_unary op).value (numbers_of inputs)) x e
 kind_of_values users (Binary op) inputs x e = a_number ((rule_of_binary op).value (numbers_of inputs)) x e
 kind_of_values users (Nary op) inputs x e = a_number ((rule_of_nary op).value (numbers_of inputs)) x e
-kind_of_values users (ArgMin keys) inputs x e = kind_of-value ((rule_of users (ArgMin keys)).value inputs) x e
-kind_of_values users (ArgMax keys) inputs x e = kind_of-value ((rule_of users (ArgMax keys)).value inputs) x e
+kind_of_values users (Keyed op keys) inputs x e = kind_of-value ((rule_of users (Keyed op keys)).value inputs) x e
 kind_of_values users (Element low len) inputs x e = a_number ((element low len).value (numbers_of inputs)) x e
 kind_of_values users (Element2 low1 len1 low2 len2) inputs x e = a_number ((element2 low1 len1 low2 len2).value (numbers_of inputs)) x e
-kind_of_values users (SetOf keys) inputs x e = kind_of-value ((rule_of users (SetOf keys)).value inputs) x e
-kind_of_values users Union inputs x e = kind_of-value ((rule_of users Union).value inputs) x e
-kind_of_values users Inter inputs x e = kind_of-value ((rule_of users Inter).value inputs) x e
-kind_of_values users Minus inputs x e = kind_of-value ((rule_of users Minus).value inputs) x e
+kind_of_values users (TwoSets op) inputs x e = kind_of-value ((rule_of users (TwoSets op)).value inputs) x e
 kind_of_values users Card inputs x e = kind_of-value ((rule_of users Card).value inputs) x e
 kind_of_values users Member inputs x e = kind_of-value ((rule_of users Member).value inputs) x e
 kind_of_values users (Constraint c) inputs x e = a_number ((rule_of_constraint c).value (numbers_of inputs)) x e
@@ -57,14 +53,10 @@ pub not_violated : (users : ℕ → NumberRule) (op : Op) (inputs : List Input) 
 not_violated users (Unary op) inputs place free = refl
 not_violated users (Binary op) inputs place free = refl
 not_violated users (Nary op) inputs place free = not_by_nary op (numbers_of inputs) place
-not_violated users (ArgMin keys) inputs place free = refl
-not_violated users (ArgMax keys) inputs place free = refl
+not_violated users (Keyed op keys) inputs place free = refl
 not_violated users (Element low len) inputs place free = refl
 not_violated users (Element2 low1 len1 low2 len2) inputs place free = refl
-not_violated users (SetOf keys) inputs place free = refl
-not_violated users Union inputs place free = refl
-not_violated users Inter inputs place free = refl
-not_violated users Minus inputs place free = refl
+not_violated users (TwoSets op) inputs place free = refl
 not_violated users Card inputs place free = refl
 not_violated users Member inputs place free = refl
 not_violated users (Constraint c) inputs place free = cc

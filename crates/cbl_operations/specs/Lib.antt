@@ -1,10 +1,12 @@
 pub mod Binary
 pub mod Cells
 pub mod Forms
+pub mod Keyed
 pub mod Nary
 pub mod Operations
 pub mod Places
 pub mod RuleOf
 pub mod SetForms
 pub mod Truth
+pub mod TwoSets
 pub mod Unary

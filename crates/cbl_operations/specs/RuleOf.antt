@@ -6,45 +6,33 @@ use Rattle.cbl_base.specs.NodeLaw.{Rule}
 use Rattle.cbl_base.specs.NumberRule.{NumberRule, rule_of_numbers}
 use Rattle.cbl_violations.specs.Constraints.{rule_of_constraint}
 use Rattle.cbl_operations.specs.Binary.{rule_of_binary}
+use Rattle.cbl_operations.specs.Keyed.{rule_of_keyed}
 use Rattle.cbl_operations.specs.Nary.{rule_of_nary}
-use Rattle.cbl_operations.specs.Operations.ArgMax.{arg_max}
-use Rattle.cbl_operations.specs.Operations.ArgMin.{arg_min}
 use Rattle.cbl_operations.specs.Operations.Card.{card}
 use Rattle.cbl_operations.specs.Operations.Element.{element}
 use Rattle.cbl_operations.specs.Operations.Element2.{element2}
-use Rattle.cbl_operations.specs.Operations.Inter.{inter}
 use Rattle.cbl_operations.specs.Operations.Member.{member}
-use Rattle.cbl_operations.specs.Operations.Minus.{minus}
-use Rattle.cbl_operations.specs.Operations.SetOf.{set_of_ones}
-use Rattle.cbl_operations.specs.Operations.Union.{union}
+use Rattle.cbl_operations.specs.TwoSets.{rule_of_sets}
 use Rattle.cbl_operations.specs.Unary.{rule_of_unary}
 use Rattle.cbl_operations.specs.declared.op.Op.{Op}
-use Rattle.cbl_operations.specs.declared.op.Op.TheVariants.{Unary, Binary, Nary, ArgMin, ArgMax, Element, Element2, SetOf, Union, Inter, Minus, Card, Member, Constraint, User}
+use Rattle.cbl_operations.specs.declared.op.Op.TheVariants.{Unary, Binary, Nary, Keyed, Element, Element2, TwoSets, Card, Member, Constraint, User}
 
 abbrev pub rule_of : (ℕ → NumberRule) → Op → Rule
 rule_of users (Unary op) = rule_of_numbers (rule_of_unary op)
 rule_of users (Binary op) = rule_of_numbers (rule_of_binary op)
 rule_of users (Nary op) = rule_of_numbers (rule_of_nary op)
-rule_of users (ArgMin keys) = arg_min keys
-rule_of users (ArgMax keys) = arg_max keys
+rule_of users (Keyed op keys) = rule_of_keyed op keys
 rule_of users (Element low len) = rule_of_numbers (element low len)
 rule_of users (Element2 low1 len1 low2 len2) = rule_of_numbers (element2 low1 len1 low2 len2)
-rule_of users (SetOf keys) = set_of_ones keys
-rule_of users Union = union
-rule_of users Inter = inter
-rule_of users Minus = minus
+rule_of users (TwoSets op) = rule_of_sets op
 rule_of users Card = card
 rule_of users Member = member
 rule_of users (Constraint constraint) = rule_of_numbers (rule_of_constraint constraint)
 rule_of users (User number) = rule_of_numbers (users number)
 
 abbrev pub value_kind : Op → InputKind
-value_kind (ArgMin keys) = set_kind
-value_kind (ArgMax keys) = set_kind
-value_kind (SetOf keys) = set_kind
-value_kind Union = set_kind
-value_kind Inter = set_kind
-value_kind Minus = set_kind
+value_kind (Keyed op keys) = set_kind
+value_kind (TwoSets op) = set_kind
 value_kind op = number_kind
 
 abbrev pub is_constraint : Op → Bool

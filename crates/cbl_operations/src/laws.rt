@@ -1,36 +1,35 @@
 //! What the formulas of operations mean, in their subject's own words.
 ghost use Rattle.std.specs.Prelude.{◌≡◌, ◌≢◌, ◌↔◌, ℕ, ℤ, pos, ◌+ℤ◌, ◌*ℤ◌, ◌≤ℤ◌, ◌<ℤ◌, ◌+◌, ◌*◌, ◌<◌, ◌||◌, ◌&&◌, ◌++◌, not, List, [], ◌∷◌, length, unsigned_abs, IsTrue, All, Any, Contains, Ok, Err, false};
 ghost use Rattle.cbl_base.specs.Counts.{count_of};
-ghost use Rattle.cbl_base.specs.Inputs.{as_inputs, kind_of};
+ghost use Rattle.cbl_base.specs.Inputs.{kind_of};
 ghost use Rattle.cbl_base.specs.NodeLaw.{GivesOneKind};
 ghost use Rattle.cbl_base.specs.NumberRule.{NumberRule};
 ghost use Rattle.cbl_base.specs.declared.input.Input.{Input};
 ghost use Rattle.cbl_base.specs.Sets.{IsRising, is_member};
-ghost use Rattle.cbl_base.specs.declared.input.Input.TheVariants.{Int, Set};
 ghost use Rattle.cbl_base.specs.declared.faults.RunFault.TheVariants.{OutOfRange};
 ghost use Rattle.cbl_operations.specs.Binary.{binary_number, binary_value};
 ghost use Rattle.cbl_operations.specs.Forms.{number_at};
 ghost use Rattle.cbl_operations.specs.Places.{IsLeastOf, IsGreatestOf, IsKeyWhere};
+ghost use Rattle.cbl_operations.specs.Keyed.{keyed_number, keyed_value};
 ghost use Rattle.cbl_operations.specs.Nary.{nary_number};
 ghost use Rattle.cbl_operations.specs.Operations.And.{and};
-ghost use Rattle.cbl_operations.specs.Operations.ArgMax.{arg_max};
-ghost use Rattle.cbl_operations.specs.Operations.ArgMin.{arg_min};
 ghost use Rattle.cbl_operations.specs.Operations.Count.{count};
 ghost use Rattle.cbl_operations.specs.Operations.Element.{element};
 ghost use Rattle.cbl_operations.specs.Operations.Element2.{element2};
 ghost use Rattle.cbl_operations.specs.Operations.Greatest.{greatest};
-ghost use Rattle.cbl_operations.specs.Operations.Inter.{inter};
 ghost use Rattle.cbl_operations.specs.Operations.Least.{least};
-ghost use Rattle.cbl_operations.specs.Operations.Minus.{minus};
 ghost use Rattle.cbl_operations.specs.Operations.Or.{or};
-ghost use Rattle.cbl_operations.specs.Operations.SetOf.{set_of_ones};
-ghost use Rattle.cbl_operations.specs.Operations.Union.{union};
 ghost use Rattle.cbl_operations.specs.RuleOf.{rule_of, value_kind, is_constraint};
+ghost use Rattle.cbl_operations.specs.TwoSets.{two_sets_number, two_sets_value};
 ghost use Rattle.cbl_operations.specs.Unary.{unary_number, unary_value};
 ghost use Rattle.cbl_operations.specs.declared.binary.BinaryOp.{BinaryOp};
 ghost use Rattle.cbl_operations.specs.declared.binary.BinaryOp.TheVariants.{Div, Rem, Eq, Ne, Le, Lt};
+ghost use Rattle.cbl_operations.specs.declared.keyed.KeyedOp.{KeyedOp};
+ghost use Rattle.cbl_operations.specs.declared.keyed.KeyedOp.TheVariants.{ArgMin, ArgMax, SetOf};
 ghost use Rattle.cbl_operations.specs.declared.nary.NaryOp.{NaryOp};
 ghost use Rattle.cbl_operations.specs.declared.op.Op.{Op};
+ghost use Rattle.cbl_operations.specs.declared.two_sets.TwoSetsOp.{TwoSetsOp};
+ghost use Rattle.cbl_operations.specs.declared.two_sets.TwoSetsOp.TheVariants.{Union, Inter, Minus};
 ghost use Rattle.cbl_operations.specs.declared.unary.UnaryOp.{UnaryOp};
 ghost use Rattle.cbl_operations.specs.declared.unary.UnaryOp.TheVariants.{Not};
 
@@ -91,31 +90,32 @@ pub fn cells_by_row_and_column()
 /// The members of a union are those of either set, those of an `inter` those of both, and those of a `minus`
 /// those of the first that are none of the second.
 pub fn members_of_sets()
-    ensures union { (s t u : List ℤ) → union.value (Set s ∷ Set t ∷ []) ≡ Ok (Set u) →
+    ensures union { (s t u : List ℤ) → two_sets_value Union s t ≡ u →
         IsRising u × ((v : ℤ) → is_member v u ≡ (is_member v s || is_member v t)) }
-    ensures inter { (s t u : List ℤ) → inter.value (Set s ∷ Set t ∷ []) ≡ Ok (Set u) →
+    ensures inter { (s t u : List ℤ) → two_sets_value Inter s t ≡ u →
         IsRising u × ((v : ℤ) → is_member v u ≡ (is_member v s && is_member v t)) }
-    ensures minus { (s t u : List ℤ) → minus.value (Set s ∷ Set t ∷ []) ≡ Ok (Set u) →
+    ensures minus { (s t u : List ℤ) → two_sets_value Minus s t ≡ u →
         IsRising u × ((v : ℤ) → is_member v u ≡ (is_member v s && not (is_member v t))) }
 {}
 
 /// The keys of `argMin` are exactly those at which the number is least, those of `argMax` exactly those at
 /// which it is greatest, and those of `setof` exactly those at which it is 1.
 pub fn keys_of_numbers()
-    ensures least { (keys xs s : List ℤ) (key : ℤ) → (arg_min keys).value (as_inputs xs) ≡ Ok (Set s) →
-        IsTrue (is_member key s) ↔ IsKeyWhere (IsLeastOf xs) keys xs key }
-    ensures greatest { (keys xs s : List ℤ) (key : ℤ) → (arg_max keys).value (as_inputs xs) ≡ Ok (Set s) →
-        IsTrue (is_member key s) ↔ IsKeyWhere (IsGreatestOf xs) keys xs key }
-    ensures ones { (keys xs s : List ℤ) (key : ℤ) → (set_of_ones keys).value (as_inputs xs) ≡ Ok (Set s) →
-        IsTrue (is_member key s) ↔ IsKeyWhere (λ x. x ≡ pos 1) keys xs key }
+    ensures least { (keys xs : List ℤ) (key : ℤ) →
+        IsTrue (is_member key (keyed_value ArgMin keys xs)) ↔ IsKeyWhere (IsLeastOf xs) keys xs key }
+    ensures greatest { (keys xs : List ℤ) (key : ℤ) →
+        IsTrue (is_member key (keyed_value ArgMax keys xs)) ↔ IsKeyWhere (IsGreatestOf xs) keys xs key }
+    ensures ones { (keys xs : List ℤ) (key : ℤ) →
+        IsTrue (is_member key (keyed_value SetOf keys xs)) ↔ IsKeyWhere (λ x. x ≡ pos 1) keys xs key }
 {}
 
-/// The number of an operation on one number tells which it is, and so does that of one on two, or on a
-/// list.
+/// The number of an operation tells which of its type it is.
 pub fn operations_by_number()
     ensures unary { (a b : UnaryOp) → unary_number a ≡ unary_number b → a ≡ b }
     ensures binary { (a b : BinaryOp) → binary_number a ≡ binary_number b → a ≡ b }
     ensures nary { (a b : NaryOp) → nary_number a ≡ nary_number b → a ≡ b }
+    ensures keyed { (a b : KeyedOp) → keyed_number a ≡ keyed_number b → a ≡ b }
+    ensures two_sets { (a b : TwoSetsOp) → two_sets_number a ≡ two_sets_number b → a ≡ b }
 {}
 
 /// All values of an operation are of its kind, so over inputs of the same kinds they are of one.

@@ -1,6 +1,7 @@
 //! The operations of terms and the constraints by their names (`Op`), and what each means: its rule as
-//! a node. Those on one number, on two and on a list are types of their own (`UnaryOp`, `BinaryOp`,
-//! `NaryOp`), of which `Op` has one variant each, as it has one for all constraints. Beside the definition of each operation stands a plain function that gives
+//! a node. Those on one number, on two, on a list, on keys with numbers and on two sets are types of
+//! their own (`UnaryOp`, `BinaryOp`, `NaryOp`, `KeyedOp`, `TwoSetsOp`), of which `Op` has one variant each,
+//! as it has one for all constraints. Beside the definition of each operation stands a plain function that gives
 //! exactly the rule's value, from scratch; those of the constraints stand in `cbl_violations`.
 //!
 //! It knows nothing of nodes that are kept up to date, of terms, solvers or programs. The layers above
@@ -13,6 +14,7 @@
 mod binary;
 mod counting;
 mod elements;
+mod keyed;
 mod laws;
 mod nary;
 mod op;
@@ -20,11 +22,13 @@ mod order;
 mod sets;
 mod sums;
 mod truth;
+mod two_sets;
 mod unary;
 
 pub use binary::BinaryOp;
 pub use counting::count_value;
 pub use elements::{element_value, element2_value};
+pub use keyed::KeyedOp;
 pub use laws::{
     cells_by_index, cells_by_row_and_column, count_of_cells, keys_of_numbers, least_and_greatest,
     members_of_sets, operations_by_number, operations_have_no_violation, quotient_and_remainder,
@@ -33,10 +37,8 @@ pub use laws::{
 pub use nary::NaryOp;
 pub use op::Op;
 pub use order::{greatest_value, least_value};
-pub use sets::{
-    arg_max_value, arg_min_value, card_value, inter_value, member_value, minus_value, set_of_value,
-    union_value,
-};
+pub use sets::{card_value, member_value};
 pub use sums::sum_value;
 pub use truth::{and_value, or_value};
+pub use two_sets::TwoSetsOp;
 pub use unary::UnaryOp;

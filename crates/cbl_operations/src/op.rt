@@ -1,7 +1,9 @@
 //! Which operation a node computes.
 
 use crate::binary::BinaryOp;
+use crate::keyed::KeyedOp;
 use crate::nary::NaryOp;
+use crate::two_sets::TwoSetsOp;
 use crate::unary::UnaryOp;
 use cbl_base::Numbers;
 use cbl_violations::Constraint;
@@ -13,10 +15,8 @@ pub enum Op {
     Unary(UnaryOp),
     Binary(BinaryOp),
     Nary(NaryOp),
-    ArgMin {
-        keys: Numbers,
-    },
-    ArgMax {
+    Keyed {
+        op: KeyedOp,
         keys: Numbers,
     },
     /// The index, and then the `len` cells.
@@ -31,12 +31,7 @@ pub enum Op {
         low2: i64,
         len2: u32,
     },
-    SetOf {
-        keys: Numbers,
-    },
-    Union,
-    Inter,
-    Minus,
+    TwoSets(TwoSetsOp),
     Card,
     /// The number, and then the set.
     Member,

@@ -1,15 +1,14 @@
 //! The values of operations on sets.
 ghost use Rattle.std.specs.Prelude.{◌≡◌, [], ◌∷◌, ◌++◌, IfOk, Ok, length, filter, not};
-ghost use Rattle.cbl_base.specs.Inputs.{as_inputs};
 ghost use Rattle.cbl_base.specs.Sets.{is_member};
 ghost use Rattle.cbl_base.specs.declared.input.Input.TheVariants.{Int, Set};
 ghost use Rattle.cbl_operations.specs.SetForms.{keys_where};
-ghost use Rattle.cbl_operations.specs.Operations.ArgMin.{arg_min};
-ghost use Rattle.cbl_operations.specs.Operations.ArgMax.{arg_max};
-ghost use Rattle.cbl_operations.specs.Operations.SetOf.{set_of_ones};
-ghost use Rattle.cbl_operations.specs.Operations.Union.{union};
-ghost use Rattle.cbl_operations.specs.Operations.Inter.{inter};
-ghost use Rattle.cbl_operations.specs.Operations.Minus.{minus};
+ghost use Rattle.cbl_operations.specs.Operations.ArgMin.{keys_of_least};
+ghost use Rattle.cbl_operations.specs.Operations.ArgMax.{keys_of_greatest};
+ghost use Rattle.cbl_operations.specs.Operations.SetOf.{keys_of_ones};
+ghost use Rattle.cbl_operations.specs.Operations.Union.{union_of};
+ghost use Rattle.cbl_operations.specs.Operations.Inter.{inter_of};
+ghost use Rattle.cbl_operations.specs.Operations.Minus.{minus_of};
 ghost use Rattle.cbl_operations.specs.Operations.Card.{card};
 ghost use Rattle.cbl_operations.specs.Operations.Member.{member};
 ghost use Rattle.std.specs.Ordering.{int_eq};
@@ -18,53 +17,57 @@ use crate::order::{greatest_of, least_of};
 use cbl_base::{IntSet, NoMemory};
 use std::alloc::Global;
 
-/// The value of `ArgMin`, of keys and one number for each: the set of the keys whose number is least.
-pub fn arg_min_value(alloc: Global, keys: &[i64], inputs: &[i64]) -> Result<IntSet, NoMemory>
+/// The set of the keys whose number is least.
+pub(crate) fn keys_of_least(alloc: Global, keys: &[i64], inputs: &[i64]) -> Result<IntSet, NoMemory>
     requires { length inputs.now ≡ length keys.now }
-    ensures { IfOk result (λ s. (arg_min keys.now).value (as_inputs inputs.now) ≡ Ok (Set s)) }
+    ensures { IfOk result (λ set. set ≡ keys_of_least keys.now inputs.now) }
 {
     let found = keys_of(alloc, keys, inputs, least_of(inputs))?;
     IntSet::from_slice(alloc, &found)
 }
 
-/// The value of `ArgMax`, of keys and one number for each: the set of the keys whose number is greatest.
-pub fn arg_max_value(alloc: Global, keys: &[i64], inputs: &[i64]) -> Result<IntSet, NoMemory>
+/// The set of the keys whose number is greatest.
+pub(crate) fn keys_of_greatest(
+    alloc: Global,
+    keys: &[i64],
+    inputs: &[i64],
+) -> Result<IntSet, NoMemory>
     requires { length inputs.now ≡ length keys.now }
-    ensures { IfOk result (λ s. (arg_max keys.now).value (as_inputs inputs.now) ≡ Ok (Set s)) }
+    ensures { IfOk result (λ set. set ≡ keys_of_greatest keys.now inputs.now) }
 {
     let found = keys_of(alloc, keys, inputs, greatest_of(inputs))?;
     IntSet::from_slice(alloc, &found)
 }
 
-/// The value of `SetOf`, of keys and one number for each: the set of the keys whose number is 1.
-pub fn set_of_value(alloc: Global, keys: &[i64], inputs: &[i64]) -> Result<IntSet, NoMemory>
+/// The set of the keys whose number is 1.
+pub(crate) fn keys_of_ones(alloc: Global, keys: &[i64], inputs: &[i64]) -> Result<IntSet, NoMemory>
     requires { length inputs.now ≡ length keys.now }
-    ensures { IfOk result (λ s. (set_of_ones keys.now).value (as_inputs inputs.now) ≡ Ok (Set s)) }
+    ensures { IfOk result (λ set. set ≡ keys_of_ones keys.now inputs.now) }
 {
     let found = keys_of(alloc, keys, inputs, 1)?;
     IntSet::from_slice(alloc, &found)
 }
 
-/// The value of `Union`, of two sets: the members of either.
-pub fn union_value(alloc: Global, a: &IntSet, b: &IntSet) -> Result<IntSet, NoMemory>
-    ensures { IfOk result (λ s. union.value (Set a.now ∷ Set b.now ∷ []) ≡ Ok (Set s)) }
+/// The members of either set.
+pub(crate) fn union_of(alloc: Global, a: &IntSet, b: &IntSet) -> Result<IntSet, NoMemory>
+    ensures { IfOk result (λ set. set ≡ union_of a.now b.now) }
 {
     let mut members = Vec::from_slice(alloc, a.as_slice())?;
     members.extend_from_slice(b.as_slice())?;
     IntSet::from_slice(alloc, &members)
 }
 
-/// The value of `Inter`, of two sets: the members of both.
-pub fn inter_value(alloc: Global, a: &IntSet, b: &IntSet) -> Result<IntSet, NoMemory>
-    ensures { IfOk result (λ s. inter.value (Set a.now ∷ Set b.now ∷ []) ≡ Ok (Set s)) }
+/// The members of both sets.
+pub(crate) fn inter_of(alloc: Global, a: &IntSet, b: &IntSet) -> Result<IntSet, NoMemory>
+    ensures { IfOk result (λ set. set ≡ inter_of a.now b.now) }
 {
     let members = members_in(alloc, a.as_slice(), b)?;
     IntSet::from_slice(alloc, &members)
 }
 
-/// The value of `Minus`, of two sets: the members of the first that are none of the second.
-pub fn minus_value(alloc: Global, a: &IntSet, b: &IntSet) -> Result<IntSet, NoMemory>
-    ensures { IfOk result (λ s. minus.value (Set a.now ∷ Set b.now ∷ []) ≡ Ok (Set s)) }
+/// The members of the first set that are none of the second.
+pub(crate) fn minus_of(alloc: Global, a: &IntSet, b: &IntSet) -> Result<IntSet, NoMemory>
+    ensures { IfOk result (λ set. set ≡ minus_of a.now b.now) }
 {
     let members = members_not_in(alloc, a.as_slice(), b)?;
     IntSet::from_slice(alloc, &members)

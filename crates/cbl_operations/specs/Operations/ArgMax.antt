@@ -7,5 +7,8 @@ use Rattle.cbl_base.specs.NodeLaw.{Rule}
 use Rattle.cbl_operations.specs.Operations.Greatest.{greatest_of}
 use Rattle.cbl_operations.specs.SetForms.{keys_where, rule_of_keys}
 
+abbrev pub keys_of_greatest : List ℤ → List ℤ → List ℤ
+keys_of_greatest keys xs = set_of (keys_where (λ x. int_eq x (greatest_of xs)) keys xs)
+
 abbrev pub arg_max : List ℤ → Rule
-arg_max keys = rule_of_keys keys (λ xs. set_of (keys_where (λ x. int_eq x (greatest_of xs)) keys xs))
+arg_max keys = rule_of_keys keys (keys_of_greatest keys)

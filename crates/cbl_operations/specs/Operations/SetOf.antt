@@ -5,5 +5,8 @@ use Rattle.cbl_base.specs.NodeLaw.{Rule}
 use Rattle.cbl_operations.specs.Truth.{is_one}
 use Rattle.cbl_operations.specs.SetForms.{keys_where, rule_of_keys}
 
+abbrev pub keys_of_ones : List ℤ → List ℤ → List ℤ
+keys_of_ones keys xs = set_of (keys_where is_one keys xs)
+
 abbrev pub set_of_ones : List ℤ → Rule
-set_of_ones keys = rule_of_keys keys (λ xs. set_of (keys_where is_one keys xs))
+set_of_ones keys = rule_of_keys keys (keys_of_ones keys)

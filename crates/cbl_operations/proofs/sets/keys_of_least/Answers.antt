@@ -1,11 +1,9 @@
-use Rattle.std.proofs.Common.{ℤ, w64, FitsSigned, ap, sym, ◌∙◌, rules}
+use Rattle.std.proofs.Common.{ℤ, w64, FitsSigned, ap, ◌∙◌, rules}
 use Rattle.std.specs.Ordering.{int_eq}
 use Rattle.std.proofs.lemmas.Int.{to_z-of_z}
-use Rattle.cbl_operations.specs.Operations.Least.{least_of}
 use Rattle.cbl_operations.specs.SetForms.{keys_where}
-use Rattle.cbl_base.proofs.InputLemmas.{numbers_of-as_inputs}
 use Rattle.cbl_operations.proofs.GivenSets.{given_set}
-use Rattle.cbl_operations.proofs.sets.arg_min_value.Goals as goal
+use Rattle.cbl_operations.proofs.sets.keys_of_least.Goals as goal
 
 pub returns : goal.returns
 returns c =
@@ -14,6 +12,5 @@ returns c =
     let best = to_z-of_z w64 c.least_of.result fits ∙ c.least_of.ensures in
     let found =
     c.deref.ensures.value ∙ c.in_ok-found.ensures
-    ∙ ap (λ (b : ℤ). keys_where (λ x. int_eq x b) keys c.args.inputs.now) best
-    ∙ ap (λ xs. keys_where (λ x. int_eq x (least_of xs)) keys xs) (sym (numbers_of-as_inputs c.args.inputs.now)) in
+    ∙ ap (λ (b : ℤ). keys_where (λ x. int_eq x b) keys c.args.inputs.now) best in
     given_set c.from_slice.result _ _ c.from_slice.ensures found

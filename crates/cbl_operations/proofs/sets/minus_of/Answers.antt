@@ -2,7 +2,7 @@ use Rattle.std.proofs.Common.{ap, ◌∙◌, not}
 use Rattle.std.specs.Prelude.{filter}
 use Rattle.cbl_base.specs.Sets.{is_member}
 use Rattle.cbl_operations.proofs.GivenSets.{given_set}
-use Rattle.cbl_operations.proofs.sets.minus_value.Goals as goal
+use Rattle.cbl_operations.proofs.sets.minus_of.Goals as goal
 
 pub returns : goal.returns
 returns c =
