@@ -52,41 +52,22 @@ pub fn gather(so_far: Gathered, outcome: Outcome) -> Result<Gathered, NoMemory>
     }
 }
 
-/// The same set again.
-#[tactic(auto, using(crate::proofs::SetCopies::same_members))]
-pub fn copied_set(alloc: Global, set: &IntSet) -> Result<IntSet, NoMemory>
-    ensures { IfOk result (λ s. s ≡ set.now) }
-{
-    IntSet::from_slice(alloc, set.as_slice())
-}
-
-/// The same value again.
-pub fn copied(alloc: Global, input: &Input) -> Result<Input, NoMemory>
-    ensures { IfOk result (λ x. x ≡ input.now) }
-{
-    match input {
-        Input::Int(x) => Ok(Input::Int(*x)),
-        Input::Set(set) => Ok(Input::Set(copied_set(alloc, set)?)),
-    }
-}
-
 /// The value in a cell again, where one is known.
-pub fn copied_outcome(alloc: Global, cell: &Option<Outcome>) -> Result<Outcome, NoMemory>
+pub fn copied_outcome(cell: &Option<Outcome>) -> Result<Outcome, NoMemory>
     ensures { IfOk result (λ o. o ≡ known (Some cell.now)) }
 {
     match cell {
-        Some(Some(value)) => Ok(Some(copied(alloc, value)?)),
-        Some(None) => Ok(None),
+        Some(outcome) => Ok(outcome.clone()?),
         None => Ok(None),
     }
 }
 
 /// What a variable comes to, where it is known.
-pub fn outcome_at(alloc: Global, cells: &[Option<Outcome>], index: u32) -> Result<Outcome, NoMemory>
+pub fn outcome_at(cells: &[Option<Outcome>], index: u32) -> Result<Outcome, NoMemory>
     ensures { IfOk result (λ o. o ≡ env_of cells.now index) }
 {
     match cells.get(index as usize) {
-        Some(cell) => copied_outcome(alloc, cell),
+        Some(cell) => copied_outcome(cell),
         None => Ok(None),
     }
 }
@@ -112,8 +93,8 @@ pub fn evaluate<'a, U: UserValues>(
 {
     match term {
         Term::Const(x) => Ok(Some(Input::Int(*x))),
-        Term::ConstSet(set) => Ok(Some(Input::Set(copied_set(setting.alloc, set)?))),
-        Term::Var(v) => outcome_at(setting.alloc, setting.cells, v.index),
+        Term::ConstSet(set) => Ok(Some(Input::Set(set.clone()?))),
+        Term::Var(v) => outcome_at(setting.cells, v.index),
         Term::Node { op, args, place } => {
             let mut so_far = Some(Vec::new(setting.alloc));
             for arg in args {

@@ -294,7 +294,7 @@ pub(crate) fn term_share<U: UserValues>(
             Ok(leaf_share(Some(Input::Set(set.clone()?)), false))
         }
         Term::Var(v) => {
-            let outcome = outcome_at(setting.alloc, setting.cells, v.index)?;
+            let outcome = outcome_at(setting.cells, v.index)?;
             Ok(leaf_share(outcome, is_marked(marks, v.index as usize)))
         }
         Term::Node { op, args, place: _ } => {
