@@ -1,6 +1,7 @@
 //! What terms come to, where it is known what the variables come to; and which subterms fail.
 ghost use Rattle.std.specs.Prelude.{◌≡◌, ◌++◌, List, Some, IsSome, IfOk, IfSome, filter};
 ghost use Rattle.cbl_base.specs.Inputs.{kind_of};
+ghost use Rattle.cbl_base.specs.declared.input.Input.TheVariants.{Set};
 ghost use Rattle.model_values.specs.Failing.{AreFailing};
 ghost use Rattle.model_values.specs.Failures.{fails};
 ghost use Rattle.model_values.specs.Outcomes.{HasKinds, env_of, gather, known, listed, outcome_of};
@@ -52,6 +53,13 @@ pub fn gather(so_far: Gathered, outcome: Outcome) -> Result<Gathered, NoMemory>
     }
 }
 
+/// A set as a value.
+pub fn set_value(set: &IntSet) -> Result<Input, NoMemory>
+    ensures { IfOk result (λ x. x ≡ Set set.now) }
+{
+    Ok(Input::Set(set.clone()?))
+}
+
 /// The value in a cell again, where one is known.
 pub fn copied_outcome(cell: &Option<Outcome>) -> Result<Outcome, NoMemory>
     ensures { IfOk result (λ o. o ≡ known (Some cell.now)) }
@@ -93,7 +101,7 @@ pub fn evaluate<'a, U: UserValues>(
 {
     match term {
         Term::Const(x) => Ok(Some(Input::Int(*x))),
-        Term::ConstSet(set) => Ok(Some(Input::Set(set.clone()?))),
+        Term::ConstSet(set) => Ok(Some(set_value(set)?)),
         Term::Var(v) => outcome_at(setting.cells, v.index),
         Term::Node { op, args, place } => {
             let mut so_far = Some(Vec::new(setting.alloc));

@@ -15,7 +15,7 @@ use cbl_operations::{NaryOp, Op};
 use cbl_violations::{Constraint, all_of_violations};
 use model_values::computing::{UserValues, number_of, value_of, violation_at};
 use model_values::dependence::is_marked;
-use model_values::evaluation::{Outcome, Setting, gather, outcome_at};
+use model_values::evaluation::{Outcome, Setting, gather, outcome_at, set_value};
 use std::alloc::Global;
 use term_model::Term;
 
@@ -291,7 +291,7 @@ pub(crate) fn term_share<U: UserValues>(
     match term {
         Term::Const(x) => Ok(leaf_share(Some(Input::Int(*x)), false)),
         Term::ConstSet(set) => {
-            Ok(leaf_share(Some(Input::Set(set.clone()?)), false))
+            Ok(leaf_share(Some(set_value(set)?), false))
         }
         Term::Var(v) => {
             let outcome = outcome_at(setting.cells, v.index)?;
