@@ -290,9 +290,7 @@ pub(crate) fn term_share<U: UserValues>(
 {
     match term {
         Term::Const(x) => Ok(leaf_share(Some(Input::Int(*x)), false)),
-        Term::ConstSet(set) => {
-            Ok(leaf_share(Some(set_value(set)?), false))
-        }
+        Term::ConstSet(set) => { Ok(leaf_share(Some(set_value(set)?), false)) }
         Term::Var(v) => {
             let outcome = outcome_at(setting.cells, v.index)?;
             Ok(leaf_share(outcome, is_marked(marks, v.index as usize)))
