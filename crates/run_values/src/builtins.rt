@@ -99,7 +99,8 @@ fn has_member(alloc: Global, number: i64, set: &Value) -> bool
 /// The set that an operation gives of two.
 fn set_of_two(alloc: Global, op: TwoSetsOp, a: &Value, b: &Value) -> Result<Value, Stop>
     ensures set { IfOk result (λ set. value_seen set ≡
-        values.Set (two_sets_value op (members_of (value_seen a.now)) (members_of (value_seen b.now)))) }
+        values.Set (two_sets_value op (members_of (value_seen a.now))
+        (members_of (value_seen b.now)))) }
     ensures memory { IfErr result (λ stop. stop ≡ NoMemory) }
 {
     let empty = IntSet::new(alloc);
