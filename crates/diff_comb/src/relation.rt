@@ -1,6 +1,6 @@
 //! Relations of two numbers.
 ghost use Rattle.std.specs.Prelude.{◌≡◌, ◌<◌, ◌∷◌, [], IsOk};
-ghost use Rattle.cbl_violations.specs.Violations.Relations.{of_two, at_each, viol_eq, viol_ne, viol_le, viol_lt};
+ghost use Rattle.cbl_violations.specs.Violations.Relations.{of_two, viol_eq, viol_ne, viol_le, viol_lt};
 ghost use Rattle.diff_comb.specs.Related.{violations_of};
 
 use cbl_base::{NoMemory, NodeFault, RunFault};

@@ -66,7 +66,7 @@ fn load_of(weights: &[i64], numbers: &[i64]) -> RunningSum
 }
 
 impl NumberNode for Knapsack {
-    ghost use Rattle.std.specs.Prelude.{◌≡◌, ◌==◌, length};
+    ghost use Rattle.std.specs.Prelude.{◌≡◌, length};
     ghost use Rattle.cbl_violations.specs.Violations.Knapsack.{knapsack};
     ghost use Rattle.diff_load_seq.specs.Parts.{IsSumOf};
     ghost use Rattle.diff_load_seq.specs.Products.{products};

@@ -49,7 +49,7 @@ impl MultiKnapsack {
 }
 
 impl NumberNode for MultiKnapsack {
-    ghost use Rattle.std.specs.Prelude.{◌≡◌, ◌==◌, length};
+    ghost use Rattle.std.specs.Prelude.{◌≡◌, length};
     ghost use Rattle.cbl_violations.specs.Violations.MultiKnapsack.{multi_knapsack};
     ghost use Rattle.diff_load_seq.specs.Levels.{IsKept};
     ghost use Rattle.diff_load_seq.specs.Bins.{bins_of, AllFit};

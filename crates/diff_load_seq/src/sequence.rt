@@ -39,7 +39,7 @@ impl Sequence {
 }
 
 impl NumberNode for Sequence {
-    ghost use Rattle.std.specs.Prelude.{◌≡◌, true};
+    ghost use Rattle.std.specs.Prelude.{◌≡◌};
     ghost use Rattle.cbl_violations.specs.Violations.Sequence.{sequence, size_of};
     ghost use Rattle.diff_load_seq.specs.Levels.{IsKept};
     ghost use Rattle.diff_load_seq.specs.Windows.{windows_of};

@@ -4,10 +4,9 @@ use Rattle.std.specs.Prelude.{pos, not, ◌&&◌, ◌||◌, filter}
 use Rattle.std.specs.Ordering.{int_eq}
 use Rattle.std.proofs.lemmas.Option.{get_or_from_slice_get}
 use Rattle.cbl_base.specs.declared.input.Change.TheVariants.{Set as SetChange}
-use Rattle.cbl_base.specs.declared.input.Input.{Input}
 use Rattle.cbl_base.specs.declared.input.Input.TheVariants.{Int, Set}
 use Rattle.cbl_base.specs.Changes.{edited, AreMembers, AreNoMembers, IsEdit}
-use Rattle.cbl_base.specs.Sets.{IsRising, is_member, with_members, without_members, set_of}
+use Rattle.cbl_base.specs.Sets.{IsRising, is_member, with_members, without_members}
 use Rattle.cbl_base.proofs.SetLemmas.{int_eq-itself, is_member-filter, is_member-set_of, is_member-with_members, is_member-without_members, rising-with_members, rising-without_members, same_set}
 use Rattle.cbl_operations.specs.Operations.Minus.{minus_of}
 use Rattle.node_states.specs.Step.{IsStep}
