@@ -160,7 +160,13 @@ fn quotient_and_cell(alloc: Global) -> Result<Term, Fail> {
         quotient,
         cell(alloc, AGAIN)?,
     )?;
-    node(alloc, Op::Constraint(Constraint::Le), AGAIN, sum, Term::Const(20))
+    node(
+        alloc,
+        Op::Constraint(Constraint::Le),
+        AGAIN,
+        sum,
+        Term::Const(20),
+    )
 }
 
 fn term_of(alloc: Global, shape: Shape) -> Result<Term, Fail> {
@@ -179,7 +185,13 @@ fn term_of(alloc: Global, shape: Shape) -> Result<Term, Fail> {
         Shape::Cell(place) => cell(alloc, place),
         Shape::CellAtMost(place) => {
             let cell = cell(alloc, place)?;
-            node(alloc, Op::Constraint(Constraint::Le), place, cell, Term::Const(90))
+            node(
+                alloc,
+                Op::Constraint(Constraint::Le),
+                place,
+                cell,
+                Term::Const(90),
+            )
         }
         Shape::QuotientAndCell => quotient_and_cell(alloc),
     }
