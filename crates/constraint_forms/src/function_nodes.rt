@@ -1,7 +1,7 @@
 //! Constraint functions that have their arguments: a unit for the call, then the cells of each array, and then what must
 //! hold of the arguments.
 ghost use Rattle.std.specs.Prelude.{◌≡◌, ℕ, List, IfErr, IfOk};
-ghost use Rattle.cbl_violations.specs.declared.constraint.Constraint.TheVariants.{Knapsack, MultiKnapsack};
+ghost use Rattle.cbl_violations.specs.declared.constraint.Constraint.TheVariants as constraints;
 ghost use Rattle.comet_meaning.specs.ConstraintForms.{bounded_op};
 ghost use Rattle.comet_meaning.specs.State as states;
 ghost use Rattle.constraint_forms.specs.Steps.{all_different_node, bounded_node, even_node, knapsack_node, multi_knapsack_node, places_of, sequence_node, window_node};
@@ -170,7 +170,7 @@ fn even_of(
 /// The constraint of `knapsack`. `NoMemory` where there is none for it; there is no other stop.
 fn knapsack(alloc: Global, weights: &Cells, capacity: i64) -> Result<Constraint, Stop>
     ensures constraint { IfOk result (λ constraint.
-        constraint ≡ Knapsack (cells_seen weights.now).numbers capacity) }
+        constraint ≡ constraints.Knapsack (cells_seen weights.now).numbers capacity) }
     ensures memory { IfErr result (λ stop. stop ≡ NoMemory) }
 {
     let weights = numbers_of(alloc, weights)?;
@@ -225,7 +225,7 @@ pub(crate) fn knapsack_with(
 /// The constraint of `multiknapsack`. `NoMemory` where there is none for it; there is no other stop.
 fn multi_knapsack(alloc: Global, sizes: &Cells, capacities: &Cells) -> Result<Constraint, Stop>
     ensures constraint { IfOk result (λ constraint.
-        constraint ≡ MultiKnapsack (cells_seen sizes.now).numbers
+        constraint ≡ constraints.MultiKnapsack (cells_seen sizes.now).numbers
         (cells_seen capacities.now).rows.low (cells_seen capacities.now).numbers) }
     ensures memory { IfErr result (λ stop. stop ≡ NoMemory) }
 {

@@ -1,6 +1,6 @@
 //! Constraints made of others, and relations, that have their operands.
 ghost use Rattle.std.specs.Prelude.{◌≡◌, List, map};
-ghost use Rattle.cbl_operations.specs.declared.op.Op.TheVariants.{Constraint};
+ghost use Rattle.cbl_operations.specs.declared.op.Op.TheVariants as ops;
 ghost use Rattle.comet_meaning.specs.ConstraintForms.{combination_op, joining_op};
 ghost use Rattle.comet_meaning.specs.State as states;
 ghost use Rattle.comet_meaning.specs.TermForms.{bodies_of, node_form};
@@ -101,7 +101,7 @@ pub(crate) fn combine(
 ) -> Result<Built, Stop>
     ensures did { (s : states.State) →
         Follows (λ terms. terms.items) (λ t.
-        t) members result s s (node_form at (Constraint (combination_op operator))) }
+        t) members result s s (node_form at (ops.Constraint (combination_op operator))) }
 {
     match members {
         Err(stop) => Err(stop),
@@ -134,7 +134,7 @@ pub(crate) fn join(
     bodies: Vec<Body>,
 ) -> Result<Built, Stop>
     ensures did { (s : states.State) →
-        Does (λ t. t) result s (node_form at (Constraint (joining_op aggregate))
+        Does (λ t. t) result s (node_form at (ops.Constraint (joining_op aggregate))
         (bodies_of (map body_seen bodies.items)) s) }
 {
     let terms = terms_in(alloc, bodies)?;
