@@ -57,7 +57,7 @@ pub(crate) fn commit_moves<N: NodeRule, L: Ledger>(
 {
     let mut course = Course::new(alloc);
     move_all(frame, cells, &mut course, moves, steps)?;
-    run(alloc, frame, nodes, cells, &mut course, steps)?;
+    run(frame, nodes, cells, &mut course, steps)?;
     finish(alloc, course)
 }
 

@@ -18,7 +18,7 @@ use cbl_base::{NoMemory, NodeId, NodeValue, RunFault, Steps};
 use std::alloc::Global;
 use std::collections::BTreeMap;
 use std::sync::ledger::Ledger;
-use store_turns::{Frame, Outcome, Waiting, copy_of, tell};
+use store_turns::{Frame, Outcome, Waiting, tell};
 
 /// What a commit has come to so far.
 #[derive(Drop)]
@@ -143,9 +143,8 @@ fn keep_value<L: Ledger>(
         get nat_cmp course.new.changes j ≡ get nat_cmp course.old.changes j) }
     ensures steps { steps.new ≤ steps.old + 1 }
 {
-    let alloc = course.waiting.alloc();
     if other {
-        let new = copy_of(alloc, &value)?;
+        let new = value.clone()?;
         let old = cells.write(id, value, steps);
         let node = NodeId(id);
         course.changes.insert(id, NodeChange { node, old, new })?;

@@ -11,13 +11,11 @@ use crate::cells::Cells;
 use crate::course::{Course, settle};
 use crate::node_turn::outcome_of;
 use cbl_base::{NoMemory, NodeRule, Steps};
-use std::alloc::Global;
 use std::sync::ledger::Ledger;
 use store_turns::{Frame, Turn};
 
 /// The first that waits has its turn. It answers whose turn that was, and `None` where nothing waits.
 fn turn<N: NodeRule, L: Ledger>(
-    alloc: Global,
     frame: &Frame,
     nodes: &mut Vec<N>,
     cells: &mut Cells,
@@ -51,14 +49,13 @@ fn turn<N: NodeRule, L: Ledger>(
     let Some(turn) = course.waiting.pop(steps) else {
         return Ok(None);
     };
-    let outcome = outcome_of(alloc, frame, nodes, cells, turn.id, &course.waiting, steps)?;
+    let outcome = outcome_of(frame, nodes, cells, turn.id, &course.waiting, steps)?;
     settle(frame, cells, course, turn.id, outcome, steps)?;
     Ok(Some(turn))
 }
 
 /// Each node that waits has its turn, by layer and then by id.
 pub(crate) fn run<N: NodeRule, L: Ledger>(
-    alloc: Global,
     frame: &Frame,
     nodes: &mut Vec<N>,
     cells: &mut Cells,
@@ -81,7 +78,7 @@ pub(crate) fn run<N: NodeRule, L: Ledger>(
 {
     let mut front: u128 = 4294967296;
     loop {
-        let Some(turn) = turn(alloc, frame, nodes, cells, course, front, steps)? else {
+        let Some(turn) = turn(frame, nodes, cells, course, front, steps)? else {
             return Ok(());
         };
         front = u128::from(turn.layer) * 4294967296 + u128::from(turn.id) + 1;

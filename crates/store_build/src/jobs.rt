@@ -67,7 +67,7 @@ fn take_item<N: NodeRule>(
     match item.node {
         Some(node) => take_node(alloc, inputs, outcomes, jobs, id, node),
         None => {
-            let outcome = cell_outcome(alloc, inputs, start[id as usize], outcomes)?;
+            let outcome = cell_outcome(inputs, start[id as usize], outcomes)?;
             outcomes[id as usize] = Some(outcome);
             Ok(())
         }

@@ -1,21 +1,21 @@
 //! What nodes, and the inputs of nodes, come to.
-ghost use Rattle.std.specs.Prelude.{◌≡◌, ℕ, ◌<◌, ◌++◌, false, [], ◌∷◌, length, None, slice_index_or, option_copied, IfOk, OnOk, All};
+ghost use Rattle.std.specs.Prelude.{◌≡◌, ℕ, ◌<◌, false, [], ◌∷◌, length, None, slice_index_or, option_copied, IfOk, All};
 ghost use Rattle.std.specs.Option.{option_map};
 ghost use Rattle.store_turns.specs.Meaning.{outcome_of, ids_of, is_empty};
 ghost use Rattle.store_build.specs.Building.{value_in, values_in, cell_outcome, copied};
 
 use cbl_base::{Input, NoMemory, NodeId, NodeRule, NodeValue};
 use std::alloc::Global;
-use store_turns::{Outcome, copy_of};
+use store_turns::Outcome;
 
 /// What a node comes to.
-pub fn value_of<N: NodeRule>(alloc: Global, node: &N) -> Result<Outcome, NoMemory>
+pub fn value_of<N: NodeRule>(node: &N) -> Result<Outcome, NoMemory>
     requires { N.ready node.now }
     ensures { IfOk result (λ o. o ≡ outcome_of ((N.rule node.now).value (N.held node.now))) }
 {
     match node.value() {
         Ok(value) => {
-            let copy = copy_of(alloc, value)?;
+            let copy = value.clone()?;
             Ok(Outcome::Value(copy))
         }
         Err(fault) => Ok(Outcome::Fails(fault)),
@@ -50,7 +50,7 @@ pub(crate) fn values_at(
         match value_at(outcomes, *id) {
             None => return Ok(None),
             Some(value) => {
-                let copy = copy_of(alloc, value)?;
+                let copy = value.clone()?;
                 values.push(copy)?;
             }
         }
@@ -60,7 +60,6 @@ pub(crate) fn values_at(
 
 /// What a cell comes to: a free one to its number, another to the value of the one id in its list.
 pub(crate) fn cell_outcome(
-    alloc: Global,
     ids: &[NodeId],
     number: i64,
     outcomes: &[Option<Outcome>],
@@ -72,18 +71,18 @@ pub(crate) fn cell_outcome(
 {
     match ids.first() {
         None => Ok(Outcome::Value(Input::Int(number))),
-        Some(id) => copied(alloc, value_at(outcomes, *id)),
+        Some(id) => copied(value_at(outcomes, *id)),
     }
 }
 
 /// A copy of what another id came to.
-fn copied(alloc: Global, value: Option<&NodeValue>) -> Result<Outcome, NoMemory>
+fn copied(value: Option<&NodeValue>) -> Result<Outcome, NoMemory>
     ensures { IfOk result (λ o. o ≡ copied (option_copied value.entry)) }
 {
     match value {
         None => Ok(Outcome::Missing),
         Some(value) => {
-            let copy = copy_of(alloc, value)?;
+            let copy = value.clone()?;
             Ok(Outcome::Value(copy))
         }
     }

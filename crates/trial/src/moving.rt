@@ -13,13 +13,11 @@ use crate::overlay::Overlay;
 use crate::settling::settle;
 use cbl_base::{Input, NoMemory, NodeId, NodeRule, Steps, VarId};
 use inc_store::Store;
-use std::alloc::Global;
 use std::sync::ledger::Ledger;
 use store_turns::{Outcome, has};
 
 /// Each moved cell that is a member takes its number.
 pub(crate) fn move_all<N: NodeRule, L: Ledger>(
-    alloc: Global,
     store: &Store<N>,
     members: &[bool],
     overlay: &mut Overlay,
@@ -45,7 +43,6 @@ pub(crate) fn move_all<N: NodeRule, L: Ledger>(
         }
         let old = store.read(NodeId(var.index), steps);
         settle(
-            alloc,
             frame,
             members,
             overlay,

@@ -15,16 +15,14 @@ ghost use Rattle.trial.specs.Overlays.{noted};
 
 use crate::overlay::Overlay;
 use cbl_base::{NoMemory, NodeId, NodeValue, RunFault, Steps};
-use std::alloc::Global;
 use std::sync::ledger::Ledger;
-use store_turns::{Frame, Outcome, Turn, copy_of, has, tell};
+use store_turns::{Frame, Outcome, Turn, has, tell};
 
 /// An id whose value is the old one has come to this outcome: it is kept where it is another, and those members
 /// that use it are told, also on which failing node they stand. One step, and two more for each such use where it
 /// is another.
 #[inline(always)]
 pub(crate) fn settle<L: Ledger>(
-    alloc: Global,
     frame: &Frame,
     members: &[bool],
     overlay: &mut Overlay,
@@ -58,7 +56,7 @@ pub(crate) fn settle<L: Ledger>(
 {
     let uses = frame.uses[id as usize].as_slice();
     let other = spread(frame, members, overlay, uses, old, &outcome, root, steps)?;
-    keep(alloc, overlay, id, old, outcome, other, steps)?;
+    keep(overlay, id, old, outcome, other, steps)?;
     Ok(())
 }
 
@@ -154,7 +152,6 @@ pub(crate) fn turn_of(frame: &Frame, id: NodeId) -> Turn
 
 /// Keeps the outcome of an id, of which is told whether it is another than its old value. One step at most.
 fn keep<L: Ledger>(
-    alloc: Global,
     overlay: &mut Overlay,
     id: u32,
     old: &NodeValue,
@@ -176,7 +173,7 @@ fn keep<L: Ledger>(
     ensures steps { steps.new ≤ steps.old + 1 }
 {
     match outcome {
-        Outcome::Value(value) => keep_value(alloc, overlay, id, old, value, other, steps),
+        Outcome::Value(value) => keep_value(overlay, id, old, value, other, steps),
         Outcome::Fails(fault) => {
             overlay.lose(id, Some(fault), steps)?;
             Ok(())
@@ -190,7 +187,6 @@ fn keep<L: Ledger>(
 
 /// Keeps the value of an id, of which is told whether it is another than the old one. One step at most.
 fn keep_value<L: Ledger>(
-    alloc: Global,
     overlay: &mut Overlay,
     id: u32,
     old: &NodeValue,
@@ -209,7 +205,7 @@ fn keep_value<L: Ledger>(
     ensures steps { steps.new ≤ steps.old + 1 }
 {
     if other {
-        let before = copy_of(alloc, old)?;
+        let before = old.clone()?;
         overlay.change(id, before, value, steps)?;
     }
     Ok(())
