@@ -1,5 +1,5 @@
 //! What nodes, and the inputs of nodes, come to.
-ghost use Rattle.std.specs.Prelude.{◌≡◌, ℕ, ◌<◌, false, [], ◌∷◌, length, None, slice_index_or, option_copied, IfOk, All};
+ghost use Rattle.std.specs.Prelude.{◌≡◌, ℕ, ◌<◌, ◌++◌, false, [], ◌∷◌, length, None, slice_index_or, option_copied, IfOk, OnOk, All};
 ghost use Rattle.std.specs.Option.{option_map};
 ghost use Rattle.store_turns.specs.Meaning.{outcome_of, ids_of, is_empty};
 ghost use Rattle.store_build.specs.Building.{value_in, values_in, cell_outcome, copied};
@@ -49,13 +49,19 @@ pub(crate) fn values_at(
     for id in ids {
         match value_at(outcomes, *id) {
             None => return Ok(None),
-            Some(value) => {
-                let copy = value.clone()?;
-                values.push(copy)?;
-            }
+            Some(value) => push_copy(&mut values, value)?,
         }
     }
     Ok(Some(values))
+}
+
+/// A copy of a value behind the others.
+fn push_copy(values: &mut Vec<Input>, value: &NodeValue) -> Result<(), NoMemory>
+    ensures { OnOk result (values.new.items ≡ values.old.items ++ value.now ∷ []) }
+{
+    let copy = value.clone()?;
+    values.push(copy)?;
+    Ok(())
 }
 
 /// What a cell comes to: a free one to its number, another to the value of the one id in its list.
