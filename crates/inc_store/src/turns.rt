@@ -5,7 +5,7 @@ ghost use Rattle.store_turns.specs.Waits.{waits};
 ghost use Rattle.store_turns.specs.Turns.{rank};
 ghost use Rattle.store_build.specs.Frames.{IsFrame};
 ghost use Rattle.inc_store.specs.Course.{InCourse, IsOver, Trace, NotBefore, first_front};
-ghost use Rattle.inc_store.specs.Stores.{IsWithin};
+ghost use Rattle.inc_store.specs.Stores.{IsInTime};
 
 use crate::cells::Cells;
 use crate::course::{Course, settle};
@@ -36,9 +36,7 @@ fn turn<N: NodeRule, L: Ledger>(
         MatchOption r (Unit {0}) (λ t. InCourse (map N.rule nodes.old.items)
         (map N.held nodes.new.items) frame.now trace cells.new course.new
         (NotBefore (rank (layer_of frame.now) t.id + 1) (layer_of frame.now)) (steps.new + 1))) }
-    ensures limit { IsWithin (graph_of
-        (map N.rule nodes.old.items) frame.now) trace.before trace.target trace.moved
-        (uses_in frame.now) trace.base steps.new }
+    ensures limit { IsInTime (map N.rule nodes.old.items) frame.now trace steps.new }
     ensures over { IfOk result (λ r. MatchOption r (((l i : ℕ) →
         waits course.old.waiting l i ≡ None) ×
         (map N.held nodes.new.items ≡ map N.held nodes.old.items) × (cells.new ≡ cells.old) ×
@@ -70,9 +68,7 @@ pub(crate) fn run<N: NodeRule, L: Ledger>(
         (NotBefore first_front (layer_of frame.now)) (steps.old + 1) }
     ensures ready { OnOk result (All N.ready nodes.new.items) }
     ensures rules { OnOk result (map N.rule nodes.new.items ≡ map N.rule nodes.old.items) }
-    ensures limit { IsWithin (graph_of
-        (map N.rule nodes.old.items) frame.now) trace.before trace.target trace.moved
-        (uses_in frame.now) trace.base steps.new }
+    ensures limit { IsInTime (map N.rule nodes.old.items) frame.now trace steps.new }
     ensures over { OnOk result (IsOver (map N.rule nodes.old.items)
         (map N.held nodes.new.items) frame.now trace cells.new course.new steps.new) }
 {

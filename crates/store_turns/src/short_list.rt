@@ -171,7 +171,8 @@ impl ShortList {
     ) -> Result<(), NoMemory>
         requires { at < length (listed self.old) }
         ensures before { IsFoundAt self.old at }
-        ensures after { OnOk result (GetsAt at (IntChange place old.now new.now) self.old self.new) }
+        ensures after { OnOk result (GetsAt at
+            (IntChange place old.now new.now) self.old self.new) }
     {
         add_number_to(&mut self.entries[at].1, place, old, new)
     }
