@@ -13,6 +13,7 @@ ghost use Rattle.inc_store.specs.Views.{IsUsable, value_at, count_of, first_of, 
 ghost use Rattle.trial.specs.Overlays.{asked, new_or, root_by, root_steps};
 
 use crate::overlay::Overlay;
+use crate::settling::copy_of;
 use cbl_base::{Change, NoMemory, NodeFault, NodeId, NodeRule, NodeValue, RunFault, Steps};
 use inc_store::{NodeChange, Store};
 use std::sync::ledger::Ledger;
@@ -90,7 +91,7 @@ fn copied<L: Ledger>(
     ensures steps { steps.new ≡ steps.old + 1 }
 {
     let input = frame.inputs[id as usize][0];
-    let value = newest(overlay.changed(input.0, steps), old).clone()?;
+    let value = copy_of(newest(overlay.changed(input.0, steps), old))?;
     Ok(Outcome::Value(value))
 }
 

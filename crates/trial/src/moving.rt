@@ -31,7 +31,8 @@ pub(crate) fn move_all<N: NodeRule, L: Ledger>(
     requires moves { AreMoves (part_graph query.part) query.ask.moves }
     requires asked { query.ask.moves ≡ moves_of (has members.now) moves.now }
     requires course { InQuery query overlay.old
-        (LaterThanMoves query.part.frame query.ask.moves) (steps.old + 2 * length query.ask.moves + 4) }
+        (LaterThanMoves query.part.frame query.ask.moves)
+        (steps.old + 2 * length query.ask.moves + 4) }
     ensures course { OnOk result (InQuery query overlay.new
         (NotBefore first_front (layer_of query.part.frame)) (steps.new + 4)) }
     ensures limit { IsPaid query steps.new }
