@@ -10,7 +10,6 @@ use Rattle.cbl_operations.specs.Binary.{rule_of_binary}
 use Rattle.cbl_operations.specs.Operations.Sum.{sum}
 use Rattle.cbl_operations.specs.declared.binary.BinaryOp.TheVariants.{Add, Sub}
 use Rattle.node_base.specs.declared.over_numbers.OverNumbers.{OverNumbers}
-use Rattle.diff_global.specs.NumberRules.{all_different_rule}
 use Rattle.store_turns.specs.Meaning.{Graph}
 use Rattle.store_build.specs.Lists.{list_in}
 use Rattle.inc_store.specs.Moves.{AreMoves}
@@ -22,13 +21,13 @@ use Rattle.bench_store.specs.declared.pieces.Piece.TheVariants.{Binary, AllDiffe
 abbrev pub rule_of_part : Part → Rule
 rule_of_part Plus = rule_of_numbers (rule_of_binary Add)
 rule_of_part Minus = rule_of_numbers (rule_of_binary Sub)
-rule_of_part Differing = all_different
+rule_of_part Differing = rule_of_numbers all_different
 rule_of_part Total = rule_of_numbers sum
 
 -- what a node computes
 abbrev pub rule_of_piece : Piece → NumberRule
 rule_of_piece (Binary s) = rule_of_binary s.operation
-rule_of_piece (AllDifferent s) = all_different_rule
+rule_of_piece (AllDifferent s) = all_different
 rule_of_piece (Sum s) = sum
 
 abbrev pub rule_of_node : OverNumbers Piece → Rule

@@ -20,6 +20,15 @@ impl<T: Drop> From<AllocFailed<T>> for NoMemory {
     }
 }
 
+/// Want of memory, however it is told. An error that `?` makes of it is by one `From` for all of these.
+pub trait WantOfMemory: Drop {}
+
+impl WantOfMemory for NoMemory {}
+
+impl WantOfMemory for AllocError {}
+
+impl<T: Drop> WantOfMemory for AllocFailed<T> {}
+
 /// What there can be too many of.
 #[derive(Clone, Copy, PartialEq, Eq, Debug)]
 pub enum Limit {
@@ -60,13 +69,13 @@ pub enum NodeFault {
     NoMemory,
 }
 
-impl From<NoMemory> for NodeFault {
+impl<E: WantOfMemory> From<E> for NodeFault {
     ghost use Rattle.std.specs.Prelude.{◌≡◌};
     ghost use Rattle.cbl_base.specs.declared.faults.NodeFault.TheVariants.{NoMemory as WithoutMemory};
 
     ghost from_gives = { λ _ fault. fault ≡ WithoutMemory };
 
-    fn from(_error: NoMemory) -> NodeFault {
+    fn from(_error: E) -> NodeFault {
         NodeFault::NoMemory
     }
 }

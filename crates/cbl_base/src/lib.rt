@@ -23,7 +23,7 @@ mod place;
 mod text;
 
 pub use arithmetic::{add, div, mul, rem, sub};
-pub use faults::{Limit, NoMemory, NodeFault, RunFault};
+pub use faults::{Limit, NoMemory, NodeFault, RunFault, WantOfMemory};
 pub use fuel::{Fuel, Spent, Steps};
 pub use ids::{NodeId, VarId};
 pub use input::{Change, Input, NodeValue};

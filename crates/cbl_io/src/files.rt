@@ -4,8 +4,8 @@ ghost use Rattle.std.specs.Ordering.{nat_cmp};
 ghost use Rattle.cbl_io.specs.Faults.{HasRisen};
 ghost use Rattle.cbl_io.specs.Held.{Held, IsRead};
 
-use cbl_base::NoMemory;
-use std::alloc::{AllocError, Global};
+use cbl_base::WantOfMemory;
+use std::alloc::Global;
 
 /// Why a read gave no bytes.
 #[derive(Clone, Copy, PartialEq, Eq, Debug)]
@@ -15,22 +15,13 @@ pub enum ReadStop {
     NoMemory,
 }
 
-impl From<NoMemory> for ReadStop {
-    ghost use Rattle.cbl_io.specs.declared.files.ReadStop.TheVariants.{NoMemory};
+impl<E: WantOfMemory> From<E> for ReadStop {
+    ghost use Rattle.std.specs.Prelude.{◌≡◌};
+    ghost use Rattle.cbl_io.specs.declared.files.ReadStop.TheVariants as stops;
 
-    ghost from_gives = { λ _ stop. stop ≡ NoMemory };
+    ghost from_gives = { λ _ stop. stop ≡ stops.NoMemory };
 
-    fn from(_error: NoMemory) -> ReadStop {
-        ReadStop::NoMemory
-    }
-}
-
-impl From<AllocError> for ReadStop {
-    ghost use Rattle.cbl_io.specs.declared.files.ReadStop.TheVariants.{NoMemory};
-
-    ghost from_gives = { λ _ stop. stop ≡ NoMemory };
-
-    fn from(_error: AllocError) -> ReadStop {
+    fn from(_error: E) -> ReadStop {
         ReadStop::NoMemory
     }
 }

@@ -7,7 +7,7 @@ use cbl_base::RunFault;
 
 /// The value of `Count`, of a list with one number at least: how many of those before the last equal the
 /// last.
-pub fn count_value(inputs: &[i64]) -> Result<i64, RunFault>
+pub(crate) fn count_value(inputs: &[i64]) -> Result<i64, RunFault>
     requires { IsTrue (count.takes (length inputs.now)) }
     ensures { result ≡ count.value inputs.now }
 {

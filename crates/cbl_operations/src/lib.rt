@@ -26,7 +26,6 @@ mod two_sets;
 mod unary;
 
 pub use binary::BinaryOp;
-pub use counting::count_value;
 pub use elements::{element_value, element2_value};
 pub use keyed::KeyedOp;
 pub use laws::{
@@ -36,9 +35,6 @@ pub use laws::{
 };
 pub use nary::NaryOp;
 pub use op::Op;
-pub use order::{greatest_value, least_value};
 pub use sets::{card_value, member_value};
-pub use sums::sum_value;
-pub use truth::{and_value, or_value};
 pub use two_sets::TwoSetsOp;
 pub use unary::UnaryOp;

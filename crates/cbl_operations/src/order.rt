@@ -8,7 +8,7 @@ ghost use Rattle.cbl_operations.specs.Operations.Greatest.{greatest, greatest_of
 use cbl_base::RunFault;
 
 /// The value of `Least`, of a list with one number at least: the least of them.
-pub fn least_value(inputs: &[i64]) -> Result<i64, RunFault>
+pub(crate) fn least_value(inputs: &[i64]) -> Result<i64, RunFault>
     requires { IsTrue (least.takes (length inputs.now)) }
     ensures { result ≡ least.value inputs.now }
 {
@@ -16,7 +16,7 @@ pub fn least_value(inputs: &[i64]) -> Result<i64, RunFault>
 }
 
 /// The value of `Greatest`, of a list with one number at least: the greatest of them.
-pub fn greatest_value(inputs: &[i64]) -> Result<i64, RunFault>
+pub(crate) fn greatest_value(inputs: &[i64]) -> Result<i64, RunFault>
     requires { IsTrue (greatest.takes (length inputs.now)) }
     ensures { result ≡ greatest.value inputs.now }
 {

@@ -7,7 +7,7 @@ use cbl_base::RunFault;
 
 /// The value of `Sum`, of any list: the total, 0 for none. `Overflow` exactly where it doesn't fit 64
 /// bits, whatever the totals on the way.
-pub fn sum_value(inputs: &[i64]) -> Result<i64, RunFault>
+pub(crate) fn sum_value(inputs: &[i64]) -> Result<i64, RunFault>
     ensures { result ≡ sum.value inputs.now }
 {
     i64::try_from(total_of(inputs).value).map_err(|_| RunFault::Overflow)

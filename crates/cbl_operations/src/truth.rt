@@ -8,14 +8,14 @@ ghost use Rattle.cbl_operations.specs.Operations.Or.{or};
 use cbl_base::RunFault;
 
 /// The value of `And`, of any list: 1 where no number is 0, so also for none, and 0 else.
-pub fn and_value(inputs: &[i64]) -> Result<i64, RunFault>
+pub(crate) fn and_value(inputs: &[i64]) -> Result<i64, RunFault>
     ensures { result ≡ and.value inputs.now }
 {
     Ok(i64::from(are_all_true(inputs)))
 }
 
 /// The value of `Or`, of any list: 1 where some number isn't 0, and 0 else, so also for none.
-pub fn or_value(inputs: &[i64]) -> Result<i64, RunFault>
+pub(crate) fn or_value(inputs: &[i64]) -> Result<i64, RunFault>
     ensures { result ≡ or.value inputs.now }
 {
     Ok(i64::from(is_any_true(inputs)))

@@ -8,7 +8,7 @@ use cbl_base::RunFault;
 
 /// Of each value that stands there, at how many places more than one: the sum. `Overflow` exactly where
 /// it doesn't fit.
-pub fn all_different_violations(inputs: &[i64]) -> Result<i64, RunFault>
+pub(crate) fn all_different_violations(inputs: &[i64]) -> Result<i64, RunFault>
     ensures { result ≡ all_different_violations inputs.now }
 {
     let mut sum: i128 = 0;
@@ -23,7 +23,7 @@ pub fn all_different_violations(inputs: &[i64]) -> Result<i64, RunFault>
 
 /// 1 where the value at the place, counted from 0, stands at another place too, and else 0.
 #[tactic(auto, unfolding(crate::specs::Violations::AllDifferent::all_different_violation_at))]
-pub fn all_different_violation_at(inputs: &[i64], place: usize) -> i64
+pub(crate) fn all_different_violation_at(inputs: &[i64], place: usize) -> i64
     requires { place < length inputs.now }
     ensures { result ≡ all_different_violation_at inputs.now place }
 {

@@ -32,7 +32,7 @@ fn shortage(inputs: &[i64], low: i64, bounds: &[i64], k: usize) -> Result<i64, R
 
 /// Over the bounded values, at how many places more than its bound each one stands: the sum.
 /// `Overflow` exactly where a bound's difference or the sum doesn't fit.
-pub fn at_most_violations(inputs: &[i64], low: i64, bounds: &[i64]) -> Result<i64, RunFault>
+pub(crate) fn at_most_violations(inputs: &[i64], low: i64, bounds: &[i64]) -> Result<i64, RunFault>
     ensures { result ≡ at_most_violations low bounds.now inputs.now }
 {
     let mut sum: i128 = 0;
@@ -44,7 +44,7 @@ pub fn at_most_violations(inputs: &[i64], low: i64, bounds: &[i64]) -> Result<i6
 
 /// Over the bounded values, at how many places fewer than its bound each one stands: the sum.
 /// `Overflow` exactly where a bound's difference or the sum doesn't fit.
-pub fn at_least_violations(inputs: &[i64], low: i64, bounds: &[i64]) -> Result<i64, RunFault>
+pub(crate) fn at_least_violations(inputs: &[i64], low: i64, bounds: &[i64]) -> Result<i64, RunFault>
     ensures { result ≡ at_least_violations low bounds.now inputs.now }
 {
     let mut sum: i128 = 0;
@@ -56,7 +56,7 @@ pub fn at_least_violations(inputs: &[i64], low: i64, bounds: &[i64]) -> Result<i
 
 /// Over the bounded values, at how many places more or fewer than its bound each one stands: the sum.
 /// `Overflow` exactly where a bound's difference or the sum doesn't fit.
-pub fn exactly_violations(inputs: &[i64], low: i64, bounds: &[i64]) -> Result<i64, RunFault>
+pub(crate) fn exactly_violations(inputs: &[i64], low: i64, bounds: &[i64]) -> Result<i64, RunFault>
     ensures { result ≡ exactly_violations low bounds.now inputs.now }
 {
     let mut sum: i128 = 0;
@@ -82,7 +82,7 @@ fn is_over(inputs: &[i64], place: usize, low: i64, bounds: &[i64]) -> Option<boo
 
 /// 1 where the value at the place, counted from 0, has a bound and stands at more places, and else 0.
 #[tactic(auto, unfolding(crate::specs::Violations::AtMost::at_most_violation_at))]
-pub fn at_most_violation_at(inputs: &[i64], place: usize, low: i64, bounds: &[i64]) -> i64
+pub(crate) fn at_most_violation_at(inputs: &[i64], place: usize, low: i64, bounds: &[i64]) -> i64
     requires within { place < length inputs.now }
     requires valued { IsOk (at_most_violations low bounds.now inputs.now) }
     ensures { result ≡ at_most_violation_at low bounds.now inputs.now place }
@@ -94,7 +94,7 @@ pub fn at_most_violation_at(inputs: &[i64], place: usize, low: i64, bounds: &[i6
 /// 1 where there are violations, and the value at the place, counted from 0, has no bound or stands at
 /// more places; and else 0.
 #[tactic(auto, unfolding(crate::specs::Violations::AtLeast::at_least_violation_at))]
-pub fn at_least_violation_at(inputs: &[i64], place: usize, low: i64, bounds: &[i64]) -> i64
+pub(crate) fn at_least_violation_at(inputs: &[i64], place: usize, low: i64, bounds: &[i64]) -> i64
     requires within { place < length inputs.now }
     requires valued { IsOk (at_least_violations low bounds.now inputs.now) }
     ensures { result ≡ at_least_violation_at low bounds.now inputs.now place }
@@ -107,7 +107,7 @@ pub fn at_least_violation_at(inputs: &[i64], place: usize, low: i64, bounds: &[i
 /// 1 where the value at the place, counted from 0, stands at more places than its bound, or has no bound
 /// while there are violations; and else 0.
 #[tactic(auto, unfolding(crate::specs::Violations::Exactly::exactly_violation_at))]
-pub fn exactly_violation_at(inputs: &[i64], place: usize, low: i64, bounds: &[i64]) -> i64
+pub(crate) fn exactly_violation_at(inputs: &[i64], place: usize, low: i64, bounds: &[i64]) -> i64
     requires within { place < length inputs.now }
     requires valued { IsOk (exactly_violations low bounds.now inputs.now) }
     ensures { result ≡ exactly_violation_at low bounds.now inputs.now place }

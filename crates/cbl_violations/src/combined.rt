@@ -22,7 +22,7 @@ pub fn all_of_violations(members: &[i64]) -> Result<i64, RunFault>
 }
 
 /// The least of the members' violations, and 0 where there is no member.
-pub fn any_of_violations(members: &[i64]) -> Result<i64, RunFault>
+pub(crate) fn any_of_violations(members: &[i64]) -> Result<i64, RunFault>
     ensures { result ≡ any_of_violations members.now }
 {
     let Some((first, others)) = members.split_first() else {
@@ -36,7 +36,7 @@ pub fn any_of_violations(members: &[i64]) -> Result<i64, RunFault>
 }
 
 /// 1 where the one member has no violations, and else 0.
-pub fn not_held_violations(members: &[i64]) -> Result<i64, RunFault>
+pub(crate) fn not_held_violations(members: &[i64]) -> Result<i64, RunFault>
     requires { length members.now ≡ 1 }
     ensures { result ≡ not_held_violations members.now }
 {
@@ -74,7 +74,7 @@ pub fn repeat_value(inputs: &[i64]) -> Result<i64, RunFault>
 }
 
 /// 0: what combines constraints says nothing of its places.
-pub fn combined_violation_at(members: &[i64], place: usize) -> i64
+pub(crate) fn combined_violation_at(members: &[i64], place: usize) -> i64
     requires { place < length members.now }
     ensures { result ≡ combined_violation_at members.now place }
 {

@@ -17,7 +17,11 @@ fn part_of_load(inputs: &[i64], weights: &[i64], place: usize) -> Result<i64, Ru
 
 /// How much the load, each input times its weight, is above the capacity. `Overflow` exactly where a
 /// product, the load or the difference doesn't fit.
-pub fn knapsack_violations(inputs: &[i64], weights: &[i64], capacity: i64) -> Result<i64, RunFault>
+pub(crate) fn knapsack_violations(
+    inputs: &[i64],
+    weights: &[i64],
+    capacity: i64,
+) -> Result<i64, RunFault>
     requires { length inputs.now ≡ length weights.now }
     ensures { result ≡ knapsack_violations weights.now capacity inputs.now }
 {
@@ -30,7 +34,12 @@ pub fn knapsack_violations(inputs: &[i64], weights: &[i64], capacity: i64) -> Re
 }
 
 /// The part of the load at the place, counted from 0, but no more than the violations and not below 0.
-pub fn knapsack_violation_at(inputs: &[i64], place: usize, weights: &[i64], capacity: i64) -> i64
+pub(crate) fn knapsack_violation_at(
+    inputs: &[i64],
+    place: usize,
+    weights: &[i64],
+    capacity: i64,
+) -> i64
     requires lengths { length inputs.now ≡ length weights.now }
     requires within { place < length inputs.now }
     requires valued { IsOk (knapsack_violations weights.now capacity inputs.now) }

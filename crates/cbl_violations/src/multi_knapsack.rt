@@ -53,7 +53,7 @@ fn overload_at(
 /// Over the bins, how much each one's load is above its capacity: the sum. The first capacity is that of
 /// the bin `low`, and each next one that of the bin one above. `Overflow` exactly where a load, how much
 /// it is above, or the sum doesn't fit.
-pub fn multi_knapsack_violations(
+pub(crate) fn multi_knapsack_violations(
     inputs: &[i64],
     sizes: &[i64],
     low: i64,
@@ -71,7 +71,7 @@ pub fn multi_knapsack_violations(
 
 /// How much the load of the bin at the place, counted from 0, is above its capacity, and 0 for a value
 /// that is no bin.
-pub fn multi_knapsack_violation_at(
+pub(crate) fn multi_knapsack_violation_at(
     inputs: &[i64],
     place: usize,
     sizes: &[i64],

@@ -45,7 +45,7 @@ pub fn lt_violations(inputs: &[i64]) -> Result<i64, RunFault>
 }
 
 /// The violations of `==`, at each of the places 0 and 1.
-pub fn eq_violation_at(inputs: &[i64], place: usize) -> i64
+pub(crate) fn eq_violation_at(inputs: &[i64], place: usize) -> i64
     requires two { length inputs.now ≡ 2 }
     requires within { place < 2 }
     requires valued { IsOk (of_two eq_violations inputs.now) }
@@ -55,7 +55,7 @@ pub fn eq_violation_at(inputs: &[i64], place: usize) -> i64
 }
 
 /// The violations of `!=`, at each of the places 0 and 1.
-pub fn ne_violation_at(inputs: &[i64], place: usize) -> i64
+pub(crate) fn ne_violation_at(inputs: &[i64], place: usize) -> i64
     requires two { length inputs.now ≡ 2 }
     requires within { place < 2 }
     ensures { result ≡ at_each ne_violations inputs.now place }
@@ -64,7 +64,7 @@ pub fn ne_violation_at(inputs: &[i64], place: usize) -> i64
 }
 
 /// The violations of `<=`, at each of the places 0 and 1.
-pub fn le_violation_at(inputs: &[i64], place: usize) -> i64
+pub(crate) fn le_violation_at(inputs: &[i64], place: usize) -> i64
     requires two { length inputs.now ≡ 2 }
     requires within { place < 2 }
     requires valued { IsOk (of_two le_violations inputs.now) }
@@ -74,7 +74,7 @@ pub fn le_violation_at(inputs: &[i64], place: usize) -> i64
 }
 
 /// The violations of `<`, at each of the places 0 and 1.
-pub fn lt_violation_at(inputs: &[i64], place: usize) -> i64
+pub(crate) fn lt_violation_at(inputs: &[i64], place: usize) -> i64
     requires two { length inputs.now ≡ 2 }
     requires within { place < 2 }
     requires valued { IsOk (of_two lt_violations inputs.now) }

@@ -47,7 +47,7 @@ fn surplus_in_window(
 
 /// Over the windows of so many places in a row, how many more than `most` have a value of the set: the
 /// sum. `Overflow` exactly where a window's difference or the sum doesn't fit.
-pub fn sequence_violations(
+pub(crate) fn sequence_violations(
     inputs: &[i64],
     values: &[i64],
     most: i64,
@@ -89,7 +89,7 @@ fn excess_at(
 
 /// Where the value at the place, counted from 0, is in the set, the sum over the windows that hold the
 /// place, and else 0.
-pub fn sequence_violation_at(
+pub(crate) fn sequence_violation_at(
     inputs: &[i64],
     place: usize,
     values: &[i64],

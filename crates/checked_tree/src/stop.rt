@@ -1,9 +1,7 @@
 //! Why checking stops.
 ghost use Rattle.std.specs.Prelude.{◌≡◌};
-ghost use Rattle.checked_tree.specs.declared.stop.Stop.TheVariants.{NoMemory};
 
-use cbl_base::{NoMemory as OutOfMemory, Place};
-use std::alloc::{AllocError, AllocFailed};
+use cbl_base::{Place, WantOfMemory};
 
 /// Why a part is refused. A user sees its code, T1 to T12 in the order of the variants.
 #[derive(Clone, Copy, PartialEq, Eq, Debug)]
@@ -29,32 +27,12 @@ pub enum Stop {
     NoMemory,
 }
 
-impl From<OutOfMemory> for Stop {
-    ghost use Rattle.checked_tree.specs.declared.stop.Stop.TheVariants.{NoMemory};
+impl<E: WantOfMemory> From<E> for Stop {
+    ghost use Rattle.checked_tree.specs.declared.stop.Stop.TheVariants as stops;
 
-    ghost from_gives = { λ _ stop. stop ≡ NoMemory };
+    ghost from_gives = { λ _ stop. stop ≡ stops.NoMemory };
 
-    fn from(_error: OutOfMemory) -> Stop {
-        Stop::NoMemory
-    }
-}
-
-impl From<AllocError> for Stop {
-    ghost use Rattle.checked_tree.specs.declared.stop.Stop.TheVariants.{NoMemory};
-
-    ghost from_gives = { λ _ stop. stop ≡ NoMemory };
-
-    fn from(_error: AllocError) -> Stop {
-        Stop::NoMemory
-    }
-}
-
-impl<T: Drop> From<AllocFailed<T>> for Stop {
-    ghost use Rattle.checked_tree.specs.declared.stop.Stop.TheVariants.{NoMemory};
-
-    ghost from_gives = { λ _ stop. stop ≡ NoMemory };
-
-    fn from(_error: AllocFailed<T>) -> Stop {
+    fn from(_error: E) -> Stop {
         Stop::NoMemory
     }
 }

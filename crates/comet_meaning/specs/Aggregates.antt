@@ -1,18 +1,18 @@
 -- Aggregates outside terms: the elements are evaluated in order of the tuples that pass the condition, all of them, and
 -- then comes the value. From the language.
-use Rattle.std.specs.Prelude.{ℤ, pos, Bool, List, [], ◌∷◌, ◌++◌, length, map, nat_lt, Result, Ok, Err, if◌then◌else◌}
+use Rattle.std.specs.Prelude.{ℤ, Bool, List, [], ◌∷◌, ◌++◌, length, map, nat_lt, Result, Ok, Err, if◌then◌else◌}
 use Rattle.std.specs.List.{list_all, list_any}
-use Rattle.std.specs.Ordering.{int_eq}
 use Rattle.cbl_base.specs.Arithmetic.{exact}
-use Rattle.cbl_base.specs.Sets.{set_of}
 use Rattle.cbl_base.specs.Totals.{total}
 use Rattle.cbl_base.specs.declared.place.Place.{Place}
 use Rattle.cbl_base.specs.declared.faults.Limit.TheVariants.{Cells}
 use Rattle.cbl_base.specs.declared.faults.RunFault.{RunFault}
 use Rattle.cbl_base.specs.declared.faults.RunFault.TheVariants.{EmptyRange, TooMany}
+use Rattle.cbl_operations.specs.Keyed.{keyed_value}
 use Rattle.cbl_operations.specs.Operations.Least.{least_of}
 use Rattle.cbl_operations.specs.Operations.Greatest.{greatest_of}
-use Rattle.cbl_operations.specs.SetForms.{keys_where}
+use Rattle.cbl_operations.specs.declared.keyed.KeyedOp.{KeyedOp}
+use Rattle.cbl_operations.specs.declared.keyed.KeyedOp.TheVariants.{ArgMin, ArgMax, SetOf}
 use Rattle.comet_syntax.specs.declared.tree.expressions.Aggregate.{Aggregate}
 use Rattle.comet_syntax.specs.declared.tree.expressions.Aggregate.TheVariants as aggregates
 use Rattle.checked_tree.specs.Shape.{Shape}
@@ -56,9 +56,9 @@ abbrev pub extreme_of : (List ℤ → ℤ) → List ℤ → Result ℤ RunFault
 extreme_of f [] = Err EmptyRange
 extreme_of f (x ∷ xs) = Ok (f (x ∷ xs))
 
--- the keys whose numbers are the extreme
-abbrev pub extreme_keys : (List ℤ → ℤ) → List Element → List ℤ
-extreme_keys f xs = set_of (keys_where (λ z. int_eq z (f (numbers_of xs))) (keys_of xs) (numbers_of xs))
+-- the set of some of the keys, by the numbers
+abbrev pub keys_by : KeyedOp → List Element → List ℤ
+keys_by op xs = keyed_value op (keys_of xs) (numbers_of xs)
 
 -- what the elements give: a `sum` is one operation, so only its total must fit
 abbrev pub aggregate_value : Place → Aggregate → List Element → Act Value
@@ -68,9 +68,9 @@ aggregate_value at aggregates.Max xs = give_or at (extreme_of greatest_of (numbe
 aggregate_value at aggregates.All xs = give (Row (numbers_of xs))
 aggregate_value at aggregates.And xs = give (Truth (list_all (λ b. b) (truths_of xs)))
 aggregate_value at aggregates.Or xs = give (Truth (list_any (λ b. b) (truths_of xs)))
-aggregate_value at aggregates.SetOf xs = give (Set (set_of (keys_where (λ z. int_eq z (pos 1)) (keys_of xs) (numbers_of xs))))
-aggregate_value at aggregates.ArgMin xs = give (Set (extreme_keys least_of xs))
-aggregate_value at aggregates.ArgMax xs = give (Set (extreme_keys greatest_of xs))
+aggregate_value at aggregates.SetOf xs = give (Set (keys_by SetOf xs))
+aggregate_value at aggregates.ArgMin xs = give (Set (keys_by ArgMin xs))
+aggregate_value at aggregates.ArgMax xs = give (Set (keys_by ArgMax xs))
 
 unfoldable pub aggregate_form : Level → Place → Aggregate → List Shape → Shape → Shape → Act Value
 aggregate_form l at a gs c body =

@@ -3,10 +3,12 @@
 -- places is evaluated when the statement runs. A call costs a unit when its arguments have their values, and then each
 -- cell of its arrays costs one, in order of the arguments; then come the faults of lengths and of windows. Of a user's
 -- constraint only its places are told here: `post` takes it by its name. From the language.
-use Rattle.std.specs.Prelude.{ℤ, pos, ◌&&◌, List, [], ◌∷◌, ◌++◌, length, nat_eq, int_le}
+use Rattle.std.specs.Prelude.{ℤ, pos, List, [], ◌∷◌, ◌++◌, length, nat_eq}
 use Rattle.cbl_base.specs.declared.place.Place.{Place}
 use Rattle.cbl_base.specs.declared.faults.RunFault.TheVariants.{OutOfRange}
-use Rattle.cbl_operations.specs.declared.op.Op.{Op}
+use Rattle.cbl_violations.specs.Constraints.{is_proper}
+use Rattle.cbl_violations.specs.declared.constraint.Constraint.{Constraint}
+use Rattle.cbl_violations.specs.declared.constraint.Constraint.TheVariants.{Eq, Ne, Le, Lt, AllDifferent, AtMost, AtLeast, Exactly, Knapsack, MultiKnapsack, Sequence, AllOf, AnyOf, NotHeld}
 use Rattle.cbl_operations.specs.declared.op.Op.TheVariants as ops
 use Rattle.term_model.specs.declared.term.Term.{Term}
 use Rattle.comet_syntax.specs.declared.tree.expressions.Aggregate.{Aggregate}
@@ -32,29 +34,29 @@ use Rattle.comet_meaning.specs.TermForms.{node_form, single, sides, keyed_form, 
 
 -- `a == b` and its like: `>` and `>=` are `<` and `<=` of the sides exchanged
 
-abbrev pub relation_op : Comparison → Op
-relation_op comparisons.Equal = ops.ViolEq
-relation_op comparisons.NotEqual = ops.ViolNe
-relation_op comparisons.Less = ops.ViolLt
-relation_op comparisons.LessEqual = ops.ViolLe
-relation_op comparisons.Greater = ops.ViolLt
-relation_op comparisons.GreaterEqual = ops.ViolLe
+abbrev pub relation_op : Comparison → Constraint
+relation_op comparisons.Equal = Eq
+relation_op comparisons.NotEqual = Ne
+relation_op comparisons.Less = Lt
+relation_op comparisons.LessEqual = Le
+relation_op comparisons.Greater = Lt
+relation_op comparisons.GreaterEqual = Le
 
 unfoldable pub relation_form : Level → Place → Comparison → Shape → Shape → Act Term
 relation_form l at c a b = do
   t ← term l a
   u ← term l b
-  node_form at (relation_op c) (sides c t u)
+  node_form at (ops.Constraint (relation_op c)) (sides c t u)
 
 -- `!c`
 unfoldable pub negation_form : Level → Place → Shape → Act Term
-negation_form l at e = constraint l e >>= λ t. node_form at ops.NotHeld (t ∷ [])
+negation_form l at e = constraint l e >>= λ t. node_form at (ops.Constraint NotHeld) (t ∷ [])
 
 -- a chain of `&&` or of `||` is one operation at its first operator
 
-abbrev pub combination_op : ChainOperator → Op
-combination_op chains.Or = ops.AnyOf
-combination_op o = ops.AllOf
+abbrev pub combination_op : ChainOperator → Constraint
+combination_op chains.Or = AnyOf
+combination_op o = AllOf
 
 -- the members behind those before
 unfoldable pub members_form : Level → List Shape → List Term → Act (List Term)
@@ -63,7 +65,7 @@ members_form l (shapes.link o at e ∷ links) ts = constraint l e >>= λ t. memb
 members_form l (x ∷ links) ts = members_form l links ts
 
 unfoldable pub combined_form : Level → List Shape → Term → Act Term
-combined_form l (shapes.link o at e ∷ links) t = members_form l (shapes.link o at e ∷ links) (t ∷ []) >>= λ ts. node_form at (combination_op o) ts
+combined_form l (shapes.link o at e ∷ links) t = members_form l (shapes.link o at e ∷ links) (t ∷ []) >>= λ ts. node_form at (ops.Constraint (combination_op o)) ts
 combined_form l links t = give t
 
 unfoldable pub combination_form : Level → Shape → List Shape → Act Term
@@ -72,13 +74,13 @@ combination_form l first links = constraint l first >>= combined_form l links
 -- `and(..) c` and `or(..) c`: the generators run when the statement does, and the bodies of the tuples that pass the
 -- condition are the members
 
-abbrev pub joining_op : Aggregate → Op
-joining_op aggregates.Or = ops.AnyOf
-joining_op a = ops.AllOf
+abbrev pub joining_op : Aggregate → Constraint
+joining_op aggregates.Or = AnyOf
+joining_op a = AllOf
 
 unfoldable pub joining_form : Level → Place → Aggregate → List Shape → Shape → Shape → Act Term
 joining_form l at a gs c body =
-    in_scope (each_tuple l at always (keyed_form l at a c body) [] gs []) >>= λ xs. node_form at (joining_op a) (bodies_of xs)
+    in_scope (each_tuple l at always (keyed_form l at a c body) [] gs []) >>= λ xs. node_form at (ops.Constraint (joining_op a)) (bodies_of xs)
 
 -- constraint functions
 
@@ -95,14 +97,14 @@ all_different_form l at x = do
   c ← terms l x
   _ ← charge 1 at
   _ ← charge (length c.terms) (place_of x)
-  node_form at ops.AllDifferent c.terms
+  node_form at (ops.Constraint AllDifferent) c.terms
 
 -- `atmost`, `atleast` and `exactly`: bounds, by the indices of their array, and then the places
 
-abbrev pub bounded_op : Builtin → ℤ → List ℤ → Op
-bounded_op builtins.AtMost low bounds = ops.AtMost low bounds
-bounded_op builtins.AtLeast low bounds = ops.AtLeast low bounds
-bounded_op f low bounds = ops.Exactly low bounds
+abbrev pub bounded_op : Builtin → ℤ → List ℤ → Constraint
+bounded_op builtins.AtMost low bounds = AtMost low bounds
+bounded_op builtins.AtLeast low bounds = AtLeast low bounds
+bounded_op f low bounds = Exactly low bounds
 
 unfoldable pub bounded_form : Level → Place → Builtin → Shape → Shape → Act Term
 bounded_form l at f b x = do
@@ -111,7 +113,7 @@ bounded_form l at f b x = do
   _ ← charge 1 at
   _ ← charge (length bounds.numbers) (place_of b)
   _ ← charge (length c.terms) (place_of x)
-  node_form at (bounded_op f bounds.rows.low bounds.numbers) c.terms
+  node_form at (ops.Constraint (bounded_op f bounds.rows.low bounds.numbers)) c.terms
 
 -- as many weights as places, and then the capacity
 unfoldable pub knapsack_form : Level → Place → Shape → Shape → Shape → Act Term
@@ -123,7 +125,7 @@ knapsack_form l at w x e = do
   _ ← charge (length weights.numbers) (place_of w)
   _ ← charge (length c.terms) (place_of x)
   _ ← unless (nat_eq (length weights.numbers) (length c.terms)) at OutOfRange
-  node_form at (ops.Knapsack weights.numbers capacity) c.terms
+  node_form at (ops.Constraint (Knapsack weights.numbers capacity)) c.terms
 
 -- as many sizes as places, and then the capacities, by the indices of their array
 unfoldable pub multi_knapsack_form : Level → Place → Shape → Shape → Shape → Act Term
@@ -136,7 +138,7 @@ multi_knapsack_form l at x z e = do
   _ ← charge (length sizes.numbers) (place_of z)
   _ ← charge (length capacities.numbers) (place_of e)
   _ ← unless (nat_eq (length sizes.numbers) (length c.terms)) at OutOfRange
-  node_form at (ops.MultiKnapsack sizes.numbers capacities.rows.low capacities.numbers) c.terms
+  node_form at (ops.Constraint (MultiKnapsack sizes.numbers capacities.rows.low capacities.numbers)) c.terms
 
 -- how many of a set there may be, from 0 on, in how many places in a row, from 1 on
 unfoldable pub sequence_form : Level → Place → Shape → Shape → Shape → Shape → Act Term
@@ -147,8 +149,8 @@ sequence_form l at x v p q = do
   window ← number l q
   _ ← charge 1 at
   _ ← charge (length c.terms) (place_of x)
-  _ ← unless (int_le (pos 0) most && int_le (pos 1) window) at OutOfRange
-  node_form at (ops.Sequence members most window) c.terms
+  _ ← unless (is_proper (Sequence members most window)) at OutOfRange
+  node_form at (ops.Constraint (Sequence members most window)) c.terms
 
 -- a checked program asks no other function here
 unfoldable pub constraint_call : Level → Place → Builtin → List Shape → Act Term

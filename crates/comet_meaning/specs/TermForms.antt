@@ -7,8 +7,11 @@ use Rattle.cbl_base.specs.declared.faults.Limit.TheVariants as limits
 use Rattle.cbl_base.specs.declared.faults.RunFault.TheVariants.{EmptyRange, TooMany}
 use Rattle.cbl_operations.specs.declared.binary.BinaryOp.{BinaryOp}
 use Rattle.cbl_operations.specs.declared.binary.BinaryOp.TheVariants.{Add, Sub, Mul, Div, Rem, Eq, Ne, Le, Lt}
+use Rattle.cbl_operations.specs.declared.keyed.KeyedOp.TheVariants.{ArgMin, ArgMax, SetOf}
+use Rattle.cbl_operations.specs.declared.nary.NaryOp.TheVariants.{Least, Greatest, Sum, Count, And, Or}
 use Rattle.cbl_operations.specs.declared.op.Op.{Op}
 use Rattle.cbl_operations.specs.declared.op.Op.TheVariants as ops
+use Rattle.cbl_operations.specs.declared.two_sets.TwoSetsOp.TheVariants.{Union, Inter, Minus}
 use Rattle.cbl_operations.specs.declared.unary.UnaryOp.{UnaryOp}
 use Rattle.cbl_operations.specs.declared.unary.UnaryOp.TheVariants.{Neg, Abs, Not}
 use Rattle.term_model.specs.Depth.{depth_of}
@@ -76,8 +79,8 @@ compare_term l at c a b = do
 -- operator, so that no front of it is a part of its own
 
 abbrev pub chain_op : ChainOperator → Op
-chain_op chains.Or = ops.Or
-chain_op chains.And = ops.And
+chain_op chains.Or = ops.Nary Or
+chain_op chains.And = ops.Nary And
 chain_op chains.Add = ops.Binary Add
 chain_op chains.Subtract = ops.Binary Sub
 chain_op chains.Multiply = ops.Binary Mul
@@ -192,15 +195,15 @@ keyed_form l at a c body key xs = do
   if passes then (term l body >>= with_keyed at a key xs) else give xs
 
 abbrev pub aggregate_op : Aggregate → List ℤ → Op
-aggregate_op aggregates.Sum keys = ops.Sum
-aggregate_op aggregates.Min keys = ops.Least
-aggregate_op aggregates.Max keys = ops.Greatest
-aggregate_op aggregates.All keys = ops.Sum
-aggregate_op aggregates.And keys = ops.And
-aggregate_op aggregates.Or keys = ops.Or
-aggregate_op aggregates.SetOf keys = ops.SetOf keys
-aggregate_op aggregates.ArgMin keys = ops.ArgMin keys
-aggregate_op aggregates.ArgMax keys = ops.ArgMax keys
+aggregate_op aggregates.Sum keys = ops.Nary Sum
+aggregate_op aggregates.Min keys = ops.Nary Least
+aggregate_op aggregates.Max keys = ops.Nary Greatest
+aggregate_op aggregates.All keys = ops.Nary Sum
+aggregate_op aggregates.And keys = ops.Nary And
+aggregate_op aggregates.Or keys = ops.Nary Or
+aggregate_op aggregates.SetOf keys = ops.Keyed SetOf keys
+aggregate_op aggregates.ArgMin keys = ops.Keyed ArgMin keys
+aggregate_op aggregates.ArgMax keys = ops.Keyed ArgMax keys
 
 -- what they give: an `all` is an array of them, and no number is the least or the greatest of none
 abbrev pub aggregated : Place → Aggregate → List Keyed → Act InTerm
@@ -221,18 +224,18 @@ count_term l at a e = do
   t ← term l e
   _ ← charge 1 at
   _ ← charge (length c.terms) (place_of a)
-  node_form at ops.Count (c.terms ++ t ∷ [])
+  node_form at (ops.Nary Count) (c.terms ++ t ∷ [])
 
 -- a function of terms; a checked program asks no other here
 abbrev pub builtin_node : Place → Builtin → List Term → Act Term
 builtin_node at builtins.Abs ts = node_form at (ops.Unary Abs) ts
-builtin_node at builtins.Min ts = node_form at ops.Least ts
-builtin_node at builtins.Max ts = node_form at ops.Greatest ts
+builtin_node at builtins.Min ts = node_form at (ops.Nary Least) ts
+builtin_node at builtins.Max ts = node_form at (ops.Nary Greatest) ts
 builtin_node at builtins.Card ts = node_form at ops.Card ts
 builtin_node at builtins.Member ts = node_form at ops.Member ts
-builtin_node at builtins.Union ts = node_form at ops.Union ts
-builtin_node at builtins.Inter ts = node_form at ops.Inter ts
-builtin_node at builtins.Minus ts = node_form at ops.Minus ts
+builtin_node at builtins.Union ts = node_form at (ops.TwoSets Union) ts
+builtin_node at builtins.Inter ts = node_form at (ops.TwoSets Inter) ts
+builtin_node at builtins.Minus ts = node_form at (ops.TwoSets Minus) ts
 builtin_node at f ts = give (constant (pos 0))
 
 unfoldable pub builtin_term : Level → Place → Builtin → List Shape → Act Term

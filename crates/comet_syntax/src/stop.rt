@@ -1,8 +1,7 @@
 //! Why a text isn't read.
 ghost use Rattle.std.specs.Prelude.{◌≡◌};
 
-use cbl_base::{NoMemory, Place};
-use std::alloc::{AllocError, AllocFailed};
+use cbl_base::{Place, WantOfMemory};
 
 /// Why a text is refused.
 #[derive(Clone, Copy, PartialEq, Eq, Debug)]
@@ -43,62 +42,22 @@ pub enum FrontStop {
     NoMemory,
 }
 
-impl From<NoMemory> for LexStop {
+impl<E: WantOfMemory> From<E> for LexStop {
     ghost use Rattle.comet_syntax.specs.declared.stop.LexStop.TheVariants as stops;
 
     ghost from_gives = { λ _ stop. stop ≡ stops.NoMemory };
 
-    fn from(_error: NoMemory) -> LexStop {
+    fn from(_error: E) -> LexStop {
         LexStop::NoMemory
     }
 }
 
-impl From<AllocError> for LexStop {
-    ghost use Rattle.comet_syntax.specs.declared.stop.LexStop.TheVariants as stops;
-
-    ghost from_gives = { λ _ stop. stop ≡ stops.NoMemory };
-
-    fn from(_error: AllocError) -> LexStop {
-        LexStop::NoMemory
-    }
-}
-
-impl<T: Drop> From<AllocFailed<T>> for LexStop {
-    ghost use Rattle.comet_syntax.specs.declared.stop.LexStop.TheVariants as stops;
-
-    ghost from_gives = { λ _ stop. stop ≡ stops.NoMemory };
-
-    fn from(_error: AllocFailed<T>) -> LexStop {
-        LexStop::NoMemory
-    }
-}
-
-impl From<NoMemory> for FrontStop {
+impl<E: WantOfMemory> From<E> for FrontStop {
     ghost use Rattle.comet_syntax.specs.declared.stop.FrontStop.TheVariants as stops;
 
     ghost from_gives = { λ _ stop. stop ≡ stops.NoMemory };
 
-    fn from(_error: NoMemory) -> FrontStop {
-        FrontStop::NoMemory
-    }
-}
-
-impl From<AllocError> for FrontStop {
-    ghost use Rattle.comet_syntax.specs.declared.stop.FrontStop.TheVariants as stops;
-
-    ghost from_gives = { λ _ stop. stop ≡ stops.NoMemory };
-
-    fn from(_error: AllocError) -> FrontStop {
-        FrontStop::NoMemory
-    }
-}
-
-impl<T: Drop> From<AllocFailed<T>> for FrontStop {
-    ghost use Rattle.comet_syntax.specs.declared.stop.FrontStop.TheVariants as stops;
-
-    ghost from_gives = { λ _ stop. stop ≡ stops.NoMemory };
-
-    fn from(_error: AllocFailed<T>) -> FrontStop {
+    fn from(_error: E) -> FrontStop {
         FrontStop::NoMemory
     }
 }

@@ -1,7 +1,7 @@
 //! Constraint functions that have their arguments: a unit for the call, then the cells of each array, and then what must
 //! hold of the arguments.
-ghost use Rattle.std.specs.Prelude.{◌≡◌, ◌&&◌, ℕ, List, IfErr, IfOk, pos, int_le};
-ghost use Rattle.cbl_operations.specs.declared.op.Op.TheVariants as ops;
+ghost use Rattle.std.specs.Prelude.{◌≡◌, ℕ, List, IfErr, IfOk};
+ghost use Rattle.cbl_violations.specs.declared.constraint.Constraint.TheVariants.{Knapsack, MultiKnapsack};
 ghost use Rattle.comet_meaning.specs.ConstraintForms.{bounded_op};
 ghost use Rattle.comet_meaning.specs.State as states;
 ghost use Rattle.constraint_forms.specs.Steps.{all_different_node, bounded_node, even_node, knapsack_node, multi_knapsack_node, places_of, sequence_node, window_node};
@@ -15,6 +15,7 @@ ghost use Rattle.run_values.specs.declared.stop.Stop.TheVariants.{NoMemory};
 
 use cbl_base::{IntSet, Numbers, Place, RunFault};
 use cbl_operations::Op;
+use cbl_violations::Constraint;
 use checked_tree::Builtin;
 use run_values::{Cells, Stop};
 use std::alloc::Global;
@@ -31,7 +32,7 @@ fn all_different_of(s: &mut State, at: Place, place: Place, cells: TermCells) ->
     s.charge(1, at)?;
     let count = cells.terms.len();
     s.charge(count as u64, place)?;
-    node_of(at, Op::AllDifferent, cells.terms)
+    node_of(at, Op::Constraint(Constraint::AllDifferent), cells.terms)
 }
 
 /// The same with the array's answer.
@@ -87,19 +88,20 @@ fn numbers_of(alloc: Global, cells: &Cells) -> Result<Numbers, Stop>
     Ok(numbers)
 }
 
-/// The operation of `atmost`, of `atleast` and of `exactly`. `NoMemory` where there is none for it; there is no other
+/// The constraint of `atmost`, of `atleast` and of `exactly`. `NoMemory` where there is none for it; there is no other
 /// stop.
-fn bounded_operation(alloc: Global, function: Builtin, cells: &Cells) -> Result<Op, Stop>
-    ensures operation { IfOk result (λ op.
-        op ≡ bounded_op function (cells_seen cells.now).rows.low (cells_seen cells.now).numbers) }
+fn bounded(alloc: Global, function: Builtin, cells: &Cells) -> Result<Constraint, Stop>
+    ensures constraint { IfOk result (λ constraint.
+        constraint ≡ bounded_op function (cells_seen cells.now).rows.low
+        (cells_seen cells.now).numbers) }
     ensures memory { IfErr result (λ stop. stop ≡ NoMemory) }
 {
     let bounds = numbers_of(alloc, cells)?;
     let low = cells.rows.low;
     match function {
-        Builtin::AtMost => Ok(Op::AtMost { low, bounds }),
-        Builtin::AtLeast => Ok(Op::AtLeast { low, bounds }),
-        _ => Ok(Op::Exactly { low, bounds }),
+        Builtin::AtMost => Ok(Constraint::AtMost { low, bounds }),
+        Builtin::AtLeast => Ok(Constraint::AtLeast { low, bounds }),
+        _ => Ok(Constraint::Exactly { low, bounds }),
     }
 }
 
@@ -124,8 +126,8 @@ fn bounded_of(
     s.charge(bound_count as u64, place)?;
     let count = cells.terms.len();
     s.charge(count as u64, other)?;
-    let op = bounded_operation(s.alloc, function, bounds)?;
-    node_of(at, op, cells.terms)
+    let constraint = bounded(s.alloc, function, bounds)?;
+    node_of(at, Op::Constraint(constraint), cells.terms)
 }
 
 /// The same with the cells' answer.
@@ -148,26 +150,31 @@ pub(crate) fn bounded_with(
     }
 }
 
-/// An operation of as many terms as an array has cells. `OutOfRange` at the place exactly where there are more or fewer.
-fn even_of(at: Place, count: usize, op: Op, terms: Vec<Built>) -> Result<Built, Stop>
+/// A constraint over as many terms as an array has cells. `OutOfRange` at the place exactly where there are more or fewer.
+fn even_of(
+    at: Place,
+    count: usize,
+    constraint: Constraint,
+    terms: Vec<Built>,
+) -> Result<Built, Stop>
     ensures did { (s : states.State) →
-        Does (λ t. t) result s (even_node at count op terms.items s) }
+        Does (λ t. t) result s (even_node at count constraint terms.items s) }
 {
     let others = terms.len();
     if count != others {
         return Err(Stop::Fault(at, RunFault::OutOfRange));
     }
-    node_of(at, op, terms)
+    node_of(at, Op::Constraint(constraint), terms)
 }
 
-/// The operation of `knapsack`. `NoMemory` where there is none for it; there is no other stop.
-fn knapsack_operation(alloc: Global, weights: &Cells, capacity: i64) -> Result<Op, Stop>
-    ensures operation { IfOk result (λ op.
-        op ≡ ops.Knapsack (cells_seen weights.now).numbers capacity) }
+/// The constraint of `knapsack`. `NoMemory` where there is none for it; there is no other stop.
+fn knapsack(alloc: Global, weights: &Cells, capacity: i64) -> Result<Constraint, Stop>
+    ensures constraint { IfOk result (λ constraint.
+        constraint ≡ Knapsack (cells_seen weights.now).numbers capacity) }
     ensures memory { IfErr result (λ stop. stop ≡ NoMemory) }
 {
     let weights = numbers_of(alloc, weights)?;
-    Ok(Op::Knapsack { weights, capacity })
+    Ok(Constraint::Knapsack { weights, capacity })
 }
 
 /// `knapsack`, of the weights, which are charged at the second place, the cells, which are charged at the third, and the
@@ -191,8 +198,8 @@ fn knapsack_of(
     s.charge(weight_count as u64, place)?;
     let count = cells.terms.len();
     s.charge(count as u64, other)?;
-    let op = knapsack_operation(s.alloc, weights, capacity)?;
-    even_of(at, weight_count, op, cells.terms)
+    let constraint = knapsack(s.alloc, weights, capacity)?;
+    even_of(at, weight_count, constraint, cells.terms)
 }
 
 /// The same with the capacity's answer.
@@ -215,17 +222,17 @@ pub(crate) fn knapsack_with(
     }
 }
 
-/// The operation of `multiknapsack`. `NoMemory` where there is none for it; there is no other stop.
-fn multi_knapsack_operation(alloc: Global, sizes: &Cells, capacities: &Cells) -> Result<Op, Stop>
-    ensures operation { IfOk result (λ op.
-        op ≡ ops.MultiKnapsack (cells_seen sizes.now).numbers (cells_seen capacities.now).rows.low
-        (cells_seen capacities.now).numbers) }
+/// The constraint of `multiknapsack`. `NoMemory` where there is none for it; there is no other stop.
+fn multi_knapsack(alloc: Global, sizes: &Cells, capacities: &Cells) -> Result<Constraint, Stop>
+    ensures constraint { IfOk result (λ constraint.
+        constraint ≡ MultiKnapsack (cells_seen sizes.now).numbers
+        (cells_seen capacities.now).rows.low (cells_seen capacities.now).numbers) }
     ensures memory { IfErr result (λ stop. stop ≡ NoMemory) }
 {
     let low = capacities.rows.low;
     let sizes = numbers_of(alloc, sizes)?;
     let capacities = numbers_of(alloc, capacities)?;
-    Ok(Op::MultiKnapsack {
+    Ok(Constraint::MultiKnapsack {
         sizes,
         low,
         capacities,
@@ -256,8 +263,8 @@ fn multi_knapsack_of(
     s.charge(size_count as u64, other)?;
     let capacity_count = capacities.len();
     s.charge(capacity_count as u64, last)?;
-    let op = multi_knapsack_operation(s.alloc, sizes, capacities)?;
-    even_of(at, size_count, op, cells.terms)
+    let constraint = multi_knapsack(s.alloc, sizes, capacities)?;
+    even_of(at, size_count, constraint, cells.terms)
 }
 
 /// The same with the capacities' answer.
@@ -283,13 +290,6 @@ pub(crate) fn multi_knapsack_with(
     }
 }
 
-/// Whether so many of a set in so many places in a row are numbers that a sequence may have.
-fn is_window(most: i64, window: i64) -> bool
-    ensures { result ≡ (int_le (pos 0) most && int_le (pos 1) window) }
-{
-    0 <= most && 1 <= window
-}
-
 /// How many of a set there may be, and in how many places in a row. `OutOfRange` at the place exactly where the first
 /// number is below 0 or the second below 1.
 fn window_of(
@@ -302,15 +302,15 @@ fn window_of(
     ensures did { (s : states.State) →
         Does (λ t. t) result s (window_node at members most window terms.items s) }
 {
-    if !is_window(most, window) {
-        return Err(Stop::Fault(at, RunFault::OutOfRange));
-    }
-    let op = Op::Sequence {
+    let constraint = Constraint::Sequence {
         values: members,
         most,
         window,
     };
-    node_of(at, op, terms)
+    if !constraint.is_proper() {
+        return Err(Stop::Fault(at, RunFault::OutOfRange));
+    }
+    node_of(at, Op::Constraint(constraint), terms)
 }
 
 /// `sequence`, of the cells, which are charged at the second place, the set and both numbers.

@@ -1,5 +1,6 @@
 //! Constraints made of others, and relations, that have their operands.
 ghost use Rattle.std.specs.Prelude.{◌≡◌, List, map};
+ghost use Rattle.cbl_operations.specs.declared.op.Op.TheVariants.{Constraint};
 ghost use Rattle.comet_meaning.specs.ConstraintForms.{combination_op, joining_op};
 ghost use Rattle.comet_meaning.specs.State as states;
 ghost use Rattle.comet_meaning.specs.TermForms.{bodies_of, node_form};
@@ -10,6 +11,7 @@ ghost use Rattle.term_forms.specs.Bodies.{body_seen};
 
 use cbl_base::Place;
 use cbl_operations::Op;
+use cbl_violations::Constraint;
 use comet_syntax::tree::{Aggregate, ChainOperator, Comparison};
 use run_values::Stop;
 use std::alloc::Global;
@@ -28,12 +30,24 @@ fn relation_of(
     ensures did { (s : states.State) → Does (λ t. t) result s (related at comparison left right s) }
 {
     match comparison {
-        Comparison::Equal => node_of_two(alloc, at, Op::ViolEq, left, right),
-        Comparison::NotEqual => node_of_two(alloc, at, Op::ViolNe, left, right),
-        Comparison::Less => node_of_two(alloc, at, Op::ViolLt, left, right),
-        Comparison::LessEqual => node_of_two(alloc, at, Op::ViolLe, left, right),
-        Comparison::Greater => node_of_two(alloc, at, Op::ViolLt, right, left),
-        Comparison::GreaterEqual => node_of_two(alloc, at, Op::ViolLe, right, left),
+        Comparison::Equal => node_of_two(alloc, at, Op::Constraint(Constraint::Eq), left, right),
+        Comparison::NotEqual => node_of_two(alloc, at, Op::Constraint(Constraint::Ne), left, right),
+        Comparison::Less => node_of_two(alloc, at, Op::Constraint(Constraint::Lt), left, right),
+        Comparison::LessEqual => node_of_two(
+            alloc,
+            at,
+            Op::Constraint(Constraint::Le),
+            left,
+            right,
+        ),
+        Comparison::Greater => node_of_two(alloc, at, Op::Constraint(Constraint::Lt), right, left),
+        Comparison::GreaterEqual => node_of_two(
+            alloc,
+            at,
+            Op::Constraint(Constraint::Le),
+            right,
+            left,
+        ),
     }
 }
 
@@ -60,22 +74,22 @@ pub(crate) fn negate(alloc: Global, at: Place, operand: Result<Built, Stop>) -> 
 {
     match operand {
         Err(stop) => Err(stop),
-        Ok(operand) => node_of_one(alloc, at, Op::NotHeld, operand),
+        Ok(operand) => node_of_one(alloc, at, Op::Constraint(Constraint::NotHeld), operand),
     }
 }
 
-/// The operation of a chain of constraints.
-fn combination_operation(operator: ChainOperator) -> Op
+/// The constraint that a chain of constraints is.
+fn combination(operator: ChainOperator) -> Constraint
     ensures { result ≡ combination_op operator }
 {
     match operator {
-        ChainOperator::Or => Op::AnyOf,
-        ChainOperator::And => Op::AllOf,
-        ChainOperator::Add => Op::AllOf,
-        ChainOperator::Subtract => Op::AllOf,
-        ChainOperator::Multiply => Op::AllOf,
-        ChainOperator::Divide => Op::AllOf,
-        ChainOperator::Remainder => Op::AllOf,
+        ChainOperator::Or => Constraint::AnyOf,
+        ChainOperator::And => Constraint::AllOf,
+        ChainOperator::Add => Constraint::AllOf,
+        ChainOperator::Subtract => Constraint::AllOf,
+        ChainOperator::Multiply => Constraint::AllOf,
+        ChainOperator::Divide => Constraint::AllOf,
+        ChainOperator::Remainder => Constraint::AllOf,
     }
 }
 
@@ -87,28 +101,28 @@ pub(crate) fn combine(
 ) -> Result<Built, Stop>
     ensures did { (s : states.State) →
         Follows (λ terms. terms.items) (λ t.
-        t) members result s s (node_form at (combination_op operator)) }
+        t) members result s s (node_form at (Constraint (combination_op operator))) }
 {
     match members {
         Err(stop) => Err(stop),
-        Ok(members) => node_of(at, combination_operation(operator), members),
+        Ok(members) => node_of(at, Op::Constraint(combination(operator)), members),
     }
 }
 
-/// The operation of an aggregate of constraints.
-fn joining_operation(aggregate: Aggregate) -> Op
+/// The constraint that an aggregate of constraints is.
+fn joining(aggregate: Aggregate) -> Constraint
     ensures { result ≡ joining_op aggregate }
 {
     match aggregate {
-        Aggregate::Or => Op::AnyOf,
-        Aggregate::And => Op::AllOf,
-        Aggregate::Sum => Op::AllOf,
-        Aggregate::Min => Op::AllOf,
-        Aggregate::Max => Op::AllOf,
-        Aggregate::All => Op::AllOf,
-        Aggregate::SetOf => Op::AllOf,
-        Aggregate::ArgMin => Op::AllOf,
-        Aggregate::ArgMax => Op::AllOf,
+        Aggregate::Or => Constraint::AnyOf,
+        Aggregate::And => Constraint::AllOf,
+        Aggregate::Sum => Constraint::AllOf,
+        Aggregate::Min => Constraint::AllOf,
+        Aggregate::Max => Constraint::AllOf,
+        Aggregate::All => Constraint::AllOf,
+        Aggregate::SetOf => Constraint::AllOf,
+        Aggregate::ArgMin => Constraint::AllOf,
+        Aggregate::ArgMax => Constraint::AllOf,
     }
 }
 
@@ -120,9 +134,9 @@ pub(crate) fn join(
     bodies: Vec<Body>,
 ) -> Result<Built, Stop>
     ensures did { (s : states.State) →
-        Does (λ t. t) result s (node_form at (joining_op aggregate)
+        Does (λ t. t) result s (node_form at (Constraint (joining_op aggregate))
         (bodies_of (map body_seen bodies.items)) s) }
 {
     let terms = terms_in(alloc, bodies)?;
-    node_of(at, joining_operation(aggregate), terms)
+    node_of(at, Op::Constraint(joining(aggregate)), terms)
 }

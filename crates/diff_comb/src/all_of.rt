@@ -1,6 +1,5 @@
 //! All of some constraints.
 ghost use Rattle.std.specs.Prelude.{◌≡◌};
-ghost use Rattle.cbl_base.specs.NumberRule.{rule_of_numbers};
 ghost use Rattle.cbl_violations.specs.Violations.AllOf.{all_of};
 
 use cbl_base::{NoMemory, NodeFault, RunFault};
@@ -17,7 +16,7 @@ pub struct AllOf {
 impl AllOf {
     /// The node of `AllOf`: the sum of the members' violations.
     pub fn new(alloc: Global) -> AllOf
-        ensures { rule_of_numbers (⟦<AllOf as NumberNode>⟧.number_rule result) ≡ all_of }
+        ensures { ⟦<AllOf as NumberNode>⟧.number_rule result ≡ all_of }
     {
         AllOf {
             sum: Sum::new(alloc),
@@ -26,9 +25,9 @@ impl AllOf {
 }
 
 impl NumberNode for AllOf {
-    ghost use Rattle.diff_comb.specs.Combined.{all_of_numbers};
+    ghost use Rattle.cbl_violations.specs.Violations.AllOf.{all_of};
 
-    ghost number_rule = { λ _. all_of_numbers };
+    ghost number_rule = { λ _. all_of };
 
     ghost settled = { λ s. ⟦<Sum as NumberNode>⟧.settled s.sum };
 

@@ -1,6 +1,5 @@
 //! One of some constraints.
 ghost use Rattle.std.specs.Prelude.{◌≡◌};
-ghost use Rattle.cbl_base.specs.NumberRule.{rule_of_numbers};
 ghost use Rattle.cbl_violations.specs.Violations.AnyOf.{any_of};
 
 use cbl_base::{NoMemory, NodeFault, RunFault};
@@ -17,7 +16,7 @@ pub struct AnyOf {
 impl AnyOf {
     /// The node of `AnyOf`: the least of the members' violations, 0 where there is no member.
     pub fn new(alloc: Global) -> AnyOf
-        ensures { rule_of_numbers (⟦<AnyOf as NumberNode>⟧.number_rule result) ≡ any_of }
+        ensures { ⟦<AnyOf as NumberNode>⟧.number_rule result ≡ any_of }
     {
         AnyOf {
             lowest: Lowest::new(alloc),
@@ -26,9 +25,9 @@ impl AnyOf {
 }
 
 impl NumberNode for AnyOf {
-    ghost use Rattle.diff_comb.specs.Combined.{any_of_numbers};
+    ghost use Rattle.cbl_violations.specs.Violations.AnyOf.{any_of};
 
-    ghost number_rule = { λ _. any_of_numbers };
+    ghost number_rule = { λ _. any_of };
 
     ghost settled = { λ s. ⟦<Lowest as NumberNode>⟧.settled s.lowest };
 

@@ -25,7 +25,7 @@ pub struct OfOne {
 impl OfOne {
     /// The node of `NotHeld`: 1 where the member has no violations, 0 else.
     pub fn not_held() -> OfOne
-        ensures { rule_of_numbers (⟦<OfOne as NumberNode>⟧.number_rule result) ≡ not_held }
+        ensures { ⟦<OfOne as NumberNode>⟧.number_rule result ≡ not_held }
     {
         OfOne {
             making: Making::NotHeld,

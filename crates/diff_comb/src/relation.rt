@@ -1,7 +1,6 @@
 //! Relations of two numbers.
 ghost use Rattle.std.specs.Prelude.{◌≡◌, ◌<◌, ◌∷◌, [], IsOk};
-ghost use Rattle.cbl_base.specs.NumberRule.{rule_of_numbers};
-ghost use Rattle.cbl_violations.specs.Violations.Relations.{of_two, at_each, viol_eq, viol_ne, viol_le, viol_lt};
+ghost use Rattle.cbl_violations.specs.Violations.Relations.{of_two, viol_eq, viol_ne, viol_le, viol_lt};
 ghost use Rattle.diff_comb.specs.Related.{violations_of};
 
 use cbl_base::{NoMemory, NodeFault, RunFault};
@@ -27,28 +26,28 @@ pub struct Relation {
 impl Relation {
     /// The node of `ViolEq`: how much the sides differ.
     pub fn eq() -> Relation
-        ensures { rule_of_numbers (⟦<Relation as NumberNode>⟧.number_rule result) ≡ viol_eq }
+        ensures { ⟦<Relation as NumberNode>⟧.number_rule result ≡ viol_eq }
     {
         Relation::new(Comparing::Eq)
     }
 
     /// The node of `ViolNe`: 1 where the sides are equal, 0 else.
     pub fn ne() -> Relation
-        ensures { rule_of_numbers (⟦<Relation as NumberNode>⟧.number_rule result) ≡ viol_ne }
+        ensures { ⟦<Relation as NumberNode>⟧.number_rule result ≡ viol_ne }
     {
         Relation::new(Comparing::Ne)
     }
 
     /// The node of `ViolLe`: how much the first side is above the second.
     pub fn le() -> Relation
-        ensures { rule_of_numbers (⟦<Relation as NumberNode>⟧.number_rule result) ≡ viol_le }
+        ensures { ⟦<Relation as NumberNode>⟧.number_rule result ≡ viol_le }
     {
         Relation::new(Comparing::Le)
     }
 
     /// The node of `ViolLt`: how much the first side is above the number before the second.
     pub fn lt() -> Relation
-        ensures { rule_of_numbers (⟦<Relation as NumberNode>⟧.number_rule result) ≡ viol_lt }
+        ensures { ⟦<Relation as NumberNode>⟧.number_rule result ≡ viol_lt }
     {
         Relation::new(Comparing::Lt)
     }

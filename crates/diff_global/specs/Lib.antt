@@ -1,4 +1,3 @@
-pub mod CardinalityRules
 pub mod CardinalityTotals
 pub mod Differences
 pub mod NumberRules

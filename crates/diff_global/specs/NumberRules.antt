@@ -1,21 +1,13 @@
--- The rules of the constraints on how often values stand in a list, as rules of numbers. A rule of this
+-- The rules of the constraints on how often values stand in a list, by what they ask. A rule of this
 -- project.
 use Rattle.std.specs.Prelude.{ℕ, ℤ, List, Result, true}
 use Rattle.cbl_base.specs.NumberRule.{NumberRule}
 use Rattle.cbl_base.specs.declared.faults.RunFault.{RunFault}
-use Rattle.cbl_violations.specs.Violations.AllDifferent.{all_different_violations, all_different_violation_at}
 use Rattle.cbl_violations.specs.Violations.AtLeast.{at_least_violations, at_least_violation_at}
 use Rattle.cbl_violations.specs.Violations.AtMost.{at_most_violations, at_most_violation_at}
 use Rattle.cbl_violations.specs.Violations.Exactly.{exactly_violations, exactly_violation_at}
 use Rattle.diff_global.specs.declared.cardinality.Demand.{Demand}
 use Rattle.diff_global.specs.declared.cardinality.Demand.TheVariants.{AtMost, AtLeast, Exactly}
-
-abbrev pub all_different_rule : NumberRule
-all_different_rule = record {
-  takes = λ _. true;
-  value = all_different_violations;
-  violation_at = all_different_violation_at;
-}
 
 abbrev pub cardinality_violations : Demand → ℤ → List ℤ → List ℤ → Result ℤ RunFault
 cardinality_violations AtMost low bounds = at_most_violations low bounds

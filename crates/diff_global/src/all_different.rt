@@ -1,6 +1,5 @@
 //! All values are to differ.
 ghost use Rattle.std.specs.Prelude.{◌≡◌, ◌+◌, ◌≤◌, ◌<◌, ◌^◌, min, length, Ok};
-ghost use Rattle.cbl_base.specs.NumberRule.{rule_of_numbers};
 ghost use Rattle.cbl_violations.specs.Violations.AllDifferent.{all_different, all_different_violations};
 ghost use Rattle.node_base.specs.NumberChanges.{AreNumberChanges, IsNumberAnswer, IsNumberChange, after_number_change, after_number_changes};
 ghost use Rattle.diff_global.specs.Repeats.{repeats};
@@ -20,8 +19,7 @@ pub struct AllDifferent {
 impl AllDifferent {
     /// A node with the rule of `alldifferent`.
     pub fn new(alloc: Global) -> AllDifferent
-        ensures rule { rule_of_numbers (⟦<AllDifferent as NumberNode>⟧.number_rule result) ≡
-            all_different }
+        ensures rule { ⟦<AllDifferent as NumberNode>⟧.number_rule result ≡ all_different }
     {
         AllDifferent {
             tally: Tally::new(alloc),
@@ -33,10 +31,10 @@ impl AllDifferent {
 
 impl NumberNode for AllDifferent {
     ghost use Rattle.std.specs.Prelude.{◌≡◌, ◌<◌, ◌^◌, length};
-    ghost use Rattle.diff_global.specs.NumberRules.{all_different_rule};
+    ghost use Rattle.cbl_violations.specs.Violations.AllDifferent.{all_different};
     ghost use Rattle.diff_global.specs.Repeats.{repeats};
 
-    ghost number_rule = { λ _. all_different_rule };
+    ghost number_rule = { λ _. all_different };
 
     ghost settled = { λ s. (s.repeats ≡ repeats s.tally) × (length s.tally < 2 ^ 62) };
 

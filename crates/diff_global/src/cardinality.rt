@@ -4,11 +4,10 @@ ghost use Rattle.std.specs.Option.{option_map};
 ghost use Rattle.std.specs.Ordering.{int_eq};
 ghost use Rattle.cbl_base.specs.Arithmetic.{exact};
 ghost use Rattle.cbl_base.specs.declared.faults.RunFault.TheVariants.{Overflow as TooWide};
-ghost use Rattle.cbl_base.specs.NumberRule.{rule_of_numbers};
 ghost use Rattle.cbl_violations.specs.Bounds.{bound_of};
 ghost use Rattle.node_base.specs.NumberChanges.{IsNumberChange, after_number_change};
 ghost use Rattle.node_base.specs.Counting.{IsElsewhere};
-ghost use Rattle.diff_global.specs.CardinalityRules.{rule_of_cardinality};
+ghost use Rattle.diff_global.specs.NumberRules.{cardinality_rule};
 ghost use Rattle.diff_global.specs.Differences.{differs_by, part, misfit, counts_at};
 ghost use Rattle.diff_global.specs.CardinalityTotals.{IsShifted, AreTotals, AreRoomy, AreBounds, HaveList};
 
@@ -47,8 +46,8 @@ impl Cardinality {
     /// A node with the rule of `atmost`, `atleast` or `exactly`. The first of the bounds is that of the
     /// value `low`, and each next one that of the value one above.
     pub fn new(alloc: Global, demand: Demand, low: i64, bounds: Numbers) -> Cardinality
-        ensures rule { rule_of_numbers (⟦<Cardinality as NumberNode>⟧.number_rule result) ≡
-            rule_of_cardinality demand low bounds }
+        ensures rule { ⟦<Cardinality as NumberNode>⟧.number_rule result ≡
+            cardinality_rule demand low bounds }
     {
         Cardinality {
             demand,

@@ -1,6 +1,5 @@
 //! A load that is to stay within a capacity, as a node.
 ghost use Rattle.std.specs.Prelude.{◌≡◌, ◌<◌, length};
-ghost use Rattle.cbl_base.specs.NumberRule.{rule_of_numbers};
 ghost use Rattle.cbl_violations.specs.Violations.Knapsack.{knapsack};
 ghost use Rattle.diff_load_seq.specs.Parts.{joined_of, HasRoom, IsReplaced, IsSumOf};
 ghost use Rattle.diff_load_seq.specs.Products.{product_of, products, above_capacity};
@@ -23,8 +22,7 @@ pub struct Knapsack {
 impl Knapsack {
     /// The node with these weights, one for each number that it takes, and this capacity.
     pub fn new(alloc: Global, weights: Numbers, capacity: i64) -> Knapsack
-        ensures { rule_of_numbers (⟦<Knapsack as NumberNode>⟧.number_rule result) ≡
-            knapsack weights capacity }
+        ensures { ⟦<Knapsack as NumberNode>⟧.number_rule result ≡ knapsack weights capacity }
     {
         Knapsack {
             weights,
@@ -68,12 +66,12 @@ fn load_of(weights: &[i64], numbers: &[i64]) -> RunningSum
 }
 
 impl NumberNode for Knapsack {
-    ghost use Rattle.std.specs.Prelude.{◌≡◌, ◌==◌, length};
-    ghost use Rattle.cbl_violations.specs.Violations.Knapsack.{knapsack_violations, knapsack_violation_at};
+    ghost use Rattle.std.specs.Prelude.{◌≡◌, length};
+    ghost use Rattle.cbl_violations.specs.Violations.Knapsack.{knapsack};
     ghost use Rattle.diff_load_seq.specs.Parts.{IsSumOf};
     ghost use Rattle.diff_load_seq.specs.Products.{products};
 
-    ghost number_rule = { λ s. record { takes = λ n. n == length s.weights; value = knapsack_violations s.weights s.capacity; violation_at = knapsack_violation_at s.weights s.capacity } };
+    ghost number_rule = { λ s. knapsack s.weights s.capacity };
 
     ghost settled = { λ s. (length s.numbers.items ≡ length s.weights) ×
         IsSumOf s.load (products s.weights s.numbers.items) };

@@ -1,6 +1,5 @@
 //! Items in bins, whose loads are to stay within their capacities, as a node.
 ghost use Rattle.std.specs.Prelude.{◌≡◌, ◌<◌, pos, length, slice_index_or};
-ghost use Rattle.cbl_base.specs.NumberRule.{rule_of_numbers};
 ghost use Rattle.cbl_violations.specs.Violations.MultiKnapsack.{multi_knapsack};
 
 use crate::bins::{filled_bins, move_item, move_item_over, place_of_bin};
@@ -27,7 +26,7 @@ impl MultiKnapsack {
     /// The node with these sizes, one for each number that it takes, and these capacities: the first is
     /// that of the bin `low`, and each next one that of the bin one above.
     pub fn new(alloc: Global, sizes: Numbers, low: i64, capacities: Numbers) -> MultiKnapsack
-        ensures { rule_of_numbers (⟦<MultiKnapsack as NumberNode>⟧.number_rule result) ≡
+        ensures { ⟦<MultiKnapsack as NumberNode>⟧.number_rule result ≡
             multi_knapsack sizes low capacities }
     {
         MultiKnapsack {
@@ -50,12 +49,12 @@ impl MultiKnapsack {
 }
 
 impl NumberNode for MultiKnapsack {
-    ghost use Rattle.std.specs.Prelude.{◌≡◌, ◌==◌, length};
-    ghost use Rattle.cbl_violations.specs.Violations.MultiKnapsack.{multi_knapsack_violations, multi_knapsack_violation_at};
+    ghost use Rattle.std.specs.Prelude.{◌≡◌, length};
+    ghost use Rattle.cbl_violations.specs.Violations.MultiKnapsack.{multi_knapsack};
     ghost use Rattle.diff_load_seq.specs.Levels.{IsKept};
     ghost use Rattle.diff_load_seq.specs.Bins.{bins_of, AllFit};
 
-    ghost number_rule = { λ s. record { takes = λ n. n == length s.sizes; value = multi_knapsack_violations s.sizes s.low s.capacities; violation_at = multi_knapsack_violation_at s.sizes s.low s.capacities } };
+    ghost number_rule = { λ s. multi_knapsack s.sizes s.low s.capacities };
 
     ghost settled = { λ s. (length s.numbers.items ≡ length s.sizes) ×
         (s.bins.each.items ≡ bins_of s.sizes s.low s.capacities s.numbers.items) × IsKept s.bins ×

@@ -1,6 +1,5 @@
 //! How often values of a set may stand in places in a row, as a node.
 ghost use Rattle.std.specs.Prelude.{◌≡◌};
-ghost use Rattle.cbl_base.specs.NumberRule.{rule_of_numbers};
 ghost use Rattle.cbl_violations.specs.Violations.Sequence.{sequence};
 
 use crate::levels::Levels;
@@ -26,8 +25,7 @@ pub struct Sequence {
 impl Sequence {
     /// The node with this set of values, this most and so many places to a window.
     pub fn new(alloc: Global, values: IntSet, most: i64, window: i64) -> Sequence
-        ensures { rule_of_numbers (⟦<Sequence as NumberNode>⟧.number_rule result) ≡
-            sequence values most window }
+        ensures { ⟦<Sequence as NumberNode>⟧.number_rule result ≡ sequence values most window }
     {
         Sequence {
             values,
@@ -41,12 +39,12 @@ impl Sequence {
 }
 
 impl NumberNode for Sequence {
-    ghost use Rattle.std.specs.Prelude.{◌≡◌, true};
-    ghost use Rattle.cbl_violations.specs.Violations.Sequence.{size_of, sequence_violations, sequence_violation_at};
+    ghost use Rattle.std.specs.Prelude.{◌≡◌};
+    ghost use Rattle.cbl_violations.specs.Violations.Sequence.{sequence, size_of};
     ghost use Rattle.diff_load_seq.specs.Levels.{IsKept};
     ghost use Rattle.diff_load_seq.specs.Windows.{windows_of};
 
-    ghost number_rule = { λ s. record { takes = λ _. true; value = sequence_violations s.values s.most s.window; violation_at = sequence_violation_at s.values s.most s.window } };
+    ghost number_rule = { λ s. sequence s.values s.most s.window };
 
     ghost settled = { λ s. (s.windows.each.items ≡
         windows_of s.values s.most (size_of s.window) s.numbers.items) × IsKept s.windows };

@@ -1,8 +1,5 @@
 //! Why reading stops.
-ghost use Rattle.std.specs.Prelude.{◌≡◌};
-ghost use Rattle.journal_text.specs.declared.stop.Stop.TheVariants.{NoMemory};
-
-use std::alloc::{AllocError, AllocFailed};
+use cbl_base::WantOfMemory;
 
 /// Why a text isn't read as a journal.
 #[derive(Clone, Copy, PartialEq, Eq, Debug, Drop)]
@@ -19,26 +16,13 @@ pub(crate) enum Stop {
     Fault,
 }
 
-impl From<AllocError> for Stop {
-    ghost from_gives = { λ _ e. e ≡ NoMemory };
+impl<E: WantOfMemory> From<E> for Stop {
+    ghost use Rattle.std.specs.Prelude.{◌≡◌};
+    ghost use Rattle.journal_text.specs.declared.stop.Stop.TheVariants as stops;
 
-    fn from(_error: AllocError) -> Stop {
-        Stop::NoMemory
-    }
-}
+    ghost from_gives = { λ _ stop. stop ≡ stops.NoMemory };
 
-impl<T: Drop> From<AllocFailed<T>> for Stop {
-    ghost from_gives = { λ _ e. e ≡ NoMemory };
-
-    fn from(_error: AllocFailed<T>) -> Stop {
-        Stop::NoMemory
-    }
-}
-
-impl From<cbl_base::NoMemory> for Stop {
-    ghost from_gives = { λ _ e. e ≡ NoMemory };
-
-    fn from(_error: cbl_base::NoMemory) -> Stop {
+    fn from(_error: E) -> Stop {
         Stop::NoMemory
     }
 }

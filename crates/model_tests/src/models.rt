@@ -1,5 +1,6 @@
 //! Models that may be asked, and models that may not.
 use cbl_base::{IntSet, NoMemory, Place, VarId};
+use cbl_operations::TwoSetsOp;
 use std::alloc::Global;
 use std::test::*;
 use term_model::{
@@ -152,7 +153,7 @@ fn kinds_of_terms(rt: HostRuntime) -> Result<(), Fail> {
             Some(VarKind::Number),
         ),
         (
-            Op::Union,
+            Op::TwoSets(TwoSetsOp::Union),
             Term::ConstSet(IntSet::new(alloc)),
             Term::ConstSet(IntSet::new(alloc)),
             Some(VarKind::Set),

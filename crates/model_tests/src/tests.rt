@@ -1,6 +1,7 @@
 //! Models that are built and asked, with the values that the language's description gives.
 use cbl_base::{NoMemory, Place, RunFault, VarId};
-use cbl_operations::{BinaryOp, Op};
+use cbl_operations::{BinaryOp, NaryOp, Op};
+use cbl_violations::Constraint;
 use model_values::{AskStop, ModelStop, Move, NoUsers, Whole, delta, fresh};
 use std::alloc::Global;
 use std::process::Abort;
@@ -133,7 +134,7 @@ fn queens(alloc: Global) -> Result<Model, NoMemory> {
             )?)?;
         }
         let term = Term::Node {
-            op: Op::AllDifferent,
+            op: Op::Constraint(Constraint::AllDifferent),
             args,
             place: at(7),
         };
@@ -289,9 +290,21 @@ fn queens_of_four(rt: HostRuntime) -> Result<(), Fail> {
 fn the_least_of_a_disjunction(rt: HostRuntime) -> Result<(), Fail> {
     let alloc = rt.alloc();
     let mut model = model_of(alloc, 2)?;
-    let left = node(alloc, Op::ViolEq, var(0), Term::Const(5), 3)?;
-    let right = node(alloc, Op::ViolLe, var(1), Term::Const(1), 9)?;
-    let either = node(alloc, Op::AnyOf, left, right, 6)?;
+    let left = node(
+        alloc,
+        Op::Constraint(Constraint::Eq),
+        var(0),
+        Term::Const(5),
+        3,
+    )?;
+    let right = node(
+        alloc,
+        Op::Constraint(Constraint::Le),
+        var(1),
+        Term::Const(1),
+        9,
+    )?;
+    let either = node(alloc, Op::Constraint(Constraint::AnyOf), left, right, 6)?;
     constrain(&mut model, 0, either, 1)?;
     let asked = ask(&rt, alloc, &model);
     asked.system(&[2, 3], Ok(2));
@@ -305,9 +318,21 @@ fn the_least_of_a_disjunction(rt: HostRuntime) -> Result<(), Fail> {
 fn a_weight_multiplies(rt: HostRuntime) -> Result<(), Fail> {
     let alloc = rt.alloc();
     let mut model = model_of(alloc, 2)?;
-    let left = node(alloc, Op::ViolEq, var(0), Term::Const(4), 3)?;
-    let right = node(alloc, Op::ViolLe, var(1), Term::Const(0), 9)?;
-    let both = node(alloc, Op::AllOf, left, right, 6)?;
+    let left = node(
+        alloc,
+        Op::Constraint(Constraint::Eq),
+        var(0),
+        Term::Const(4),
+        3,
+    )?;
+    let right = node(
+        alloc,
+        Op::Constraint(Constraint::Le),
+        var(1),
+        Term::Const(0),
+        9,
+    )?;
+    let both = node(alloc, Op::Constraint(Constraint::AllOf), left, right, 6)?;
     constrain(&mut model, 0, both, 3)?;
     let asked = ask(&rt, alloc, &model);
     asked.system(&[1, 2], Ok(15));
@@ -384,7 +409,7 @@ fn a_sum_is_exact(rt: HostRuntime) -> Result<(), Fail> {
         args.push(var(index))?;
     }
     let sum = Term::Node {
-        op: Op::Sum,
+        op: Op::Nary(NaryOp::Sum),
         args,
         place: at(4),
     };
@@ -430,7 +455,13 @@ fn violations_through_a_definition(rt: HostRuntime) -> Result<(), Fail> {
     let cell = cell_of(alloc, at(39))?;
     define(&mut model, 1, cell)?;
     post(&mut model, Posted::Define(0))?;
-    let most = node(alloc, Op::ViolLe, var(1), Term::Const(20), 7)?;
+    let most = node(
+        alloc,
+        Op::Constraint(Constraint::Le),
+        var(1),
+        Term::Const(20),
+        7,
+    )?;
     constrain(&mut model, 0, most, 1)?;
     let asked = ask(&rt, alloc, &model);
     asked.violations(&[3, 0, 0], 0, 0, Ok(10));
@@ -449,9 +480,21 @@ fn a_fault_of_another_system(rt: HostRuntime) -> Result<(), Fail> {
     let alloc = rt.alloc();
     let mut model = model_of(alloc, 1)?;
     let sum = node(alloc, Op::Binary(BinaryOp::Add), var(0), var(0), 3)?;
-    let zero = node(alloc, Op::ViolEq, sum, Term::Const(0), 5)?;
+    let zero = node(
+        alloc,
+        Op::Constraint(Constraint::Eq),
+        sum,
+        Term::Const(0),
+        5,
+    )?;
     constrain(&mut model, 0, zero, 1)?;
-    let term = node(alloc, Op::ViolLe, var(0), Term::Const(1), 9)?;
+    let term = node(
+        alloc,
+        Op::Constraint(Constraint::Le),
+        var(0),
+        Term::Const(1),
+        9,
+    )?;
     constrain_second(alloc, &mut model, term)?;
     let k = i64::MAX;
     let stop = AskStop::Fault(at(3), RunFault::Overflow);
@@ -471,13 +514,25 @@ fn a_subterm_that_was_posted_to_another_system(rt: HostRuntime) -> Result<(), Fa
     let mut model = model_of(alloc, 1)?;
     let bracket = Place { line: 4, col: 8 };
     let cell = cell_of(alloc, bracket)?;
-    let most = node(alloc, Op::ViolLe, cell, Term::Const(90), 12)?;
+    let most = node(
+        alloc,
+        Op::Constraint(Constraint::Le),
+        cell,
+        Term::Const(90),
+        12,
+    )?;
     constrain(&mut model, 0, most, 1)?;
     let rest = node(alloc, Op::Binary(BinaryOp::Sub), Term::Const(4), var(0), 51)?;
     let part = node(alloc, Op::Binary(BinaryOp::Div), Term::Const(12), rest, 50)?;
     let again = cell_of(alloc, Place { line: 5, col: 60 })?;
     let sum = node(alloc, Op::Binary(BinaryOp::Add), part, again, 55)?;
-    let term = node(alloc, Op::ViolLe, sum, Term::Const(20), 65)?;
+    let term = node(
+        alloc,
+        Op::Constraint(Constraint::Le),
+        sum,
+        Term::Const(20),
+        65,
+    )?;
     constrain_second(alloc, &mut model, term)?;
     let change = Move::Assign { var: 0, value: 4 };
     let wanted = AskStop::Fault(bracket, RunFault::OutOfRange);

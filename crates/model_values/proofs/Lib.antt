@@ -1,4 +1,3 @@
-pub mod SetCopies
 pub mod Kinded
 pub mod Layers
 pub mod Congruence

@@ -1,6 +1,7 @@
 //! What terms come to, where it is known what the variables come to; and which subterms fail.
 ghost use Rattle.std.specs.Prelude.{◌≡◌, ◌++◌, List, Some, IsSome, IfOk, IfSome, filter};
 ghost use Rattle.cbl_base.specs.Inputs.{kind_of};
+ghost use Rattle.cbl_base.specs.declared.input.Input.TheVariants.{Set};
 ghost use Rattle.model_values.specs.Failing.{AreFailing};
 ghost use Rattle.model_values.specs.Failures.{fails};
 ghost use Rattle.model_values.specs.Outcomes.{HasKinds, env_of, gather, known, listed, outcome_of};
@@ -52,41 +53,29 @@ pub fn gather(so_far: Gathered, outcome: Outcome) -> Result<Gathered, NoMemory>
     }
 }
 
-/// The same set again.
-#[tactic(auto, using(crate::proofs::SetCopies::same_members))]
-pub fn copied_set(alloc: Global, set: &IntSet) -> Result<IntSet, NoMemory>
-    ensures { IfOk result (λ s. s ≡ set.now) }
+/// A set as a value.
+pub fn set_value(set: &IntSet) -> Result<Input, NoMemory>
+    ensures { IfOk result (λ x. x ≡ Set set.now) }
 {
-    IntSet::from_slice(alloc, set.as_slice())
-}
-
-/// The same value again.
-pub fn copied(alloc: Global, input: &Input) -> Result<Input, NoMemory>
-    ensures { IfOk result (λ x. x ≡ input.now) }
-{
-    match input {
-        Input::Int(x) => Ok(Input::Int(*x)),
-        Input::Set(set) => Ok(Input::Set(copied_set(alloc, set)?)),
-    }
+    Ok(Input::Set(set.clone()?))
 }
 
 /// The value in a cell again, where one is known.
-pub fn copied_outcome(alloc: Global, cell: &Option<Outcome>) -> Result<Outcome, NoMemory>
+pub fn copied_outcome(cell: &Option<Outcome>) -> Result<Outcome, NoMemory>
     ensures { IfOk result (λ o. o ≡ known (Some cell.now)) }
 {
     match cell {
-        Some(Some(value)) => Ok(Some(copied(alloc, value)?)),
-        Some(None) => Ok(None),
+        Some(outcome) => Ok(outcome.clone()?),
         None => Ok(None),
     }
 }
 
 /// What a variable comes to, where it is known.
-pub fn outcome_at(alloc: Global, cells: &[Option<Outcome>], index: u32) -> Result<Outcome, NoMemory>
+pub fn outcome_at(cells: &[Option<Outcome>], index: u32) -> Result<Outcome, NoMemory>
     ensures { IfOk result (λ o. o ≡ env_of cells.now index) }
 {
     match cells.get(index as usize) {
-        Some(cell) => copied_outcome(alloc, cell),
+        Some(cell) => copied_outcome(cell),
         None => Ok(None),
     }
 }
@@ -112,8 +101,8 @@ pub fn evaluate<'a, U: UserValues>(
 {
     match term {
         Term::Const(x) => Ok(Some(Input::Int(*x))),
-        Term::ConstSet(set) => Ok(Some(Input::Set(copied_set(setting.alloc, set)?))),
-        Term::Var(v) => outcome_at(setting.alloc, setting.cells, v.index),
+        Term::ConstSet(set) => Ok(Some(set_value(set)?)),
+        Term::Var(v) => outcome_at(setting.cells, v.index),
         Term::Node { op, args, place } => {
             let mut so_far = Some(Vec::new(setting.alloc));
             for arg in args {

@@ -24,7 +24,7 @@ fn values_of(alloc: Global, cells: &[Option<Outcome>]) -> Result<Gathered, NoMem
 {
     let mut so_far = Some(Vec::new(alloc));
     for cell in cells {
-        let outcome = copied_outcome(alloc, cell)?;
+        let outcome = copied_outcome(cell)?;
         so_far = gather(so_far, outcome)?;
     }
     Ok(so_far)

@@ -5,23 +5,20 @@ ghost use Rattle.cbl_base.specs.Inputs.{kinds_of};
 ghost use Rattle.cbl_base.specs.NodeLaw.{IsAnswer};
 ghost use Rattle.node_kinds.specs.ConstantRule.{rule_of_constant};
 
-use crate::copying::copy_of;
 use cbl_base::{Change, Input, NoMemory, NodeFault, NodeValue};
-use std::alloc::Global;
 
 /// What a node without inputs keeps: the value that it always has.
 #[derive(Drop)]
 pub struct Constant {
     value: NodeValue,
-    alloc: Global,
 }
 
 impl Constant {
     /// The constant with this value.
-    pub(crate) fn new(alloc: Global, value: NodeValue) -> Constant
+    pub(crate) fn new(value: NodeValue) -> Constant
         ensures { result.value ≡ value }
     {
-        Constant { value, alloc }
+        Constant { value }
     }
 
     /// Takes the inputs, of which there are none.
@@ -44,8 +41,7 @@ impl Constant {
     pub(crate) fn probe(&self) -> Result<NodeValue, NodeFault>
         ensures { IsAnswer (Ok self.now.value) result }
     {
-        let value = copy_of(self.alloc, &self.value)?;
-        Ok(value)
+        self.value.clone().map_err(|_| NodeFault::NoMemory)
     }
 
     /// The value.

@@ -1,9 +1,15 @@
-//! All nodes of constraints in one type.
-use cbl_base::{NoMemory, NodeFault, RunFault};
+//! All nodes of constraints in one type, and the node of each constraint.
+ghost use Rattle.std.specs.Prelude.{◌≡◌, IfOk};
+ghost use Rattle.cbl_violations.specs.Constraints.{rule_of_constraint};
+ghost use Rattle.diff_global.specs.NumberRules.{cardinality_rule};
+
+use cbl_base::{NoMemory, NodeFault, Numbers, RunFault};
+use cbl_violations::Constraint;
 use diff_comb::{AllOf, AnyOf, OfOne, Relation, WeightedTotal};
-use diff_global::{AllDifferent, Cardinality};
+use diff_global::{AllDifferent, Cardinality, Demand};
 use diff_load_seq::{Knapsack, MultiKnapsack, Sequence};
 use node_base::{NumberChange, NumberNode};
+use std::alloc::Global;
 use user_constraint::{UserConstraint, UserNode};
 
 /// The node of a constraint, of a total or of a repeat. Its rule is that of the node inside. `U` is what
@@ -21,6 +27,69 @@ pub enum ConstraintKind<U: UserConstraint> {
     OfOne(OfOne),
     Total(WeightedTotal),
     User(UserNode<U>),
+}
+
+impl<U: UserConstraint> ConstraintKind<U> {
+    /// The node of a constraint. `NoMemory` where there is none for it.
+    pub fn of(alloc: Global, constraint: &Constraint) -> Result<ConstraintKind<U>, NoMemory>
+        ensures { IfOk result (λ kind. ⟦<ConstraintKind<U> as NumberNode>⟧.number_rule kind ≡
+            rule_of_constraint constraint.now) }
+    {
+        match constraint {
+            Constraint::Eq => Ok(ConstraintKind::Relation(Relation::eq())),
+            Constraint::Ne => Ok(ConstraintKind::Relation(Relation::ne())),
+            Constraint::Le => Ok(ConstraintKind::Relation(Relation::le())),
+            Constraint::Lt => Ok(ConstraintKind::Relation(Relation::lt())),
+            Constraint::AllDifferent => Ok(ConstraintKind::AllDifferent(AllDifferent::new(alloc))),
+            Constraint::AtMost { low, bounds } => {
+                ConstraintKind::cardinality(alloc, Demand::AtMost, *low, bounds)
+            }
+            Constraint::AtLeast { low, bounds } => {
+                ConstraintKind::cardinality(alloc, Demand::AtLeast, *low, bounds)
+            }
+            Constraint::Exactly { low, bounds } => {
+                ConstraintKind::cardinality(alloc, Demand::Exactly, *low, bounds)
+            }
+            Constraint::Knapsack { weights, capacity } => {
+                let node = Knapsack::new(alloc, weights.clone()?, *capacity);
+                Ok(ConstraintKind::Knapsack(node))
+            }
+            Constraint::MultiKnapsack {
+                sizes,
+                low,
+                capacities,
+            } => {
+                let sizes = sizes.clone()?;
+                let node = MultiKnapsack::new(alloc, sizes, *low, capacities.clone()?);
+                Ok(ConstraintKind::MultiKnapsack(node))
+            }
+            Constraint::Sequence {
+                values,
+                most,
+                window,
+            } => {
+                let node = Sequence::new(alloc, values.clone()?, *most, *window);
+                Ok(ConstraintKind::Sequence(node))
+            }
+            Constraint::AllOf => Ok(ConstraintKind::AllOf(AllOf::new(alloc))),
+            Constraint::AnyOf => Ok(ConstraintKind::AnyOf(AnyOf::new(alloc))),
+            Constraint::NotHeld => Ok(ConstraintKind::OfOne(OfOne::not_held())),
+        }
+    }
+
+    /// The node of a constraint on how often values stand in a list.
+    fn cardinality(
+        alloc: Global,
+        demand: Demand,
+        low: i64,
+        bounds: &Numbers,
+    ) -> Result<ConstraintKind<U>, NoMemory>
+        ensures { IfOk result (λ kind. ⟦<ConstraintKind<U> as NumberNode>⟧.number_rule kind ≡
+            cardinality_rule demand low bounds.now) }
+    {
+        let node = Cardinality::new(alloc, demand, low, bounds.clone()?);
+        Ok(ConstraintKind::Cardinality(node))
+    }
 }
 
 impl<U: UserConstraint> NumberNode for ConstraintKind<U> {

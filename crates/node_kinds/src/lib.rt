@@ -8,13 +8,11 @@
 
 mod constant;
 mod constraint_kind;
-mod copying;
 mod kind;
 mod making;
 mod operation_kind;
 
 pub use constant::Constant;
 pub use constraint_kind::ConstraintKind;
-pub use copying::copy_of;
 pub use kind::{Kind, KindOf};
 pub use operation_kind::OperationKind;

@@ -1,9 +1,14 @@
-//! All nodes of operations on numbers in one type.
+//! All nodes of operations on numbers in one type, and the node of each operation on a list.
+ghost use Rattle.std.specs.Prelude.{◌≡◌};
+ghost use Rattle.cbl_operations.specs.Nary.{rule_of_nary};
+
 use cbl_base::{NoMemory, NodeFault, RunFault};
+use cbl_operations::NaryOp;
 use node_base::{NumberChange, NumberNode};
 use node_count::{Count, Element, Element2};
-use node_num::{Binary, Junction, Sum, Unary};
+use node_num::{Binary, Junction, JunctionKind, Sum, Unary};
 use node_order::{Greatest, Least};
+use std::alloc::Global;
 
 /// The node of an operation that takes numbers and has a number as its value. Its rule is that of the
 /// node inside.
@@ -18,6 +23,22 @@ pub enum OperationKind {
     Element2(Element2),
     Least(Least),
     Greatest(Greatest),
+}
+
+impl OperationKind {
+    /// The node of an operation on a list of numbers.
+    pub fn of_nary(alloc: Global, op: NaryOp) -> OperationKind
+        ensures { ⟦<OperationKind as NumberNode>⟧.number_rule result ≡ rule_of_nary op }
+    {
+        match op {
+            NaryOp::Least => OperationKind::Least(Least::new(alloc)),
+            NaryOp::Greatest => OperationKind::Greatest(Greatest::new(alloc)),
+            NaryOp::Sum => OperationKind::Sum(Sum::new(alloc)),
+            NaryOp::Count => OperationKind::Count(Count::new(alloc)),
+            NaryOp::And => OperationKind::Junction(Junction::new(alloc, JunctionKind::And)),
+            NaryOp::Or => OperationKind::Junction(Junction::new(alloc, JunctionKind::Or)),
+        }
+    }
 }
 
 impl NumberNode for OperationKind {

@@ -7,19 +7,12 @@ ghost use Rattle.node_set.specs.Placing.{placed, placed_in};
 use cbl_base::{Input, IntSet, NoMemory};
 use std::alloc::Global;
 
-/// A copy of a set.
-pub(crate) fn copy_of(alloc: Global, set: &IntSet) -> Result<IntSet, NoMemory>
-    ensures { IfOk result (λ copy. copy ≡ set.now) }
-{
-    IntSet::from_slice(alloc, set.as_slice())
-}
-
 /// A copy of the set that an input is; of a number, the empty set.
 pub(crate) fn set_in(alloc: Global, input: &Input) -> Result<IntSet, NoMemory>
     ensures { IfOk result (λ set. set ≡ members_of input.now) }
 {
     match input {
-        Input::Set(set) => copy_of(alloc, set),
+        Input::Set(set) => Ok(set.clone()?),
         Input::Int(_) => Ok(IntSet::new(alloc)),
     }
 }

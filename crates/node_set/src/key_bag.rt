@@ -4,7 +4,7 @@ ghost use Rattle.node_base.specs.KeptCounts.{times_kept};
 ghost use Rattle.node_set.specs.Bags.{one_where, IsBagOf, IsChangedBy};
 ghost use Rattle.node_set.specs.Placing.{placed_in};
 
-use crate::editing::{place_in, set_in};
+use crate::editing::place_in;
 use cbl_base::{Input, IntSet, NoMemory};
 use node_base::OrderedCounts;
 use std::alloc::Global;
@@ -28,12 +28,12 @@ impl KeyBag {
     }
 
     /// A copy of it.
-    pub(crate) fn copied(&self, alloc: Global) -> Result<KeyBag, NoMemory>
+    pub(crate) fn copied(&self) -> Result<KeyBag, NoMemory>
         ensures { IfOk result (λ copy. (xs : List ℤ) → IsBagOf self.now xs → IsBagOf copy xs) }
     {
         Ok(KeyBag {
             counts: self.counts.copied()?,
-            kept: Input::Set(set_in(alloc, &self.kept)?),
+            kept: self.kept.clone()?,
         })
     }
 

@@ -72,7 +72,7 @@ impl NodeRule for SetOf {
     }
 
     fn probe(&self, changes: &[Change]) -> Result<NodeValue, NodeFault> {
-        let mut ones = self.ones.copied(self.alloc)?;
+        let mut ones = self.ones.copied()?;
         for change in changes {
             match change {
                 Change::Int { place, old, new } => {

@@ -4,15 +4,13 @@ ghost use Rattle.cbl_base.specs.Changes.{after_change};
 ghost use Rattle.cbl_base.specs.Sets.{with_members, without_members};
 ghost use Rattle.cbl_base.specs.declared.input.Input.TheVariants.{Set};
 ghost use Rattle.cbl_base.specs.declared.input.Change.TheVariants.{Set as SetChange};
-ghost use Rattle.cbl_operations.specs.Operations.Union.{union};
-ghost use Rattle.cbl_operations.specs.Operations.Inter.{inter};
-ghost use Rattle.cbl_operations.specs.Operations.Minus.{minus};
+ghost use Rattle.cbl_operations.specs.TwoSets.{rule_of_sets, two_sets_value};
 ghost use Rattle.node_set.specs.Combining.{belongs, both, combined, exchanged};
 ghost use Rattle.node_set.specs.Placing.{placed};
 
-use crate::editing::{copy_of, place, place_in, set_in};
+use crate::editing::{place, place_in, set_in};
 use cbl_base::{Change, Input, IntSet, NoMemory, NodeFault, NodeRule, NodeValue, RunFault};
-use cbl_operations::{inter_value, minus_value, union_value};
+use cbl_operations::TwoSetsOp;
 use std::alloc::Global;
 
 /// Which members of two sets the combined set has.
@@ -25,6 +23,17 @@ enum Combining {
 }
 
 impl Combining {
+    /// How the operation combines.
+    fn of(op: TwoSetsOp) -> Combining
+        ensures { combined result ≡ two_sets_value op }
+    {
+        match op {
+            TwoSetsOp::Union => Combining::Either,
+            TwoSetsOp::Inter => Combining::Both,
+            TwoSetsOp::Minus => Combining::FirstAlone,
+        }
+    }
+
     /// Whether a number belongs to the combined set, by whether it is in the first and in the second.
     fn has(self, in_first: bool, in_second: bool) -> bool
         ensures { result ≡ belongs self in_first in_second }
@@ -54,15 +63,15 @@ impl Combining {
         ensures { IfOk result (λ s. s ≡ combined self first.now second.now) }
     {
         match self {
-            Combining::Either => union_value(alloc, first, second),
-            Combining::Both => inter_value(alloc, first, second),
-            Combining::FirstAlone => minus_value(alloc, first, second),
-            Combining::SecondAlone => minus_value(alloc, second, first),
+            Combining::Either => TwoSetsOp::Union.value(alloc, first, second),
+            Combining::Both => TwoSetsOp::Inter.value(alloc, first, second),
+            Combining::FirstAlone => TwoSetsOp::Minus.value(alloc, first, second),
+            Combining::SecondAlone => TwoSetsOp::Minus.value(alloc, second, first),
         }
     }
 }
 
-/// The node of `Union`, of `Inter` or of `Minus`: it takes two sets.
+/// The node of an operation on two sets.
 #[derive(Drop)]
 pub struct TwoSets {
     combining: Combining,
@@ -73,32 +82,12 @@ pub struct TwoSets {
 }
 
 impl TwoSets {
-    /// The node of `Union`: the members of either set.
-    pub fn union(alloc: Global) -> TwoSets
-        ensures { ⟦<TwoSets as NodeRule>⟧.rule result ≡ union }
-    {
-        TwoSets::new(alloc, Combining::Either)
-    }
-
-    /// The node of `Inter`: the members of both sets.
-    pub fn inter(alloc: Global) -> TwoSets
-        ensures { ⟦<TwoSets as NodeRule>⟧.rule result ≡ inter }
-    {
-        TwoSets::new(alloc, Combining::Both)
-    }
-
-    /// The node of `Minus`: the members of the first set that are none of the second.
-    pub fn minus(alloc: Global) -> TwoSets
-        ensures { ⟦<TwoSets as NodeRule>⟧.rule result ≡ minus }
-    {
-        TwoSets::new(alloc, Combining::FirstAlone)
-    }
-
-    fn new(alloc: Global, combining: Combining) -> TwoSets
-        ensures { result.combining ≡ combining }
+    /// The node of this operation.
+    pub fn new(alloc: Global, op: TwoSetsOp) -> TwoSets
+        ensures { ⟦<TwoSets as NodeRule>⟧.rule result ≡ rule_of_sets op }
     {
         TwoSets {
-            combining,
+            combining: Combining::of(op),
             first: IntSet::new(alloc),
             second: IntSet::new(alloc),
             kept: Input::Int(0),
@@ -108,7 +97,6 @@ impl TwoSets {
 
     /// A copy of all that it holds.
     fn copied(&self) -> Result<TwoSets, NoMemory>
-        requires { self.now.kept ≡ Set (combined self.now.combining self.now.first self.now.second) }
         ensures combining { IfOk result (λ copy. copy.combining ≡ self.now.combining) }
         ensures first { IfOk result (λ copy. copy.first ≡ self.now.first) }
         ensures second { IfOk result (λ copy. copy.second ≡ self.now.second) }
@@ -116,9 +104,9 @@ impl TwoSets {
     {
         Ok(TwoSets {
             combining: self.combining,
-            first: copy_of(self.alloc, &self.first)?,
-            second: copy_of(self.alloc, &self.second)?,
-            kept: Input::Set(set_in(self.alloc, &self.kept)?),
+            first: self.first.clone()?,
+            second: self.second.clone()?,
+            kept: self.kept.clone()?,
             alloc: self.alloc,
         })
     }

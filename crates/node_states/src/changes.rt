@@ -6,7 +6,7 @@ ghost use Rattle.cbl_base.specs.declared.input.Input.TheVariants.{Set};
 ghost use Rattle.node_states.specs.Step.{IsStep};
 
 use cbl_base::{Change, Input, IntSet, NoMemory};
-use cbl_operations::minus_value;
+use cbl_operations::TwoSetsOp;
 use std::alloc::Global;
 
 /// At which places there are changes: at all, or where the inputs differ.
@@ -103,8 +103,8 @@ fn set_change(alloc: Global, place: u32, from: &IntSet, to: &IntSet) -> Result<C
     // what these ensure says that the members rise
     let _from = from.as_slice();
     let _to = to.as_slice();
-    let added = minus_value(alloc, to, from)?;
-    let removed = minus_value(alloc, from, to)?;
+    let added = TwoSetsOp::Minus.value(alloc, to, from)?;
+    let removed = TwoSetsOp::Minus.value(alloc, from, to)?;
     Ok(Change::Set {
         place,
         added,

@@ -1,6 +1,7 @@
 //! Operations by their names.
 
-use cbl_operations::{BinaryOp, Op, UnaryOp};
+use cbl_operations::{BinaryOp, NaryOp, Op, TwoSetsOp, UnaryOp};
+use cbl_violations::Constraint;
 
 /// The operation of this name that keeps nothing beside its inputs.
 pub fn plain_operation(name: &str) -> Option<Op> {
@@ -10,19 +11,16 @@ pub fn plain_operation(name: &str) -> Option<Op> {
     if let Some(op) = binary_operation(name) {
         return Some(Op::Binary(op));
     }
+    if let Some(op) = nary_operation(name) {
+        return Some(Op::Nary(op));
+    }
     match name {
-        "Least" => Some(Op::Least),
-        "Greatest" => Some(Op::Greatest),
-        "Sum" => Some(Op::Sum),
-        "Count" => Some(Op::Count),
-        "And" => Some(Op::And),
-        "Or" => Some(Op::Or),
-        "Union" => Some(Op::Union),
-        "Inter" => Some(Op::Inter),
-        "Minus" => Some(Op::Minus),
+        "Union" => Some(Op::TwoSets(TwoSetsOp::Union)),
+        "Inter" => Some(Op::TwoSets(TwoSetsOp::Inter)),
+        "Minus" => Some(Op::TwoSets(TwoSetsOp::Minus)),
         "Card" => Some(Op::Card),
         "Member" => Some(Op::Member),
-        _ => plain_constraint(name),
+        _ => Some(Op::Constraint(plain_constraint(name)?)),
     }
 }
 
@@ -52,17 +50,30 @@ fn binary_operation(name: &str) -> Option<BinaryOp> {
     }
 }
 
-/// The constraint of this name that keeps nothing beside its inputs.
-fn plain_constraint(name: &str) -> Option<Op> {
+/// The operation on a list of numbers of this name.
+fn nary_operation(name: &str) -> Option<NaryOp> {
     match name {
-        "ViolEq" => Some(Op::ViolEq),
-        "ViolNe" => Some(Op::ViolNe),
-        "ViolLe" => Some(Op::ViolLe),
-        "ViolLt" => Some(Op::ViolLt),
-        "AllDifferent" => Some(Op::AllDifferent),
-        "AllOf" => Some(Op::AllOf),
-        "AnyOf" => Some(Op::AnyOf),
-        "NotHeld" => Some(Op::NotHeld),
+        "Least" => Some(NaryOp::Least),
+        "Greatest" => Some(NaryOp::Greatest),
+        "Sum" => Some(NaryOp::Sum),
+        "Count" => Some(NaryOp::Count),
+        "And" => Some(NaryOp::And),
+        "Or" => Some(NaryOp::Or),
+        _ => None,
+    }
+}
+
+/// The constraint of this name that keeps nothing beside its inputs.
+fn plain_constraint(name: &str) -> Option<Constraint> {
+    match name {
+        "ViolEq" => Some(Constraint::Eq),
+        "ViolNe" => Some(Constraint::Ne),
+        "ViolLe" => Some(Constraint::Le),
+        "ViolLt" => Some(Constraint::Lt),
+        "AllDifferent" => Some(Constraint::AllDifferent),
+        "AllOf" => Some(Constraint::AllOf),
+        "AnyOf" => Some(Constraint::AnyOf),
+        "NotHeld" => Some(Constraint::NotHeld),
         _ => None,
     }
 }

@@ -6,7 +6,6 @@ ghost use Rattle.node_states.specs.Elsewhere.{is_elsewhere};
 
 use crate::changes::{Places, change_at, changes_between};
 use cbl_base::{Change, Input, NoMemory};
-use node_kinds::copy_of;
 use std::alloc::Global;
 
 /// The changes that make the inputs `from` into `to`, one at each of these places, in their order. `None`
@@ -39,7 +38,7 @@ pub fn changes_at(
         let Some(change) = change_at(alloc, place, old, new)? else {
             return Ok(None);
         };
-        let copy = copy_of(alloc, new)?;
+        let copy = copied(new)?;
         changes.push(change)?;
         held[index] = copy;
     }
@@ -66,12 +65,19 @@ fn is_elsewhere(change: &Change, place: u32) -> bool
     }
 }
 
+/// A copy of an input, as a function of its own so that its contract says that it is the same.
+fn copied(input: &Input) -> Result<Input, NoMemory>
+    ensures { IfOk result (λ copy. copy ≡ input.now) }
+{
+    Ok(input.clone()?)
+}
+
 fn copy_of_all(alloc: Global, inputs: &[Input]) -> Result<Vec<Input>, NoMemory>
     ensures { IfOk result (λ copy. copy.items ≡ inputs.now) }
 {
     let mut copy = Vec::new(alloc);
     for input in inputs {
-        copy.push(copy_of(alloc, input)?)?;
+        copy.push(copied(input)?)?;
     }
     Ok(copy)
 }

@@ -1,5 +1,5 @@
 //! Whether an operation takes inputs of such kinds.
-ghost use Rattle.std.specs.Prelude.{◌≡◌, ℕ, true, false, ◌&&◌, ◌==◌, length, nat_lt, IsTrue};
+ghost use Rattle.std.specs.Prelude.{◌≡◌, ℕ, true, false, ◌&&◌, ◌==◌, length, IsTrue};
 ghost use Rattle.std.specs.List.{list_all};
 ghost use Rattle.cbl_base.specs.Inputs.{all_numbers, kinds_of};
 ghost use Rattle.cbl_base.specs.NumberRule.{NumberRule};
@@ -41,14 +41,6 @@ pub fn are_so_many(inputs: &[Input], count: usize) -> bool
     are_numbers(inputs) && inputs.len() == count
 }
 
-/// Whether they are numbers, one at least.
-fn are_some_numbers(inputs: &[Input]) -> bool
-    ensures { result ≡ (all_numbers (kinds_of inputs.now) && nat_lt 0
-        (length (kinds_of inputs.now))) }
-{
-    are_numbers(inputs) && inputs.len() > 0
-}
-
 fn are_two_sets(inputs: &[Input]) -> bool
     ensures { result ≡ are_two_sets (kinds_of inputs.now) }
 {
@@ -76,28 +68,18 @@ pub fn takes(op: &Op, inputs: &[Input]) -> bool
         IsTrue ((rule_of users op.now).takes (kinds_of inputs.now)) }
 {
     match op {
-        Op::Union | Op::Inter | Op::Minus => are_two_sets(inputs),
-        Op::Card => is_one_set(inputs),
-        Op::Member => are_number_and_set(inputs),
-        Op::Unary(_) | Op::NotHeld => are_so_many(inputs, 1),
+        Op::Unary(_) => are_so_many(inputs, 1),
         Op::Binary(_) => are_so_many(inputs, 2),
-        Op::ViolEq | Op::ViolNe | Op::ViolLe | Op::ViolLt => are_so_many(inputs, 2),
-        Op::Least | Op::Greatest | Op::Count => are_some_numbers(inputs),
+        Op::Nary(op) => are_numbers(inputs) && op.takes(inputs.len()),
+        Op::Keyed { keys, .. } => are_so_many(inputs, keys.len()),
         Op::Element { len, .. } => are_so_many(inputs, *len as usize + 1),
         Op::Element2 { len1, len2, .. } => {
             are_so_many(inputs, *len1 as usize * *len2 as usize + 2)
         }
-        Op::ArgMin { keys } | Op::ArgMax { keys } | Op::SetOf { keys } => {
-            are_so_many(inputs, keys.len())
-        }
-        Op::Knapsack { weights, .. } => are_so_many(inputs, weights.len()),
-        Op::MultiKnapsack { sizes, .. } => are_so_many(inputs, sizes.len()),
-        Op::Sum | Op::And | Op::Or | Op::AllDifferent | Op::AllOf | Op::AnyOf => {
-            are_numbers(inputs)
-        }
-        Op::AtMost { .. } | Op::AtLeast { .. } | Op::Exactly { .. } | Op::Sequence { .. } => {
-            are_numbers(inputs)
-        }
+        Op::TwoSets(_) => are_two_sets(inputs),
+        Op::Card => is_one_set(inputs),
+        Op::Member => are_number_and_set(inputs),
+        Op::Constraint(constraint) => are_numbers(inputs) && constraint.takes(inputs.len()),
         Op::User { .. } => false,
     }
 }

@@ -2,7 +2,8 @@
 
 use crate::given::Given;
 use cbl_base::{Input, IntSet, Numbers};
-use cbl_operations::Op;
+use cbl_operations::{KeyedOp, Op};
+use cbl_violations::Constraint;
 use node_states::plain_operation;
 use std::alloc::Global;
 use table_file::Stop;
@@ -35,71 +36,58 @@ pub(crate) fn subject_of(alloc: Global, name: &str, givens: &[Given]) -> Result<
 
 /// The operation of this name that keeps these, in the order of its fields.
 fn operation_with(alloc: Global, name: &str, givens: &[Given]) -> Result<Op, Stop> {
-    match givens {
-        [keys] => with_one(alloc, name, keys),
-        [first, second] => with_two(alloc, name, first, second),
-        [first, second, third] => with_three(alloc, name, first, second, third),
-        [low1, len1, low2, len2] if name == "Element2" => Ok(Op::Element2 {
+    match (name, givens) {
+        ("ArgMin", [keys]) => with_keys(alloc, KeyedOp::ArgMin, keys),
+        ("ArgMax", [keys]) => with_keys(alloc, KeyedOp::ArgMax, keys),
+        ("SetOf", [keys]) => with_keys(alloc, KeyedOp::SetOf, keys),
+        ("Element", [low, len]) => Ok(Op::Element {
+            low: low.number()?,
+            len: len.count()?,
+        }),
+        ("Element2", [low1, len1, low2, len2]) => Ok(Op::Element2 {
             low1: low1.number()?,
             len1: len1.count()?,
             low2: low2.number()?,
             len2: len2.count()?,
         }),
+        _ => Ok(Op::Constraint(constraint_with(alloc, name, givens)?)),
+    }
+}
+
+fn with_keys(alloc: Global, op: KeyedOp, keys: &Given) -> Result<Op, Stop> {
+    Ok(Op::Keyed {
+        op,
+        keys: keys.list(alloc)?,
+    })
+}
+
+/// The constraint of this name that keeps these.
+fn constraint_with(alloc: Global, name: &str, givens: &[Given]) -> Result<Constraint, Stop> {
+    match (name, givens) {
+        ("Knapsack", [weights, capacity]) => Ok(Constraint::Knapsack {
+            weights: weights.list(alloc)?,
+            capacity: capacity.number()?,
+        }),
+        (_, [low, bounds]) => with_bounds(name, low.number()?, bounds.list(alloc)?),
+        ("MultiKnapsack", [sizes, low, capacities]) => Ok(Constraint::MultiKnapsack {
+            sizes: sizes.list(alloc)?,
+            low: low.number()?,
+            capacities: capacities.list(alloc)?,
+        }),
+        ("Sequence", [values, most, window]) => Ok(Constraint::Sequence {
+            values: IntSet::from_slice(alloc, values.list(alloc)?.as_slice())?,
+            most: most.number()?,
+            window: window.number()?,
+        }),
         _ => Err(Stop::Form),
     }
 }
 
-fn with_one(alloc: Global, name: &str, keys: &Given) -> Result<Op, Stop> {
-    let keys = keys.list(alloc)?;
+fn with_bounds(name: &str, low: i64, bounds: Numbers) -> Result<Constraint, Stop> {
     match name {
-        "ArgMin" => Ok(Op::ArgMin { keys }),
-        "ArgMax" => Ok(Op::ArgMax { keys }),
-        "SetOf" => Ok(Op::SetOf { keys }),
-        _ => Err(Stop::Form),
-    }
-}
-
-fn with_two(alloc: Global, name: &str, first: &Given, second: &Given) -> Result<Op, Stop> {
-    match name {
-        "Element" => Ok(Op::Element {
-            low: first.number()?,
-            len: second.count()?,
-        }),
-        "Knapsack" => Ok(Op::Knapsack {
-            weights: first.list(alloc)?,
-            capacity: second.number()?,
-        }),
-        _ => with_bounds(name, first.number()?, second.list(alloc)?),
-    }
-}
-
-fn with_bounds(name: &str, low: i64, bounds: Numbers) -> Result<Op, Stop> {
-    match name {
-        "AtMost" => Ok(Op::AtMost { low, bounds }),
-        "AtLeast" => Ok(Op::AtLeast { low, bounds }),
-        "Exactly" => Ok(Op::Exactly { low, bounds }),
-        _ => Err(Stop::Form),
-    }
-}
-
-fn with_three(
-    alloc: Global,
-    name: &str,
-    first: &Given,
-    second: &Given,
-    third: &Given,
-) -> Result<Op, Stop> {
-    match name {
-        "MultiKnapsack" => Ok(Op::MultiKnapsack {
-            sizes: first.list(alloc)?,
-            low: second.number()?,
-            capacities: third.list(alloc)?,
-        }),
-        "Sequence" => Ok(Op::Sequence {
-            values: IntSet::from_slice(alloc, first.list(alloc)?.as_slice())?,
-            most: second.number()?,
-            window: third.number()?,
-        }),
+        "AtMost" => Ok(Constraint::AtMost { low, bounds }),
+        "AtLeast" => Ok(Constraint::AtLeast { low, bounds }),
+        "Exactly" => Ok(Constraint::Exactly { low, bounds }),
         _ => Err(Stop::Form),
     }
 }

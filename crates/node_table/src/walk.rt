@@ -10,7 +10,7 @@ use crate::subject::{Subject, subject_of};
 use crate::zeros::NoZeros;
 use cbl_base::{Change, Input, NodeRule};
 use cbl_operations::Op;
-use node_kinds::{Kind, KindOf, copy_of};
+use node_kinds::{Kind, KindOf};
 use node_states::{Places, are_numbers, are_so_many, changes_at, changes_between, takes};
 use std::alloc::Global;
 use table_file::Stop;
@@ -75,7 +75,7 @@ fn walk_of_subject(
             follow(alloc, Kind::of(alloc, op, None)?, subject, start, rows)
         }
         Subject::Constant(value) if start.is_empty() => {
-            let node = Kind::constant(alloc, copy_of(alloc, value)?);
+            let node = Kind::constant(value.clone()?);
             follow(alloc, node, subject, start, rows)
         }
         Subject::Total(members) if are_so_many(start.as_slice(), *members as usize * 2) => {

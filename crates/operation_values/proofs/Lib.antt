@@ -1,2 +1,2 @@
-pub mod KeyedValues
+pub mod NumberValues
 pub mod OfCblOperations

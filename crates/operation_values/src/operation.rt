@@ -13,7 +13,6 @@ use crate::users::UserValues;
 use cbl_base::{Input, IntSet, NoMemory, RunFault};
 use cbl_operations as operations;
 use cbl_operations::{BinaryOp, Op, UnaryOp};
-use cbl_violations as violations;
 use std::alloc::Global;
 
 /// The numbers of the inputs, 0 for a set.
@@ -75,7 +74,6 @@ fn of_two(op: BinaryOp, numbers: &[i64]) -> Result<i64, RunFault>
     op.value(numbers[0], numbers[1])
 }
 
-#[tactic(auto, using(crate::proofs::KeyedValues::arg_min_again, crate::proofs::KeyedValues::arg_max_again, crate::proofs::KeyedValues::set_of_again))]
 /// The value of an operation that takes these inputs: the value of its rule.
 pub fn value_of<U: UserValues>(
     alloc: Global,
@@ -90,38 +88,19 @@ pub fn value_of<U: UserValues>(
 {
     let xs = numbers_of(alloc, inputs)?;
     let number = match op {
-        Op::ArgMin { keys } => {
-            let set = operations::arg_min_value(alloc, keys.as_slice(), &xs)?;
+        Op::Keyed { op, keys } => {
+            let set = op.value(alloc, keys.as_slice(), &xs)?;
             return Ok(Ok(Input::Set(set)));
         }
-        Op::ArgMax { keys } => {
-            let set = operations::arg_max_value(alloc, keys.as_slice(), &xs)?;
-            return Ok(Ok(Input::Set(set)));
-        }
-        Op::SetOf { keys } => {
-            let set = operations::set_of_value(alloc, keys.as_slice(), &xs)?;
-            return Ok(Ok(Input::Set(set)));
-        }
-        Op::Union => {
-            let set = operations::union_value(alloc, set_at(inputs, 0), set_at(inputs, 1))?;
-            return Ok(Ok(Input::Set(set)));
-        }
-        Op::Inter => {
-            let set = operations::inter_value(alloc, set_at(inputs, 0), set_at(inputs, 1))?;
-            return Ok(Ok(Input::Set(set)));
-        }
-        Op::Minus => {
-            let set = operations::minus_value(alloc, set_at(inputs, 0), set_at(inputs, 1))?;
+        Op::TwoSets(op) => {
+            let set = op.value(alloc, set_at(inputs, 0), set_at(inputs, 1))?;
             return Ok(Ok(Input::Set(set)));
         }
         Op::Card => Ok(operations::card_value(set_at(inputs, 0))),
         Op::Member => Ok(operations::member_value(number_at(inputs, 0), set_at(inputs, 1))),
         Op::Unary(op) => of_one(*op, &xs),
         Op::Binary(op) => of_two(*op, &xs),
-        Op::Least => operations::least_value(&xs),
-        Op::Greatest => operations::greatest_value(&xs),
-        Op::Sum => operations::sum_value(&xs),
-        Op::Count => operations::count_value(&xs),
+        Op::Nary(op) => op.value(&xs),
         Op::Element { low, len } => operations::element_value(*low, *len, &xs),
         Op::Element2 {
             low1,
@@ -129,41 +108,7 @@ pub fn value_of<U: UserValues>(
             low2,
             len2,
         } => { operations::element2_value(*low1, *len1, *low2, *len2, &xs) }
-        Op::And => operations::and_value(&xs),
-        Op::Or => operations::or_value(&xs),
-        Op::ViolEq => violations::eq_violations(&xs),
-        Op::ViolNe => violations::ne_violations(&xs),
-        Op::ViolLe => violations::le_violations(&xs),
-        Op::ViolLt => violations::lt_violations(&xs),
-        Op::AllDifferent => violations::all_different_violations(&xs),
-        Op::AtMost { low, bounds } => violations::at_most_violations(&xs, *low, bounds.as_slice()),
-        Op::AtLeast { low, bounds } => {
-            violations::at_least_violations(&xs, *low, bounds.as_slice())
-        }
-        Op::Exactly { low, bounds } => {
-            violations::exactly_violations(&xs, *low, bounds.as_slice())
-        }
-        Op::Knapsack { weights, capacity } => {
-            violations::knapsack_violations(&xs, weights.as_slice(), *capacity)
-        }
-        Op::MultiKnapsack {
-            sizes,
-            low,
-            capacities,
-        } => violations::multi_knapsack_violations(
-            &xs,
-            sizes.as_slice(),
-            *low,
-            capacities.as_slice(),
-        ),
-        Op::Sequence {
-            values,
-            most,
-            window,
-        } => { violations::sequence_violations(&xs, values.as_slice(), *most, *window) }
-        Op::AllOf => violations::all_of_violations(&xs),
-        Op::AnyOf => violations::any_of_violations(&xs),
-        Op::NotHeld => violations::not_held_violations(&xs),
+        Op::Constraint(constraint) => constraint.violations(&xs),
         Op::User { number } => Ok(users.value(*number, &xs)?),
     };
     Ok(as_value(number))

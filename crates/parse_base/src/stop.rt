@@ -3,9 +3,8 @@ ghost use Rattle.std.specs.Prelude.{◌≡◌, length};
 ghost use Rattle.parse_base.specs.Reading.{cause_at};
 ghost use Rattle.parse_base.specs.declared.stop.Stop.TheVariants as stops;
 
-use cbl_base::NoMemory as OutOfMemory;
+use cbl_base::WantOfMemory;
 use comet_syntax::{FormCause, Token};
-use std::alloc::{AllocError, AllocFailed};
 
 /// Why reading stops: at the token from which so many are left, or for want of memory.
 #[derive(Clone, Copy, PartialEq, Eq, Debug)]
@@ -14,32 +13,12 @@ pub enum Stop {
     NoMemory,
 }
 
-impl From<OutOfMemory> for Stop {
+impl<E: WantOfMemory> From<E> for Stop {
     ghost use Rattle.parse_base.specs.declared.stop.Stop.TheVariants as stops;
 
     ghost from_gives = { λ _ stop. stop ≡ stops.NoMemory };
 
-    fn from(_error: OutOfMemory) -> Stop {
-        Stop::NoMemory
-    }
-}
-
-impl From<AllocError> for Stop {
-    ghost use Rattle.parse_base.specs.declared.stop.Stop.TheVariants as stops;
-
-    ghost from_gives = { λ _ stop. stop ≡ stops.NoMemory };
-
-    fn from(_error: AllocError) -> Stop {
-        Stop::NoMemory
-    }
-}
-
-impl<T: Drop> From<AllocFailed<T>> for Stop {
-    ghost use Rattle.parse_base.specs.declared.stop.Stop.TheVariants as stops;
-
-    ghost from_gives = { λ _ stop. stop ≡ stops.NoMemory };
-
-    fn from(_error: AllocFailed<T>) -> Stop {
+    fn from(_error: E) -> Stop {
         Stop::NoMemory
     }
 }

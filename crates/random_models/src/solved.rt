@@ -3,7 +3,7 @@ use crate::drawn::{Drawn, Kind, Step, index_of};
 use crate::draws::Draws;
 use crate::plain::{Answer, comes_to, place_of};
 use cbl_base::{NoMemory, VarId};
-use cbl_operations::{BinaryOp, Op, UnaryOp};
+use cbl_operations::{BinaryOp, NaryOp, Op, UnaryOp};
 use ls_events::VarChange;
 use ls_solver::{Solver, SolverFault};
 use std::alloc::Global;
@@ -42,9 +42,9 @@ fn op_of(kind: Kind) -> Op {
         Kind::Remainder => Op::Binary(BinaryOp::Rem),
         Kind::Negate => Op::Unary(UnaryOp::Neg),
         Kind::Absolute => Op::Unary(UnaryOp::Abs),
-        Kind::Least => Op::Least,
-        Kind::Greatest => Op::Greatest,
-        Kind::Sum => Op::Sum,
+        Kind::Least => Op::Nary(NaryOp::Least),
+        Kind::Greatest => Op::Nary(NaryOp::Greatest),
+        Kind::Sum => Op::Nary(NaryOp::Sum),
         Kind::Equal => Op::Binary(BinaryOp::Eq),
         Kind::Unequal => Op::Binary(BinaryOp::Ne),
         Kind::AtMost => Op::Binary(BinaryOp::Le),

@@ -1,4 +1,2 @@
 pub mod CommaTexts
-pub mod KeySets
 pub mod PlainTexts
-pub mod SetValues

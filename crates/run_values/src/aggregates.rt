@@ -1,12 +1,13 @@
 //! Aggregates: their elements, one by one, and then their value.
 ghost use Rattle.std.specs.Prelude.{◌≡◌, IfErr, IfOk, map};
 ghost use Rattle.std.specs.List.{list_all, list_any};
-ghost use Rattle.comet_meaning.specs.Aggregates.{keys_of, numbers_of, truths_of, with_element, aggregate_value, extreme_of};
+ghost use Rattle.comet_meaning.specs.Aggregates.{keys_by, keys_of, numbers_of, truths_of, with_element, aggregate_value, extreme_of};
 ghost use Rattle.cbl_base.specs.declared.place.Place.{Place};
 ghost use Rattle.cbl_operations.specs.Operations.Least.{least_of};
 ghost use Rattle.cbl_operations.specs.Operations.Greatest.{greatest_of};
-ghost use Rattle.comet_syntax.specs.declared.tree.expressions.Aggregate.TheVariants.{Sum, Min, Max, All, SetOf, ArgMin, ArgMax};
+ghost use Rattle.comet_syntax.specs.declared.tree.expressions.Aggregate.TheVariants.{Sum, Min, Max, All};
 ghost use Rattle.comet_meaning.specs.State.{State};
+ghost use Rattle.comet_meaning.specs.Values as values;
 ghost use Rattle.run_values.specs.Did.{Did, IsFaultOrMemory};
 ghost use Rattle.run_values.specs.Views.{element_seen, value_seen};
 ghost use Rattle.run_values.specs.declared.stop.Stop.TheVariants.{NoMemory};
@@ -16,9 +17,7 @@ use crate::stop::Stop;
 use crate::values::Value;
 use cbl_base::limits::MAX_CELLS;
 use cbl_base::{Limit, Place, RunFault};
-use cbl_operations::{
-    arg_max_value, arg_min_value, greatest_value, least_value, set_of_value, sum_value,
-};
+use cbl_operations::{KeyedOp, NaryOp};
 use comet_syntax::tree::Aggregate;
 use std::alloc::Global;
 
@@ -82,9 +81,9 @@ pub fn aggregate_value(
         Aggregate::All => all(alloc, elements),
         Aggregate::And => Ok(Value::Truth(are_all_true(elements))),
         Aggregate::Or => Ok(Value::Truth(is_one_true(elements))),
-        Aggregate::SetOf => true_keys(alloc, elements),
-        Aggregate::ArgMin => least_keys(alloc, elements),
-        Aggregate::ArgMax => greatest_keys(alloc, elements),
+        Aggregate::SetOf => keys_by(alloc, KeyedOp::SetOf, elements),
+        Aggregate::ArgMin => keys_by(alloc, KeyedOp::ArgMin, elements),
+        Aggregate::ArgMax => keys_by(alloc, KeyedOp::ArgMax, elements),
     }
 }
 
@@ -144,7 +143,7 @@ fn sum(alloc: Global, at: Place, elements: &[Element]) -> Result<Value, Stop>
     ensures stop { IfErr result IsFaultOrMemory }
 {
     let numbers = numbers_in(alloc, elements)?;
-    number_or(at, sum_value(&numbers))
+    number_or(at, NaryOp::Sum.value(&numbers))
 }
 
 /// The least of the numbers.
@@ -174,7 +173,7 @@ fn least_or(numbers: &[i64]) -> Result<i64, RunFault>
     if numbers.is_empty() {
         return Err(RunFault::EmptyRange);
     }
-    least_value(numbers)
+    NaryOp::Least.value(numbers)
 }
 
 /// The greatest number. `EmptyRange` exactly where there is none.
@@ -184,7 +183,7 @@ fn greatest_or(numbers: &[i64]) -> Result<i64, RunFault>
     if numbers.is_empty() {
         return Err(RunFault::EmptyRange);
     }
-    greatest_value(numbers)
+    NaryOp::Greatest.value(numbers)
 }
 
 /// The numbers in a row.
@@ -197,38 +196,14 @@ fn all(alloc: Global, elements: &[Element]) -> Result<Value, Stop>
     Ok(Value::Row(numbers))
 }
 
-/// The set of the keys whose number is 1.
-fn true_keys(alloc: Global, elements: &[Element]) -> Result<Value, Stop>
-    ensures did { (at : Place) (s : State) →
-        Did value_seen result s (aggregate_value at SetOf (map element_seen elements.now) s) }
+/// The set of some of the keys, by the numbers. `NoMemory` where there is none for it; there is no other stop.
+fn keys_by(alloc: Global, op: KeyedOp, elements: &[Element]) -> Result<Value, Stop>
+    ensures set { IfOk result (λ set.
+        value_seen set ≡ values.Set (keys_by op (map element_seen elements.now))) }
     ensures memory { IfErr result (λ stop. stop ≡ NoMemory) }
 {
     let keys = keys_in(alloc, elements)?;
     let numbers = numbers_in(alloc, elements)?;
-    let set = set_of_value(alloc, &keys, &numbers)?;
-    Ok(Value::Set(set))
-}
-
-/// The set of the keys whose number is least.
-fn least_keys(alloc: Global, elements: &[Element]) -> Result<Value, Stop>
-    ensures did { (at : Place) (s : State) →
-        Did value_seen result s (aggregate_value at ArgMin (map element_seen elements.now) s) }
-    ensures memory { IfErr result (λ stop. stop ≡ NoMemory) }
-{
-    let keys = keys_in(alloc, elements)?;
-    let numbers = numbers_in(alloc, elements)?;
-    let set = arg_min_value(alloc, &keys, &numbers)?;
-    Ok(Value::Set(set))
-}
-
-/// The set of the keys whose number is greatest.
-fn greatest_keys(alloc: Global, elements: &[Element]) -> Result<Value, Stop>
-    ensures did { (at : Place) (s : State) →
-        Did value_seen result s (aggregate_value at ArgMax (map element_seen elements.now) s) }
-    ensures memory { IfErr result (λ stop. stop ≡ NoMemory) }
-{
-    let keys = keys_in(alloc, elements)?;
-    let numbers = numbers_in(alloc, elements)?;
-    let set = arg_max_value(alloc, &keys, &numbers)?;
+    let set = op.value(alloc, &keys, &numbers)?;
     Ok(Value::Set(set))
 }

@@ -1,8 +1,9 @@
 //! The functions of the language, of values.
-ghost use Rattle.std.specs.Prelude.{◌≡◌, pos, not, [], ◌∷◌, ◌++◌, IfErr, IfOk, filter, map, nat_abs};
+ghost use Rattle.std.specs.Prelude.{◌≡◌, pos, [], ◌∷◌, IfErr, IfOk, map, nat_abs};
 ghost use Rattle.cbl_base.specs.Arithmetic.{exact};
-ghost use Rattle.cbl_base.specs.Sets.{IsRising, is_member, set_of};
+ghost use Rattle.cbl_base.specs.Sets.{is_member};
 ghost use Rattle.cbl_base.specs.declared.place.Place.{Place};
+ghost use Rattle.cbl_operations.specs.TwoSets.{two_sets_value};
 ghost use Rattle.comet_meaning.specs.Builtins.{builtin_value};
 ghost use Rattle.comet_meaning.specs.State.{State};
 ghost use Rattle.comet_meaning.specs.Values as values;
@@ -15,7 +16,7 @@ use crate::operators::number_or;
 use crate::stop::Stop;
 use crate::values::Value;
 use cbl_base::{IntSet, Place, RunFault};
-use cbl_operations::{inter_value, minus_value, union_value};
+use cbl_operations::TwoSetsOp;
 use checked_tree::Builtin;
 use std::alloc::Global;
 
@@ -62,9 +63,9 @@ fn builtin_of_two(alloc: Global, function: Builtin, x: &Value, y: &Value) -> Res
         Builtin::Min => Ok(Value::Number(x.number().min(y.number()))),
         Builtin::Max => Ok(Value::Number(x.number().max(y.number()))),
         Builtin::Member => Ok(Value::Truth(has_member(alloc, x.number(), y))),
-        Builtin::Union => joined(alloc, x, y),
-        Builtin::Inter => common(alloc, x, y),
-        Builtin::Minus => without(alloc, x, y),
+        Builtin::Union => set_of_two(alloc, TwoSetsOp::Union, x, y),
+        Builtin::Inter => set_of_two(alloc, TwoSetsOp::Inter, x, y),
+        Builtin::Minus => set_of_two(alloc, TwoSetsOp::Minus, x, y),
         _ => Ok(Value::Nothing),
     }
 }
@@ -79,15 +80,10 @@ fn without_sign(number: i64) -> Result<i64, RunFault>
 /// The set that a value is, and of what is no set the one that has no member.
 fn set_or<'a>(value: &'a Value, empty: &'a IntSet) -> &'a IntSet
     requires { empty.now ≡ [] }
-    ensures members { result.now ≡ members_of (value_seen value.now) }
-    ensures rising { IsRising result.now }
+    ensures { result.now ≡ members_of (value_seen value.now) }
 {
     match value {
-        Value::Set(set) => {
-            // What it holds rises: this is told of its members.
-            let _members = set.as_slice();
-            set
-        }
+        Value::Set(set) => set,
         _ => empty,
     }
 }
@@ -100,37 +96,14 @@ fn has_member(alloc: Global, number: i64, set: &Value) -> bool
     set_or(set, &empty).contains(number)
 }
 
-/// The set of the members of either.
-fn joined(alloc: Global, a: &Value, b: &Value) -> Result<Value, Stop>
+/// The set that an operation gives of two.
+fn set_of_two(alloc: Global, op: TwoSetsOp, a: &Value, b: &Value) -> Result<Value, Stop>
     ensures set { IfOk result (λ set. value_seen set ≡
-        values.Set (set_of (members_of (value_seen a.now) ++ members_of (value_seen b.now)))) }
+        values.Set (two_sets_value op (members_of (value_seen a.now))
+        (members_of (value_seen b.now)))) }
     ensures memory { IfErr result (λ stop. stop ≡ NoMemory) }
 {
     let empty = IntSet::new(alloc);
-    let set = union_value(alloc, set_or(a, &empty), set_or(b, &empty))?;
-    Ok(Value::Set(set))
-}
-
-/// The set of the members of both.
-fn common(alloc: Global, a: &Value, b: &Value) -> Result<Value, Stop>
-    ensures set { IfOk result (λ set. value_seen set ≡
-        values.Set (filter (λ v. is_member v (members_of (value_seen b.now)))
-        (members_of (value_seen a.now)))) }
-    ensures memory { IfErr result (λ stop. stop ≡ NoMemory) }
-{
-    let empty = IntSet::new(alloc);
-    let set = inter_value(alloc, set_or(a, &empty), set_or(b, &empty))?;
-    Ok(Value::Set(set))
-}
-
-/// The set of the members of the first that are none of the second.
-fn without(alloc: Global, a: &Value, b: &Value) -> Result<Value, Stop>
-    ensures set { IfOk result (λ set. value_seen set ≡
-        values.Set (filter (λ v. not (is_member v (members_of (value_seen b.now))))
-        (members_of (value_seen a.now)))) }
-    ensures memory { IfErr result (λ stop. stop ≡ NoMemory) }
-{
-    let empty = IntSet::new(alloc);
-    let set = minus_value(alloc, set_or(a, &empty), set_or(b, &empty))?;
+    let set = op.value(alloc, set_or(a, &empty), set_or(b, &empty))?;
     Ok(Value::Set(set))
 }

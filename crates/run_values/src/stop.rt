@@ -1,9 +1,7 @@
 //! Why a part of a program stops the run.
 ghost use Rattle.std.specs.Prelude.{◌≡◌};
-ghost use Rattle.run_values.specs.declared.stop.Stop.TheVariants.{NoMemory, Output};
 
-use cbl_base::{Names, NoMemory as OutOfMemory, Place, RunFault};
-use std::alloc::{AllocError, AllocFailed};
+use cbl_base::{Names, Place, RunFault, WantOfMemory};
 
 /// Why an output didn't take bytes.
 #[derive(Clone, Copy, PartialEq, Eq, Debug)]
@@ -26,32 +24,12 @@ pub enum Stop {
     Output(OutStop),
 }
 
-impl From<OutOfMemory> for Stop {
-    ghost use Rattle.run_values.specs.declared.stop.Stop.TheVariants.{NoMemory};
+impl<E: WantOfMemory> From<E> for Stop {
+    ghost use Rattle.run_values.specs.declared.stop.Stop.TheVariants as stops;
 
-    ghost from_gives = { λ _ stop. stop ≡ NoMemory };
+    ghost from_gives = { λ _ stop. stop ≡ stops.NoMemory };
 
-    fn from(_error: OutOfMemory) -> Stop {
-        Stop::NoMemory
-    }
-}
-
-impl From<AllocError> for Stop {
-    ghost use Rattle.run_values.specs.declared.stop.Stop.TheVariants.{NoMemory};
-
-    ghost from_gives = { λ _ stop. stop ≡ NoMemory };
-
-    fn from(_error: AllocError) -> Stop {
-        Stop::NoMemory
-    }
-}
-
-impl<T: Drop> From<AllocFailed<T>> for Stop {
-    ghost use Rattle.run_values.specs.declared.stop.Stop.TheVariants.{NoMemory};
-
-    ghost from_gives = { λ _ stop. stop ≡ NoMemory };
-
-    fn from(_error: AllocFailed<T>) -> Stop {
+    fn from(_error: E) -> Stop {
         Stop::NoMemory
     }
 }

@@ -79,7 +79,7 @@ impl Value {
     {
         match input {
             Input::Int(number) => Ok(Value::Number(*number)),
-            Input::Set(set) => copied_set(alloc, set),
+            Input::Set(set) => Ok(Value::Set(set.clone()?)),
         }
     }
 
@@ -93,7 +93,7 @@ impl Value {
             Value::Number(number) => Ok(Value::Number(*number)),
             Value::Truth(truth) => Ok(Value::Truth(*truth)),
             Value::Range(bounds) => Ok(Value::Range(*bounds)),
-            Value::Set(set) => copied_set(alloc, set),
+            Value::Set(set) => Ok(Value::Set(set.clone()?)),
             Value::Array(array) => Ok(Value::Array(*array)),
             Value::Row(numbers) => copied_row(alloc, numbers),
             Value::Variable(variable) => Ok(Value::Variable(*variable)),
@@ -165,15 +165,6 @@ impl Value {
             _ => 0,
         }
     }
-}
-
-/// A copy of a set.
-fn copied_set(alloc: Global, set: &IntSet) -> Result<Value, Stop>
-    ensures same { IfOk result (λ value. value_seen value ≡ values.Set set.now) }
-    ensures memory { IfErr result (λ stop. stop ≡ NoMemory) }
-{
-    let members = IntSet::from_slice(alloc, set.as_slice())?;
-    Ok(Value::Set(members))
 }
 
 /// A copy of numbers in a row.

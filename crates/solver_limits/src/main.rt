@@ -2,7 +2,7 @@
 #![tactic(auto)]
 
 use cbl_base::{Limit, NoMemory, Place, RunFault, VarId};
-use cbl_operations::Op;
+use cbl_operations::{NaryOp, Op};
 use ls_solver::{Solver, SolverFault};
 use std::alloc::Global;
 use std::process::ExitCode;
@@ -58,7 +58,7 @@ fn sum_from(alloc: Global, first: u32) -> Result<Term, NoMemory> {
         args.push(Term::Const(first.saturating_add(constant) as i64))?;
     }
     let place = Place { line: 1, col: 1 };
-    let op = Op::Sum;
+    let op = Op::Nary(NaryOp::Sum);
     Ok(Term::Node { op, args, place })
 }
 

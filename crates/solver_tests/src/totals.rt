@@ -2,6 +2,7 @@
 ghost use Rattle.std.specs.Prelude.{◌≡◌, ◌<◌};
 
 use cbl_base::{Place, RunFault, Steps, VarId};
+use cbl_violations::Constraint;
 use ls_solver::{ObjectiveId, Solver, SolverFault, SystemId};
 use std::alloc::Global;
 use std::marker::Brand;
@@ -110,7 +111,7 @@ fn different(alloc: Global, step: i64) -> Result<Term, Fail> {
         )?)?;
     }
     Ok(Term::Node {
-        op: Op::AllDifferent,
+        op: Op::Constraint(Constraint::AllDifferent),
         args,
         place: NOWHERE,
     })
@@ -132,8 +133,8 @@ fn cell(alloc: Global, place: Place) -> Result<Term, Fail> {
 }
 
 fn joined(alloc: Global, op: Op, five: i64, one: i64) -> Result<Term, Fail> {
-    let left = against(alloc, Op::ViolEq, X, five)?;
-    let right = against(alloc, Op::ViolLe, Y, one)?;
+    let left = against(alloc, Op::Constraint(Constraint::Eq), X, five)?;
+    let right = against(alloc, Op::Constraint(Constraint::Le), Y, one)?;
     node(alloc, op, NOWHERE, left, right)
 }
 
@@ -159,15 +160,21 @@ fn quotient_and_cell(alloc: Global) -> Result<Term, Fail> {
         quotient,
         cell(alloc, AGAIN)?,
     )?;
-    node(alloc, Op::ViolLe, AGAIN, sum, Term::Const(20))
+    node(
+        alloc,
+        Op::Constraint(Constraint::Le),
+        AGAIN,
+        sum,
+        Term::Const(20),
+    )
 }
 
 fn term_of(alloc: Global, shape: Shape) -> Result<Term, Fail> {
     match shape {
         Shape::Different(step) => different(alloc, step),
-        Shape::FourAndNone => joined(alloc, Op::AllOf, 4, 0),
-        Shape::FiveOrOne => joined(alloc, Op::AnyOf, 5, 1),
-        Shape::AtMostTwenty => against(alloc, Op::ViolLe, Y, 20),
+        Shape::FourAndNone => joined(alloc, Op::Constraint(Constraint::AllOf), 4, 0),
+        Shape::FiveOrOne => joined(alloc, Op::Constraint(Constraint::AnyOf), 5, 1),
+        Shape::AtMostTwenty => against(alloc, Op::Constraint(Constraint::Le), Y, 20),
         Shape::Square => node(
             alloc,
             Op::Binary(BinaryOp::Mul),
@@ -178,7 +185,13 @@ fn term_of(alloc: Global, shape: Shape) -> Result<Term, Fail> {
         Shape::Cell(place) => cell(alloc, place),
         Shape::CellAtMost(place) => {
             let cell = cell(alloc, place)?;
-            node(alloc, Op::ViolLe, place, cell, Term::Const(90))
+            node(
+                alloc,
+                Op::Constraint(Constraint::Le),
+                place,
+                cell,
+                Term::Const(90),
+            )
         }
         Shape::QuotientAndCell => quotient_and_cell(alloc),
     }

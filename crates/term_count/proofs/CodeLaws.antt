@@ -8,7 +8,10 @@ use Rattle.std.proofs.lemmas.Bool.Decides.{Decides-int_eq}
 use Rattle.std.proofs.lemmas.List.{append_assoc}
 use lib.Pointwise.{pointwise}
 use Rattle.cbl_operations.specs.declared.op.Op.{Op}
-use Rattle.cbl_operations.specs.declared.op.Op.TheVariants.{Element}
+use Rattle.cbl_operations.specs.declared.op.Op.TheVariants as ops
+use Rattle.cbl_violations.specs.Constraints.{constraint_numbers}
+use Rattle.cbl_violations.specs.declared.constraint.Constraint.{Constraint}
+use Rattle.cbl_violations.specs.declared.constraint.Constraint.TheVariants.{AtMost}
 use Rattle.term_model.specs.SameOperations.{first_of, name_of, numbers_of, second_of, same_operation}
 use Rattle.term_model.specs.SameTerms.{all_pass, same_layer, same_term}
 use Rattle.term_model.specs.Subterms.{arguments_of}
@@ -57,8 +60,12 @@ counted_same xs us ys vs e =
     parts_same xs ys us vs (pos_same (length xs) (length us) (head_same (pos (length xs)) (pos (length us)) (xs ++ ys) (us ++ vs) e)) (tail_same (pos (length xs)) (pos (length us)) (xs ++ ys) (us ++ vs) e)
 
 -- an operation keeps four numbers
+constraint_length : (constraint : Constraint) → length (constraint_numbers constraint) ≡ 4
+constraint_length (AtMost low bounds) = refl
+constraint_length constraint = refl
+
 numbers_length : (op : Op) → length (numbers_of op) ≡ 4
-numbers_length (Element low len) = refl
+numbers_length (ops.Constraint constraint) = constraint_length constraint
 numbers_length op = refl
 
 -- an operation is known by its code

@@ -2,8 +2,9 @@
 use Rattle.std.proofs.Common.{◌≡◌, refl, sym, subst, ap, ◌∙◌, ℕ, ◌<◌, ℤ, List, [], ◌∷◌, map, length, get_or, drop, Bool, true, if◌then◌else◌, arith}
 use Rattle.cbl_base.specs.declared.place.Place.{Place}
 use Rattle.cbl_base.specs.declared.faults.RunFault.TheVariants.{EmptyRange}
+use Rattle.cbl_operations.specs.declared.nary.NaryOp.TheVariants.{Greatest, Least}
 use Rattle.cbl_operations.specs.declared.op.Op.{Op}
-use Rattle.cbl_operations.specs.declared.op.Op.TheVariants as ops
+use Rattle.cbl_operations.specs.declared.op.Op.TheVariants.{Nary}
 use Rattle.term_model.specs.declared.term.Term.{Term}
 use Rattle.comet_syntax.specs.declared.tree.expressions.Aggregate.{Aggregate}
 use Rattle.comet_syntax.specs.declared.tree.expressions.Aggregate.TheVariants as aggregates
@@ -49,11 +50,11 @@ pub extreme_some : (at : Place) (op : Op) (xs : List Body) (s : State) → (leng
 extreme_some at op [] s h = absurd (h refl)
 extreme_some at op (x ∷ xs) s h = refl
 
-pub least_as : (at : Place) (xs : List Keyed) (s : State) → aggregated at aggregates.Min xs s ≡ extreme_node at ops.Least xs s
+pub least_as : (at : Place) (xs : List Keyed) (s : State) → aggregated at aggregates.Min xs s ≡ extreme_node at (Nary Least) xs s
 least_as at [] s = refl
 least_as at (x ∷ xs) s = refl
 
-pub greatest_as : (at : Place) (xs : List Keyed) (s : State) → aggregated at aggregates.Max xs s ≡ extreme_node at ops.Greatest xs s
+pub greatest_as : (at : Place) (xs : List Keyed) (s : State) → aggregated at aggregates.Max xs s ≡ extreme_node at (Nary Greatest) xs s
 greatest_as at [] s = refl
 greatest_as at (x ∷ xs) s = refl
 

@@ -1,8 +1,9 @@
 -- What the forms of terms do once their last operand has its term. From the language.
 use Rattle.std.specs.Prelude.{ℕ, zero, suc, ℤ, List, [], ◌∷◌, ◌++◌, length}
 use Rattle.cbl_base.specs.declared.place.Place.{Place}
+use Rattle.cbl_operations.specs.declared.nary.NaryOp.TheVariants.{Count}
 use Rattle.cbl_operations.specs.declared.op.Op.{Op}
-use Rattle.cbl_operations.specs.declared.op.Op.TheVariants.{Binary, Count, Element2, Unary}
+use Rattle.cbl_operations.specs.declared.op.Op.TheVariants.{Binary, Element2, Nary, Unary}
 use Rattle.term_model.specs.declared.term.Term.{Term}
 use Rattle.comet_syntax.specs.declared.tree.expressions.ChainOperator.{ChainOperator}
 use Rattle.comet_syntax.specs.declared.tree.expressions.Comparison.{Comparison}
@@ -55,7 +56,7 @@ abbrev pub count_node : Place → Place → TermCells → Term → Act Term
 count_node at place c t = do
   _ ← charge 1 at
   _ ← charge (length c.terms) place
-  node_form at Count (c.terms ++ t ∷ [])
+  node_form at (Nary Count) (c.terms ++ t ∷ [])
 
 -- a function of the language, of its arguments
 abbrev pub called_node : Place → Builtin → List Term → Act Term

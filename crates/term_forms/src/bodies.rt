@@ -1,9 +1,10 @@
 //! The bodies of an aggregate's tuples in a term, and what they give.
 ghost use Rattle.std.specs.Prelude.{◌≡◌, List, IfErr, IfOk, map};
+ghost use Rattle.cbl_operations.specs.declared.op.Op.TheVariants.{Keyed};
 ghost use Rattle.comet_meaning.specs.State.{State};
 ghost use Rattle.comet_meaning.specs.TermForms as forms;
 ghost use Rattle.comet_meaning.specs.TermForms.{keys_of, with_keyed};
-ghost use Rattle.comet_syntax.specs.declared.tree.expressions.Aggregate.TheVariants.{All, ArgMax, ArgMin, SetOf};
+ghost use Rattle.comet_syntax.specs.declared.tree.expressions.Aggregate.TheVariants.{All};
 ghost use Rattle.expression_forms.specs.OfRunState.InTerms.{in_term_seen};
 ghost use Rattle.expression_forms.specs.OfRunSteps.Does.{Does};
 ghost use Rattle.run_values.specs.Did.{Did, IsFaultOrMemory};
@@ -13,7 +14,7 @@ ghost use Rattle.term_forms.specs.Bodies.{body_node, body_seen, body_terms, extr
 use crate::nodes::{as_in_term, node_of};
 use cbl_base::limits::MAX_CELLS;
 use cbl_base::{Limit, Numbers, Place, RunFault};
-use cbl_operations::Op;
+use cbl_operations::{KeyedOp, NaryOp, Op};
 use comet_syntax::tree::Aggregate;
 use expression_forms::solvers_of_runs::Built;
 use expression_forms::state_of_runs::{InTerm, TermCells};
@@ -73,15 +74,15 @@ pub fn aggregated(
         (forms.aggregated at aggregate (map body_seen bodies.items) s) }
 {
     match aggregate {
-        Aggregate::Sum => operation_of(alloc, at, Op::Sum, bodies),
-        Aggregate::Min => extreme_of(alloc, at, Op::Least, bodies),
-        Aggregate::Max => extreme_of(alloc, at, Op::Greatest, bodies),
+        Aggregate::Sum => operation_of(alloc, at, Op::Nary(NaryOp::Sum), bodies),
+        Aggregate::Min => extreme_of(alloc, at, Op::Nary(NaryOp::Least), bodies),
+        Aggregate::Max => extreme_of(alloc, at, Op::Nary(NaryOp::Greatest), bodies),
         Aggregate::All => all_of(alloc, at, bodies),
-        Aggregate::And => operation_of(alloc, at, Op::And, bodies),
-        Aggregate::Or => operation_of(alloc, at, Op::Or, bodies),
-        Aggregate::SetOf => set_of(alloc, at, bodies),
-        Aggregate::ArgMin => least_keys_of(alloc, at, bodies),
-        Aggregate::ArgMax => greatest_keys_of(alloc, at, bodies),
+        Aggregate::And => operation_of(alloc, at, Op::Nary(NaryOp::And), bodies),
+        Aggregate::Or => operation_of(alloc, at, Op::Nary(NaryOp::Or), bodies),
+        Aggregate::SetOf => keyed_of(alloc, at, KeyedOp::SetOf, bodies),
+        Aggregate::ArgMin => keyed_of(alloc, at, KeyedOp::ArgMin, bodies),
+        Aggregate::ArgMax => keyed_of(alloc, at, KeyedOp::ArgMax, bodies),
     }
 }
 
@@ -140,29 +141,12 @@ fn all_of(alloc: Global, at: Place, bodies: Vec<Body>) -> Result<InTerm, Stop>
     Ok(InTerm::Several(TermCells::row(terms)))
 }
 
-/// The set of the keys whose body is 1.
-fn set_of(alloc: Global, at: Place, bodies: Vec<Body>) -> Result<InTerm, Stop>
+/// The set of some of the keys, by the bodies.
+fn keyed_of(alloc: Global, at: Place, op: KeyedOp, bodies: Vec<Body>) -> Result<InTerm, Stop>
     ensures did { (s : State) → Does in_term_seen result s
-        (forms.aggregated at SetOf (map body_seen bodies.items) s) }
+        (body_node at (Keyed op (keys_of (map body_seen bodies.items)))
+        (map body_seen bodies.items) s) }
 {
     let keys = keys_in(alloc, &bodies)?;
-    operation_of(alloc, at, Op::SetOf { keys }, bodies)
-}
-
-/// The set of the keys whose body is least.
-fn least_keys_of(alloc: Global, at: Place, bodies: Vec<Body>) -> Result<InTerm, Stop>
-    ensures did { (s : State) → Does in_term_seen result s
-        (forms.aggregated at ArgMin (map body_seen bodies.items) s) }
-{
-    let keys = keys_in(alloc, &bodies)?;
-    operation_of(alloc, at, Op::ArgMin { keys }, bodies)
-}
-
-/// The set of the keys whose body is greatest.
-fn greatest_keys_of(alloc: Global, at: Place, bodies: Vec<Body>) -> Result<InTerm, Stop>
-    ensures did { (s : State) → Does in_term_seen result s
-        (forms.aggregated at ArgMax (map body_seen bodies.items) s) }
-{
-    let keys = keys_in(alloc, &bodies)?;
-    operation_of(alloc, at, Op::ArgMax { keys }, bodies)
+    operation_of(alloc, at, Op::Keyed { op, keys }, bodies)
 }

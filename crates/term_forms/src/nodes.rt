@@ -18,7 +18,7 @@ ghost use Rattle.run_values.specs.declared.stop.Stop.TheVariants.{NoMemory};
 ghost use Rattle.term_forms.specs.Steps.{called_node, compared, count_node, element_node, grid_node, joined, picked, picked_twice, plane_op, unary_node};
 
 use cbl_base::{Place, RunFault};
-use cbl_operations::{BinaryOp, Op, UnaryOp};
+use cbl_operations::{BinaryOp, NaryOp, Op, TwoSetsOp, UnaryOp};
 use checked_tree::Builtin;
 use comet_syntax::tree::{ChainOperator, Comparison, UnaryOperator};
 use expression_forms::solvers_of_runs::Built;
@@ -171,8 +171,8 @@ fn chain_operation(operator: ChainOperator) -> Op
     ensures { result ≡ chain_op operator }
 {
     match operator {
-        ChainOperator::Or => Op::Or,
-        ChainOperator::And => Op::And,
+        ChainOperator::Or => Op::Nary(NaryOp::Or),
+        ChainOperator::And => Op::Nary(NaryOp::And),
         ChainOperator::Add => Op::Binary(BinaryOp::Add),
         ChainOperator::Subtract => Op::Binary(BinaryOp::Sub),
         ChainOperator::Multiply => Op::Binary(BinaryOp::Mul),
@@ -425,7 +425,7 @@ fn count_of(
     let count = cells.terms.len();
     s.charge(count as u64, place)?;
     let terms = behind(cells.terms, number)?;
-    node_of(at, Op::Count, terms)
+    node_of(at, Op::Nary(NaryOp::Count), terms)
 }
 
 /// The same with the number's answer.
@@ -452,13 +452,13 @@ fn function_of(at: Place, function: Builtin, terms: Vec<Built>) -> Result<Built,
 {
     match function {
         Builtin::Abs => node_of(at, Op::Unary(UnaryOp::Abs), terms),
-        Builtin::Min => node_of(at, Op::Least, terms),
-        Builtin::Max => node_of(at, Op::Greatest, terms),
+        Builtin::Min => node_of(at, Op::Nary(NaryOp::Least), terms),
+        Builtin::Max => node_of(at, Op::Nary(NaryOp::Greatest), terms),
         Builtin::Card => node_of(at, Op::Card, terms),
         Builtin::Member => node_of(at, Op::Member, terms),
-        Builtin::Union => node_of(at, Op::Union, terms),
-        Builtin::Inter => node_of(at, Op::Inter, terms),
-        Builtin::Minus => node_of(at, Op::Minus, terms),
+        Builtin::Union => node_of(at, Op::TwoSets(TwoSetsOp::Union), terms),
+        Builtin::Inter => node_of(at, Op::TwoSets(TwoSetsOp::Inter), terms),
+        Builtin::Minus => node_of(at, Op::TwoSets(TwoSetsOp::Minus), terms),
         Builtin::Count
         | Builtin::AllDifferent
         | Builtin::AtMost

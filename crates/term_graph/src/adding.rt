@@ -65,7 +65,7 @@ fn keep(
     if place < graph.nodes.len() {
         return Ok(NodeId(graph.cells + place as u32));
     }
-    let node = node_of(graph.alloc, term, inputs)?;
+    let node = node_of(term, inputs)?;
     put(graph, node)
 }
 

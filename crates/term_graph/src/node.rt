@@ -1,11 +1,11 @@
 //! What is kept of a distinct subterm.
 ghost use Rattle.std.specs.Prelude.{◌≡◌, IfOk};
 ghost use Rattle.term_graph.specs.Heads.{IsHeadOf, IsPlaceOf};
+ghost use Rattle.term_graph.specs.declared.head.Head.TheVariants.{ConstSet, Op as Operation};
 
-use crate::head::{Head, copy_of, copy_of_set};
-use cbl_base::{NoMemory, NodeId, Place};
-use std::alloc::Global;
-use term_model::Term;
+use crate::head::Head;
+use cbl_base::{IntSet, NoMemory, NodeId, Place};
+use term_model::{Op, Term};
 
 /// What is kept of a distinct subterm: what it computes, where it stands in the text, and the ids of its arguments.
 #[derive(Drop)]
@@ -18,25 +18,33 @@ pub struct Node {
 /// No place.
 const NOWHERE: Place = Place { line: 0, col: 0 };
 
+/// The head of a set.
+fn set_head(set: &IntSet) -> Result<Head, NoMemory>
+    ensures { IfOk result (λ head. head ≡ ConstSet set.now) }
+{
+    Ok(Head::ConstSet(set.clone()?))
+}
+
+/// The head of an operation.
+fn operation_head(op: &Op) -> Result<Head, NoMemory>
+    ensures { IfOk result (λ head. head ≡ Operation op.now) }
+{
+    Ok(Head::Op(op.clone()?))
+}
+
 /// The head of a term, which is of no use where the term is a variable.
-fn head_of(alloc: Global, term: &Term) -> Result<Head, NoMemory>
+fn head_of(term: &Term) -> Result<Head, NoMemory>
     ensures { IfOk result (λ head. IsHeadOf term.now head) }
 {
     match term {
         Term::Const(number) => Ok(Head::Const(*number)),
-        Term::ConstSet(set) => {
-            let copy = copy_of_set(alloc, set)?;
-            Ok(Head::ConstSet(copy))
-        }
+        Term::ConstSet(set) => set_head(set),
         Term::Var(_) => Ok(Head::Const(0)),
         Term::Node {
             op,
             args: _,
             place: _,
-        } => {
-            let copy = copy_of(alloc, op)?;
-            Ok(Head::Op(copy))
-        }
+        } => operation_head(op),
     }
 }
 
@@ -55,12 +63,12 @@ fn place_of(term: &Term) -> Place
 }
 
 /// What is kept of a term whose arguments have these ids.
-pub(crate) fn node_of(alloc: Global, term: &Term, inputs: Vec<NodeId>) -> Result<Node, NoMemory>
+pub(crate) fn node_of(term: &Term, inputs: Vec<NodeId>) -> Result<Node, NoMemory>
     ensures head { IfOk result (λ node. IsHeadOf term.now node.head) }
     ensures place { IfOk result (λ node. IsPlaceOf term.now node.place) }
     ensures inputs { IfOk result (λ node. node.inputs ≡ inputs) }
 {
-    let head = head_of(alloc, term)?;
+    let head = head_of(term)?;
     Ok(Node {
         head,
         place: place_of(term),

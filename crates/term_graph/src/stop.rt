@@ -1,6 +1,5 @@
 //! Why a term isn't added.
-use cbl_base::NoMemory;
-use std::alloc::AllocFailed;
+use cbl_base::WantOfMemory;
 
 /// Why a term isn't added: there would be more nodes than the limit of term nodes, or there was no memory.
 #[derive(Clone, Copy, PartialEq, Eq, Debug)]
@@ -9,24 +8,13 @@ pub enum GraphStop {
     NoMemory,
 }
 
-impl From<NoMemory> for GraphStop {
+impl<E: WantOfMemory> From<E> for GraphStop {
     ghost use Rattle.std.specs.Prelude.{◌≡◌};
-    ghost use Rattle.term_graph.specs.declared.stop.GraphStop.TheVariants.{NoMemory as WithoutMemory};
+    ghost use Rattle.term_graph.specs.declared.stop.GraphStop.TheVariants as stops;
 
-    ghost from_gives = { λ _ stop. stop ≡ WithoutMemory };
+    ghost from_gives = { λ _ stop. stop ≡ stops.NoMemory };
 
-    fn from(_error: NoMemory) -> GraphStop {
-        GraphStop::NoMemory
-    }
-}
-
-impl<T: Drop> From<AllocFailed<T>> for GraphStop {
-    ghost use Rattle.std.specs.Prelude.{◌≡◌};
-    ghost use Rattle.term_graph.specs.declared.stop.GraphStop.TheVariants.{NoMemory as WithoutMemory};
-
-    ghost from_gives = { λ _ stop. stop ≡ WithoutMemory };
-
-    fn from(_error: AllocFailed<T>) -> GraphStop {
+    fn from(_error: E) -> GraphStop {
         GraphStop::NoMemory
     }
 }

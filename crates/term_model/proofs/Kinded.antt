@@ -5,7 +5,7 @@ use Rattle.std.proofs.lemmas.List.Elements.{All-nil, All-cons}
 use Rattle.cbl_base.specs.Inputs.{InputKind}
 use Rattle.cbl_operations.specs.RuleOf.{rule_of, value_kind}
 use Rattle.cbl_operations.specs.declared.op.Op.{Op}
-use Rattle.cbl_operations.specs.declared.op.Op.TheVariants.{Unary, Binary, Least, Greatest, Sum, ArgMin, ArgMax, Count, Element, Element2, And, Or, SetOf, Union, Inter, Minus, Card, Member, ViolEq, ViolNe, ViolLe, ViolLt, AllDifferent, AtMost, AtLeast, Exactly, Knapsack, MultiKnapsack, Sequence, AllOf, AnyOf, NotHeld, User}
+use Rattle.cbl_operations.specs.declared.op.Op.TheVariants.{Unary, Binary, Nary, Keyed, Element, Element2, TwoSets, Card, Member, Constraint, User}
 use Rattle.term_model.specs.Kinds.{gather_kind, all_kinds, node_kind, has_fields}
 use Rattle.term_model.specs.Users.{user_rules, no_users}
 use Rattle.term_model.specs.declared.term.Term.{Term}
@@ -40,36 +40,14 @@ args_kinded op kind ts h = all_some (Some []) kind ts (some_kinds op (all_kinds 
 takes_same : (viol_of : ℕ → List ℤ → ℤ) (viol_at : ℕ → List ℤ → ℕ → ℤ) (op : Op) (kinds : List InputKind) → (rule_of (user_rules viol_of viol_at) op).takes kinds ≡ (rule_of no_users op).takes kinds
 takes_same viol_of viol_at (Unary op) kinds = refl
 takes_same viol_of viol_at (Binary op) kinds = refl
-takes_same viol_of viol_at Least kinds = refl
-takes_same viol_of viol_at Greatest kinds = refl
-takes_same viol_of viol_at Sum kinds = refl
-takes_same viol_of viol_at (ArgMin keys) kinds = refl
-takes_same viol_of viol_at (ArgMax keys) kinds = refl
-takes_same viol_of viol_at Count kinds = refl
+takes_same viol_of viol_at (Nary op) kinds = refl
+takes_same viol_of viol_at (Keyed op keys) kinds = refl
 takes_same viol_of viol_at (Element low len) kinds = refl
 takes_same viol_of viol_at (Element2 low1 len1 low2 len2) kinds = refl
-takes_same viol_of viol_at And kinds = refl
-takes_same viol_of viol_at Or kinds = refl
-takes_same viol_of viol_at (SetOf keys) kinds = refl
-takes_same viol_of viol_at Union kinds = refl
-takes_same viol_of viol_at Inter kinds = refl
-takes_same viol_of viol_at Minus kinds = refl
+takes_same viol_of viol_at (TwoSets op) kinds = refl
 takes_same viol_of viol_at Card kinds = refl
 takes_same viol_of viol_at Member kinds = refl
-takes_same viol_of viol_at ViolEq kinds = refl
-takes_same viol_of viol_at ViolNe kinds = refl
-takes_same viol_of viol_at ViolLe kinds = refl
-takes_same viol_of viol_at ViolLt kinds = refl
-takes_same viol_of viol_at AllDifferent kinds = refl
-takes_same viol_of viol_at (AtMost low bounds) kinds = refl
-takes_same viol_of viol_at (AtLeast low bounds) kinds = refl
-takes_same viol_of viol_at (Exactly low bounds) kinds = refl
-takes_same viol_of viol_at (Knapsack weights capacity) kinds = refl
-takes_same viol_of viol_at (MultiKnapsack sizes low capacities) kinds = refl
-takes_same viol_of viol_at (Sequence values most window) kinds = refl
-takes_same viol_of viol_at AllOf kinds = refl
-takes_same viol_of viol_at AnyOf kinds = refl
-takes_same viol_of viol_at NotHeld kinds = refl
+takes_same viol_of viol_at (Constraint c) kinds = refl
 takes_same viol_of viol_at (User number) kinds = refl
 
 both : (a b : Bool) (kind : InputKind) → IsSome (if a && b then Some kind else None) → (IsTrue a) × ((if a && b then Some kind else None) ≡ Some kind)

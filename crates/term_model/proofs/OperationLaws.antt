@@ -6,9 +6,10 @@ use Rattle.std.specs.Ordering.{int_eq}
 use lib.Pointwise.{pointwise}
 use Rattle.std.proofs.lemmas.Bool.{and_parts}
 use Rattle.std.specs.Cmp.Rules.{signed_items}
-use Rattle.cbl_operations.proofs.OpNumbers.{unary_at, binary_at, unary_again, binary_again}
+use Rattle.cbl_violations.proofs.ConstraintNumbers.{constraint_of, constraint_again}
+use Rattle.cbl_operations.proofs.OpNumbers.{unary_at, binary_at, nary_at, keyed_at, two_sets_at, unary_again, binary_again, nary_again, keyed_again, two_sets_again}
 use Rattle.cbl_operations.specs.declared.op.Op.{Op}
-use Rattle.cbl_operations.specs.declared.op.Op.TheVariants.{Unary, Binary, Least, Greatest, Sum, ArgMin, ArgMax, Count, Element, Element2, And, Or, SetOf, Union, Inter, Minus, Card, Member, ViolEq, ViolNe, ViolLe, ViolLt, AllDifferent, AtMost, AtLeast, Exactly, Knapsack, MultiKnapsack, Sequence, AllOf, AnyOf, NotHeld, User}
+use Rattle.cbl_operations.specs.declared.op.Op.TheVariants.{Unary, Binary, Nary, Keyed, Element, Element2, TwoSets, Card, Member, Constraint, User}
 use Rattle.term_model.specs.SameOperations.{name_of, numbers_of, first_of, second_of, same_operation}
 
 abbrev Maker : Type 0
@@ -25,36 +26,14 @@ abbrev makers : List Maker
 makers =
     (λ ns first second. Unary (unary_at (natural (at ns 0)))) ∷
     (λ ns first second. Binary (binary_at (natural (at ns 0)))) ∷
-    (λ ns first second. Least) ∷
-    (λ ns first second. Greatest) ∷
-    (λ ns first second. Sum) ∷
-    (λ ns first second. ArgMin first) ∷
-    (λ ns first second. ArgMax first) ∷
-    (λ ns first second. Count) ∷
+    (λ ns first second. Nary (nary_at (natural (at ns 0)))) ∷
+    (λ ns first second. Keyed (keyed_at (natural (at ns 0))) first) ∷
     (λ ns first second. Element (at ns 0) (natural (at ns 1))) ∷
     (λ ns first second. Element2 (at ns 0) (natural (at ns 1)) (at ns 2) (natural (at ns 3))) ∷
-    (λ ns first second. And) ∷
-    (λ ns first second. Or) ∷
-    (λ ns first second. SetOf first) ∷
-    (λ ns first second. Union) ∷
-    (λ ns first second. Inter) ∷
-    (λ ns first second. Minus) ∷
+    (λ ns first second. TwoSets (two_sets_at (natural (at ns 0)))) ∷
     (λ ns first second. Card) ∷
     (λ ns first second. Member) ∷
-    (λ ns first second. ViolEq) ∷
-    (λ ns first second. ViolNe) ∷
-    (λ ns first second. ViolLe) ∷
-    (λ ns first second. ViolLt) ∷
-    (λ ns first second. AllDifferent) ∷
-    (λ ns first second. AtMost (at ns 0) first) ∷
-    (λ ns first second. AtLeast (at ns 0) first) ∷
-    (λ ns first second. Exactly (at ns 0) first) ∷
-    (λ ns first second. Knapsack first (at ns 0)) ∷
-    (λ ns first second. MultiKnapsack first (at ns 0) second) ∷
-    (λ ns first second. Sequence first (at ns 0) (at ns 1)) ∷
-    (λ ns first second. AllOf) ∷
-    (λ ns first second. AnyOf) ∷
-    (λ ns first second. NotHeld) ∷
+    (λ ns first second. Constraint (constraint_of ns first second)) ∷
     (λ ns first second. User (natural (at ns 0))) ∷
     []
 
@@ -66,71 +45,27 @@ made op None = op
 again : (op : Op) → made op (slice_get makers (name_of op)) ≡ op
 again (Unary op) = ap Unary (unary_again op)
 again (Binary op) = ap Binary (binary_again op)
-again Least = refl
-again Greatest = refl
-again Sum = refl
-again (ArgMin keys) = refl
-again (ArgMax keys) = refl
-again Count = refl
+again (Nary op) = ap Nary (nary_again op)
+again (Keyed op keys) = ap (λ o. Keyed o keys) (keyed_again op)
 again (Element low len) = refl
 again (Element2 low1 len1 low2 len2) = refl
-again And = refl
-again Or = refl
-again (SetOf keys) = refl
-again Union = refl
-again Inter = refl
-again Minus = refl
+again (TwoSets op) = ap TwoSets (two_sets_again op)
 again Card = refl
 again Member = refl
-again ViolEq = refl
-again ViolNe = refl
-again ViolLe = refl
-again ViolLt = refl
-again AllDifferent = refl
-again (AtMost low bounds) = refl
-again (AtLeast low bounds) = refl
-again (Exactly low bounds) = refl
-again (Knapsack weights capacity) = refl
-again (MultiKnapsack sizes low capacities) = refl
-again (Sequence values most window) = refl
-again AllOf = refl
-again AnyOf = refl
-again NotHeld = refl
+again (Constraint constraint) = ap Constraint (constraint_again constraint)
 again (User number) = refl
 
 there : (op : Op) → None ≡ slice_get makers (name_of op) → ⊥
 there (Unary op) e = cc
 there (Binary op) e = cc
-there Least e = cc
-there Greatest e = cc
-there Sum e = cc
-there (ArgMin keys) e = cc
-there (ArgMax keys) e = cc
-there Count e = cc
+there (Nary op) e = cc
+there (Keyed op keys) e = cc
 there (Element low len) e = cc
 there (Element2 low1 len1 low2 len2) e = cc
-there And e = cc
-there Or e = cc
-there (SetOf keys) e = cc
-there Union e = cc
-there Inter e = cc
-there Minus e = cc
+there (TwoSets op) e = cc
 there Card e = cc
 there Member e = cc
-there ViolEq e = cc
-there ViolNe e = cc
-there ViolLe e = cc
-there ViolLt e = cc
-there AllDifferent e = cc
-there (AtMost low bounds) e = cc
-there (AtLeast low bounds) e = cc
-there (Exactly low bounds) e = cc
-there (Knapsack weights capacity) e = cc
-there (MultiKnapsack sizes low capacities) e = cc
-there (Sequence values most window) e = cc
-there AllOf e = cc
-there AnyOf e = cc
-there NotHeld e = cc
+there (Constraint constraint) e = cc
 there (User number) e = cc
 
 of_maker : (a b : Op) (m n : Option Maker) → m ≡ n → n ≡ slice_get makers (name_of b) → numbers_of a ≡ numbers_of b → first_of a ≡ first_of b → second_of a ≡ second_of b → made a m ≡ made b n

@@ -1,6 +1,6 @@
 -- The definition of a variable: which one it is. A variable depends on those that stand in its definition's
 -- term. A rule of this project.
-use Rattle.std.specs.Prelude.{ℕ, ◌<◌, Bool, false, List, [], ◌∷◌, ◌++◌, fold, length, nat_eq, Option, Some, None, slice_get, unwrap_or, if◌then◌else◌}
+use Rattle.std.specs.Prelude.{ℕ, ◌<◌, Bool, false, List, [], ◌∷◌, ◌++◌, fold, length, nat_eq, Option, Some, None, slice_get, unwrap_or, if◌then◌else◌, ◌≡◌}
 use Rattle.std.specs.Option.{option_map}
 use Rattle.std.specs.List.{Contains}
 use Rattle.term_model.specs.declared.model.Definition.{Definition}
@@ -41,6 +41,10 @@ definition_in defs posted i = fold (note defs i) None posted
 
 abbrev pub definition_of : Model → ℕ → Option ℕ
 definition_of M i = definition_in M.defs.items M.posted.items i
+
+-- the table has for each variable the number of its definition
+abbrev pub IsTableOf : Model → List (Option ℕ) → Type 0
+IsTableOf M table = (i : ℕ) → i < length M.vars.items → slice_get table i ≡ Some (definition_of M i)
 
 -- the term of the definition with this number
 abbrev pub term_of : List Definition → ℕ → Option Term

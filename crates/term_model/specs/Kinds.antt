@@ -1,12 +1,13 @@
 -- The kind of a term, where it is well kinded: each operation in it has arguments of a number and of kinds
 -- that it takes, and fields that fit it; and each variable has a kind. A rule of this project.
-use Rattle.std.specs.Prelude.{◌≡◌, ℕ, pos, Bool, true, ◌&&◌, List, [], ◌∷◌, ◌++◌, fold, Option, Some, None, Result, Ok, Err, slice_get, int_le, if◌then◌else◌}
+use Rattle.std.specs.Prelude.{◌≡◌, ℕ, Bool, true, ◌&&◌, List, [], ◌∷◌, ◌++◌, fold, Option, Some, None, Result, Ok, Err, slice_get, if◌then◌else◌}
 use Rattle.std.specs.Option.{option_map}
 use Rattle.cbl_base.specs.Inputs.{InputKind, number_kind, set_kind, kinds_of}
 use Rattle.cbl_base.specs.declared.input.Input.{Input}
+use Rattle.cbl_violations.specs.Constraints.{is_proper}
 use Rattle.cbl_operations.specs.RuleOf.{rule_of, value_kind}
 use Rattle.cbl_operations.specs.declared.op.Op.{Op}
-use Rattle.cbl_operations.specs.declared.op.Op.TheVariants.{Sequence}
+use Rattle.cbl_operations.specs.declared.op.Op.TheVariants.{Constraint}
 use Rattle.term_model.specs.Users.{no_users}
 use Rattle.term_model.specs.declared.model.VarDecl.{VarDecl}
 use Rattle.term_model.specs.declared.model.VarKind.{VarKind}
@@ -15,9 +16,9 @@ use Rattle.term_model.specs.declared.term.Term.{Term}
 use Rattle.term_model.specs.declared.term.Term.TheOpen.{Term-F}
 use Rattle.term_model.specs.declared.term.Term.TheFolds.{fold-Term}
 
--- whether the fields are as they must be: the bound and the length of the windows of `sequence`
+-- whether the fields are as they must be, as a constraint says
 abbrev pub has_fields : Op → Bool
-has_fields (Sequence values most window) = int_le (pos 0) most && int_le (pos 1) window
+has_fields (Constraint constraint) = is_proper constraint
 has_fields op = true
 
 -- the kinds so far and one more, where all are well kinded

@@ -1,6 +1,6 @@
 //! Which definition each variable has, and which variables that names.
 ghost use Rattle.std.specs.Prelude.{◌≡◌, ◌<◌, ◌++◌, ℕ, IfOk, OnOk, Option, Some, length, map, slice_get, take};
-ghost use Rattle.term_model.specs.Definitions.{vars_of, definition_in, definition_of, named_by, note};
+ghost use Rattle.term_model.specs.Definitions.{IsTableOf, vars_of, definition_in, definition_of, named_by, note};
 ghost use Rattle.term_model.specs.Depth.{depth_of};
 
 use crate::model::{Definition, Model, Posted};
@@ -50,8 +50,7 @@ fn note(defs: &[Definition], table: &mut Vec<Option<u32>>, posted: Posted)
 /// The number of the definition of each variable.
 pub fn definitions_of(alloc: Global, model: &Model) -> Result<Vec<Option<u32>>, NoMemory>
     ensures count { IfOk result (λ v. length v.items ≡ length model.now.vars.items) }
-    ensures each { IfOk result (λ v. (i : ℕ) → i < length model.now.vars.items →
-        slice_get v.items i ≡ Some (definition_of model.now i)) }
+    ensures each { IfOk result (λ v. IsTableOf model.now v.items) }
 {
     let mut table = vec![in alloc; None; model.vars.len()]?;
     for turn in 0..model.posted.len() {

@@ -1,5 +1,5 @@
 //! Which kind a term is of.
-ghost use Rattle.std.specs.Prelude.{◌≡◌, ◌≤◌, ◌&&◌, ◌==◌, IfOk, Some, length, map, nat_lt};
+ghost use Rattle.std.specs.Prelude.{◌≡◌, ◌≤◌, ◌&&◌, ◌==◌, IfOk, Some, length, map};
 ghost use Rattle.std.specs.List.{list_all};
 ghost use Rattle.std.specs.Option.{option_map};
 ghost use Rattle.cbl_base.specs.Inputs.{all_numbers};
@@ -50,14 +50,6 @@ fn are_so_many(kinds: &[VarKind], count: usize) -> bool
     are_numbers(kinds) && kinds.len() == count
 }
 
-/// Whether the kinds are those of numbers, of one at least.
-fn are_some_numbers(kinds: &[VarKind]) -> bool
-    ensures { result ≡ (all_numbers (map kind_of_var kinds.now) && nat_lt 0
-        (length (map kind_of_var kinds.now))) }
-{
-    are_numbers(kinds) && kinds.len() > 0
-}
-
 /// Whether the kinds are those of two sets.
 fn are_two_sets(kinds: &[VarKind]) -> bool
     ensures { result ≡ are_two_sets (map kind_of_var kinds.now) }
@@ -84,21 +76,10 @@ fn takes(op: &Op, kinds: &[VarKind]) -> bool
     ensures { result ≡ (rule_of no_users op.now).takes (map kind_of_var kinds.now) }
 {
     match op {
-        Op::Union => are_two_sets(kinds),
-        Op::Inter => are_two_sets(kinds),
-        Op::Minus => are_two_sets(kinds),
-        Op::Card => is_one_set(kinds),
-        Op::Member => are_number_and_set(kinds),
         Op::Unary(_) => are_so_many(kinds, 1),
-        Op::NotHeld => are_so_many(kinds, 1),
         Op::Binary(_) => are_so_many(kinds, 2),
-        Op::ViolEq => are_so_many(kinds, 2),
-        Op::ViolNe => are_so_many(kinds, 2),
-        Op::ViolLe => are_so_many(kinds, 2),
-        Op::ViolLt => are_so_many(kinds, 2),
-        Op::Least => are_some_numbers(kinds),
-        Op::Greatest => are_some_numbers(kinds),
-        Op::Count => are_some_numbers(kinds),
+        Op::Nary(op) => are_numbers(kinds) && op.takes(kinds.len()),
+        Op::Keyed { op: _, keys } => are_so_many(kinds, keys.as_slice().len()),
         Op::Element { low: _, len } => are_so_many(kinds, *len as usize + 1),
         Op::Element2 {
             low1: _,
@@ -106,32 +87,10 @@ fn takes(op: &Op, kinds: &[VarKind]) -> bool
             low2: _,
             len2,
         } => are_so_many(kinds, *len1 as usize * *len2 as usize + 2),
-        Op::ArgMin { keys } => are_so_many(kinds, keys.as_slice().len()),
-        Op::ArgMax { keys } => are_so_many(kinds, keys.as_slice().len()),
-        Op::SetOf { keys } => are_so_many(kinds, keys.as_slice().len()),
-        Op::Knapsack {
-            weights,
-            capacity: _,
-        } => are_so_many(kinds, weights.as_slice().len()),
-        Op::MultiKnapsack {
-            sizes,
-            low: _,
-            capacities: _,
-        } => are_so_many(kinds, sizes.as_slice().len()),
-        Op::Sum => are_numbers(kinds),
-        Op::And => are_numbers(kinds),
-        Op::Or => are_numbers(kinds),
-        Op::AllDifferent => are_numbers(kinds),
-        Op::AtMost { low: _, bounds: _ } => are_numbers(kinds),
-        Op::AtLeast { low: _, bounds: _ } => are_numbers(kinds),
-        Op::Exactly { low: _, bounds: _ } => are_numbers(kinds),
-        Op::Sequence {
-            values: _,
-            most: _,
-            window: _,
-        } => are_numbers(kinds),
-        Op::AllOf => are_numbers(kinds),
-        Op::AnyOf => are_numbers(kinds),
+        Op::TwoSets(_) => are_two_sets(kinds),
+        Op::Card => is_one_set(kinds),
+        Op::Member => are_number_and_set(kinds),
+        Op::Constraint(constraint) => are_numbers(kinds) && constraint.takes(kinds.len()),
         Op::User { number: _ } => are_numbers(kinds),
     }
 }
@@ -141,11 +100,7 @@ fn has_fields(op: &Op) -> bool
     ensures { result ≡ has_fields op.now }
 {
     match op {
-        Op::Sequence {
-            values: _,
-            most,
-            window,
-        } => 0 <= *most && 1 <= *window,
+        Op::Constraint(constraint) => constraint.is_proper(),
         _ => true,
     }
 }
@@ -155,12 +110,8 @@ fn value_kind(op: &Op) -> VarKind
     ensures { kind_of_var result ≡ value_kind op.now }
 {
     match op {
-        Op::ArgMin { keys: _ } => VarKind::Set,
-        Op::ArgMax { keys: _ } => VarKind::Set,
-        Op::SetOf { keys: _ } => VarKind::Set,
-        Op::Union => VarKind::Set,
-        Op::Inter => VarKind::Set,
-        Op::Minus => VarKind::Set,
+        Op::Keyed { op: _, keys: _ } => VarKind::Set,
+        Op::TwoSets(_) => VarKind::Set,
         _ => VarKind::Number,
     }
 }

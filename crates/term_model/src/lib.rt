@@ -20,8 +20,9 @@ mod term;
 mod usable;
 
 pub use cbl_operations::{BinaryOp, Op, UnaryOp};
+pub use cbl_violations::Fields;
 pub use definitions::{definitions_of, dependencies_of, push_variables};
-pub use equal_operations::{Fields, fields_of, name_of, same_operation};
+pub use equal_operations::{fields_of, name_of, same_operation};
 pub use equal_terms::same_term;
 pub use kinds::{kind_at, kind_within, term_kind};
 pub use laws::{acyclic_law, distinct_subterms_law, equal_terms_law};

@@ -5,7 +5,7 @@ ghost use Rattle.std.specs.Bool.{OnTrue};
 ghost use Rattle.std.specs.List.{All, list_all, range_with_len};
 ghost use Rattle.std.specs.Option.{ForSome};
 ghost use Rattle.term_model.specs.Checks.{AreCounts, IsAllCounted, IsCounted, IsNumberOrDefined, IsOwned, IsRanked, IsTotal, is_below, owner_at, rank_at};
-ghost use Rattle.term_model.specs.Definitions.{IsAcyclic, definition_of, named_by};
+ghost use Rattle.term_model.specs.Definitions.{IsAcyclic, IsTableOf, definition_of, named_by};
 ghost use Rattle.term_model.specs.Kinds.{kinds_in};
 ghost use Rattle.term_model.specs.Posting.{number_by, totals_by};
 ghost use Rattle.term_model.specs.Wellformed.{IsDefinition, IsMember, IsThere, IsWellFormed, HasDefinedSets};
@@ -211,16 +211,15 @@ fn are_owned(table: &[Option<u32>], defs: &[Definition]) -> bool
     true
 }
 
-/// Whether a model is well formed.
+/// Whether a model with this table of its definitions is well formed.
 #[tactic(auto, using(crate::proofs::UsableLaws::well_formed_from))]
-fn is_well_formed(alloc: Global, model: &Model) -> Result<bool, NoMemory>
+fn is_well_formed(alloc: Global, model: &Model, table: &[Option<u32>]) -> Result<bool, NoMemory>
     ensures { IfOk result (λ is. OnTrue is (IsWellFormed model.now)) }
 {
     if !are_definitions(alloc, model)? {
         return Ok(false);
     }
-    let table = definitions_of(alloc, model)?;
-    if !are_owned(&table, &model.defs) {
+    if !are_owned(table, &model.defs) {
         return Ok(false);
     }
     if !are_totals(alloc, model, &model.systems)? {
@@ -273,11 +272,11 @@ fn are_numbers_or_defined(table: &[Option<u32>], vars: &[VarDecl]) -> bool
 
 /// Whether each variable without a definition is a number.
 #[tactic(auto, using(crate::proofs::UsableLaws::sets_from))]
-fn has_defined_sets(alloc: Global, model: &Model) -> Result<bool, NoMemory>
-    ensures { IfOk result (λ is. OnTrue is (HasDefinedSets model.now)) }
+fn has_defined_sets(model: &Model, table: &[Option<u32>]) -> bool
+    requires { IsTableOf model.now table.now }
+    ensures { OnTrue result (HasDefinedSets model.now) }
 {
-    let table = definitions_of(alloc, model)?;
-    Ok(are_numbers_or_defined(&table, &model.vars))
+    are_numbers_or_defined(table, &model.vars)
 }
 
 /// The rank of a variable.
@@ -341,12 +340,12 @@ fn ranks_of(alloc: Global, order: &[usize], count: usize) -> Result<Vec<usize>, 
 /// Whether each variable of a well formed model stands behind those that it depends on in the order that was
 /// found.
 #[tactic(auto, using(crate::proofs::UsableLaws::acyclic_from))]
-fn is_acyclic(alloc: Global, model: &Model) -> Result<bool, NoMemory>
-    requires { IsWellFormed model.now }
+fn is_acyclic(alloc: Global, model: &Model, table: &[Option<u32>]) -> Result<bool, NoMemory>
+    requires formed { IsWellFormed model.now }
+    requires table { IsTableOf model.now table.now }
     ensures { IfOk result (λ is. OnTrue is (IsAcyclic model.now)) }
 {
-    let table = definitions_of(alloc, model)?;
-    let named = dependencies_of(alloc, &model.defs, &table)?;
+    let named = dependencies_of(alloc, &model.defs, table)?;
     let order = order_of(alloc, &named)?;
     let ranks = ranks_of(alloc, &order, model.vars.len())?;
     Ok(are_ranked(&named, &ranks, model.vars.len()))
@@ -360,14 +359,12 @@ pub fn is_usable(alloc: Global, model: &Model) -> Result<bool, NoMemory>
     ensures sets { IfOk result (λ is. OnTrue is (HasDefinedSets model.now)) }
     ensures acyclic { IfOk result (λ is. OnTrue is (IsAcyclic model.now)) }
 {
-    if !is_well_formed(alloc, model)? {
+    let table = definitions_of(alloc, model)?;
+    if !is_well_formed(alloc, model, &table)? {
         return Ok(false);
     }
-    if !has_defined_sets(alloc, model)? {
+    if !has_defined_sets(model, &table) {
         return Ok(false);
     }
-    if !is_acyclic(alloc, model)? {
-        return Ok(false);
-    }
-    Ok(true)
+    is_acyclic(alloc, model, &table)
 }

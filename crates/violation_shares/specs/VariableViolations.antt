@@ -14,8 +14,9 @@ use Rattle.cbl_base.specs.declared.input.Input.TheVariants.{Int, Set}
 use Rattle.cbl_operations.specs.Operations.Greatest.{greatest_of}
 use Rattle.cbl_operations.specs.RuleOf.{rule_of}
 use Rattle.cbl_operations.specs.declared.op.Op.{Op}
-use Rattle.cbl_operations.specs.declared.op.Op.TheVariants.{AllOf, AnyOf, NotHeld}
+use Rattle.cbl_operations.specs.declared.op.Op.TheVariants.{Constraint}
 use Rattle.cbl_violations.specs.Violations.AllOf.{all_of_violations}
+use Rattle.cbl_violations.specs.declared.constraint.Constraint.TheVariants.{AllOf, AnyOf, NotHeld}
 use Rattle.cbl_violations.specs.Violations.WeightedTotal.{weighted_total_value}
 use Rattle.model_values.specs.Asked.{answer_of, stop_at}
 use Rattle.model_values.specs.Delta.{value_of}
@@ -41,9 +42,9 @@ use Rattle.model_values.specs.declared.wholes.Whole.TheVariants.{System}
 
 -- how a constraint is made of others
 abbrev pub combination_of : Op → Combination
-combination_of AllOf = Every
-combination_of AnyOf = One
-combination_of NotHeld = Negation
+combination_of (Constraint AllOf) = Every
+combination_of (Constraint AnyOf) = One
+combination_of (Constraint NotHeld) = Negation
 combination_of op = Plain
 
 -- ---- what the arguments of a node give, one after another

@@ -11,11 +11,11 @@ ghost use Rattle.term_model.specs.Users.{user_rules};
 ghost use Rattle.violation_shares.specs.VariableViolations.{combination_of, gather_violation, fewer, number_if, with_argument, no_arguments, seen_arguments, listed_violations, violations_where, total_violation, violation_of_fewest, one_depends, violation_by, node_share, leaf_share, share_of};
 
 use cbl_base::{Input, NoMemory, RunFault};
-use cbl_operations::{Op, greatest_value};
-use cbl_violations::all_of_violations;
+use cbl_operations::{NaryOp, Op};
+use cbl_violations::{Constraint, all_of_violations};
 use model_values::computing::{UserValues, number_of, value_of, violation_at};
 use model_values::dependence::is_marked;
-use model_values::evaluation::{Outcome, Setting, copied_set, gather, outcome_at};
+use model_values::evaluation::{Outcome, Setting, gather, outcome_at, set_value};
 use std::alloc::Global;
 use term_model::Term;
 
@@ -58,9 +58,9 @@ fn combination_of(op: &Op) -> Combination
     ensures { result ≡ combination_of op.now }
 {
     match op {
-        Op::AllOf => Combination::Every,
-        Op::AnyOf => Combination::One,
-        Op::NotHeld => Combination::Negation,
+        Op::Constraint(Constraint::AllOf) => Combination::Every,
+        Op::Constraint(Constraint::AnyOf) => Combination::One,
+        Op::Constraint(Constraint::NotHeld) => Combination::Negation,
         _ => Combination::Plain,
     }
 }
@@ -173,7 +173,7 @@ fn greatest_of(numbers: &[i64]) -> i64
     if numbers.is_empty() {
         return 0;
     }
-    greatest_value(numbers).unwrap_or(0)
+    NaryOp::Greatest.value(numbers).unwrap_or(0)
 }
 
 /// Whether one of the arguments depends on the variable.
@@ -290,12 +290,9 @@ pub(crate) fn term_share<U: UserValues>(
 {
     match term {
         Term::Const(x) => Ok(leaf_share(Some(Input::Int(*x)), false)),
-        Term::ConstSet(set) => {
-            let members = copied_set(setting.alloc, set)?;
-            Ok(leaf_share(Some(Input::Set(members)), false))
-        }
+        Term::ConstSet(set) => { Ok(leaf_share(Some(set_value(set)?), false)) }
         Term::Var(v) => {
-            let outcome = outcome_at(setting.alloc, setting.cells, v.index)?;
+            let outcome = outcome_at(setting.cells, v.index)?;
             Ok(leaf_share(outcome, is_marked(marks, v.index as usize)))
         }
         Term::Node { op, args, place: _ } => {

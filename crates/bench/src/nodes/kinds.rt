@@ -3,7 +3,8 @@ use crate::nodes::sample::Sample;
 use crate::nodes::timing::{Times, time_node};
 use bench_texts::Stop;
 use cbl_base::{IntSet, NoMemory, Numbers};
-use cbl_operations::Op;
+use cbl_operations::{KeyedOp, Op};
+use cbl_violations::Constraint;
 use node_kinds::Kind;
 use node_states::{are_so_many, plain_operation, takes};
 use std::alloc::Global;
@@ -115,52 +116,59 @@ fn operation_of(alloc: Global, name: &str, size: u32) -> Result<Op, Stop> {
 
 /// The same of one that keeps something beside its inputs.
 fn operation_with_list(alloc: Global, name: &str, size: u32) -> Result<Op, Stop> {
-    let all = numbers_from_0(alloc, size)?;
     match name {
-        "SetOf" => Ok(Op::SetOf { keys: all }),
-        "ArgMin" => Ok(Op::ArgMin { keys: all }),
-        "ArgMax" => Ok(Op::ArgMax { keys: all }),
-        "AtMost" => Ok(Op::AtMost {
-            low: 0,
-            bounds: all,
-        }),
-        "AtLeast" => Ok(Op::AtLeast {
-            low: 0,
-            bounds: all,
-        }),
-        "Exactly" => Ok(Op::Exactly {
-            low: 0,
-            bounds: all,
-        }),
-        "Knapsack" => Ok(Op::Knapsack {
-            weights: all,
-            capacity: i64::from(size),
-        }),
-        "MultiKnapsack" => Ok(Op::MultiKnapsack {
-            sizes: all,
-            low: 0,
-            capacities: numbers_from_0(alloc, size)?,
-        }),
-        "Sequence" => Ok(Op::Sequence {
-            values: IntSet::from_slice(alloc, numbers_from_0(alloc, size / 2)?.as_slice())?,
-            most: MOST_IN_WINDOW,
-            window: WINDOW,
-        }),
-        _ => operation_with_cells(name, size).ok_or(Stop::Words),
-    }
-}
-
-/// The same of one that reads cells.
-fn operation_with_cells(name: &str, size: u32) -> Option<Op> {
-    match name {
-        "Element" => Some(Op::Element { low: 0, len: size }),
-        "Element2" => Some(Op::Element2 {
+        "SetOf" => with_keys(alloc, KeyedOp::SetOf, size),
+        "ArgMin" => with_keys(alloc, KeyedOp::ArgMin, size),
+        "ArgMax" => with_keys(alloc, KeyedOp::ArgMax, size),
+        "Element" => Ok(Op::Element { low: 0, len: size }),
+        "Element2" => Ok(Op::Element2 {
             low1: 0,
             len1: size.isqrt(),
             low2: 0,
             len2: size.isqrt(),
         }),
-        _ => None,
+        _ => Ok(Op::Constraint(constraint_with_list(alloc, name, size)?)),
+    }
+}
+
+fn with_keys(alloc: Global, op: KeyedOp, size: u32) -> Result<Op, Stop> {
+    Ok(Op::Keyed {
+        op,
+        keys: numbers_from_0(alloc, size)?,
+    })
+}
+
+/// The same of a constraint.
+fn constraint_with_list(alloc: Global, name: &str, size: u32) -> Result<Constraint, Stop> {
+    let all = numbers_from_0(alloc, size)?;
+    match name {
+        "AtMost" => Ok(Constraint::AtMost {
+            low: 0,
+            bounds: all,
+        }),
+        "AtLeast" => Ok(Constraint::AtLeast {
+            low: 0,
+            bounds: all,
+        }),
+        "Exactly" => Ok(Constraint::Exactly {
+            low: 0,
+            bounds: all,
+        }),
+        "Knapsack" => Ok(Constraint::Knapsack {
+            weights: all,
+            capacity: i64::from(size),
+        }),
+        "MultiKnapsack" => Ok(Constraint::MultiKnapsack {
+            sizes: all,
+            low: 0,
+            capacities: numbers_from_0(alloc, size)?,
+        }),
+        "Sequence" => Ok(Constraint::Sequence {
+            values: IntSet::from_slice(alloc, numbers_from_0(alloc, size / 2)?.as_slice())?,
+            most: MOST_IN_WINDOW,
+            window: WINDOW,
+        }),
+        _ => Err(Stop::Words),
     }
 }
 

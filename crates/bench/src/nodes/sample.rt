@@ -7,7 +7,6 @@ use crate::draws::Draws;
 use crate::nodes::kinds::Shape;
 use bench_texts::Stop;
 use cbl_base::{Change, Input, NoMemory};
-use node_kinds::copy_of;
 use node_states::{Places, changes_between};
 use std::alloc::Global;
 
@@ -139,7 +138,7 @@ fn change_one(draws: &mut Draws, inputs: &mut Vec<Input>, bound: u32) -> Result<
 fn copies_of(alloc: Global, inputs: &[Input]) -> Result<Vec<Input>, NoMemory> {
     let mut copies = Vec::new(alloc);
     for input in inputs {
-        copies.push(copy_of(alloc, input)?)?;
+        copies.push(input.clone()?)?;
     }
     Ok(copies)
 }

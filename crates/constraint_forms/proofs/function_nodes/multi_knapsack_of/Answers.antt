@@ -18,8 +18,8 @@ returns-in_err-charge-3 c = let n : c.len-count.result ≡ length c.args.cells.t
 pub returns-in_err-charge-4 : goal.returns-in_err-charge-4
 returns-in_err-charge-4 c = let n : c.len-count.result ≡ length c.args.cells.terms.items = omega (arith, c.len-count.ensures, c.args.cells.terms.ok.0) in record { did = λ printed. after _ _ _ _ (c.in_ok-charge.ensures.did printed) (after _ _ _ _ (rw n at (c.in_ok-charge-2.ensures.did printed)) (after _ _ _ _ (rw c.len-size_count.ensures at (c.in_ok-charge-3.ensures.did printed)) (act_exit _ _ _ _ _ _ c.from_residual-in_err-charge-4.ensures.1 (rw c.len-capacity_count.ensures at (c.in_err-charge-4.ensures.did printed)) ((goes_charge _ _).from _).printed (λ _. goes_then (goes_unless _ _ _) (λ _. goes_node _ _ _))))) }
 
-pub returns-in_err-op : goal.returns-in_err-op
-returns-in_err-op c = let n : c.len-count.result ≡ length c.args.cells.terms.items = omega (arith, c.len-count.ensures, c.args.cells.terms.ok.0) in record { did = λ printed. after _ _ _ _ (c.in_ok-charge.ensures.did printed) (after _ _ _ _ (rw n at (c.in_ok-charge-2.ensures.did printed)) (after _ _ _ _ (rw c.len-size_count.ensures at (c.in_ok-charge-3.ensures.did printed)) (after _ _ _ _ (rw c.len-capacity_count.ensures at (c.in_ok-charge-4.ensures.did printed)) (exit _ _ _ _ _ c.from_residual-in_err-op.ensures.1 (memory_ends _ _ _ c.in_err-op.ensures.memory ((goes_then (goes_unless _ _ _) (λ _. goes_node _ _ _)).from _).printed))))) }
+pub returns-in_err-constraint : goal.returns-in_err-constraint
+returns-in_err-constraint c = let n : c.len-count.result ≡ length c.args.cells.terms.items = omega (arith, c.len-count.ensures, c.args.cells.terms.ok.0) in record { did = λ printed. after _ _ _ _ (c.in_ok-charge.ensures.did printed) (after _ _ _ _ (rw n at (c.in_ok-charge-2.ensures.did printed)) (after _ _ _ _ (rw c.len-size_count.ensures at (c.in_ok-charge-3.ensures.did printed)) (after _ _ _ _ (rw c.len-capacity_count.ensures at (c.in_ok-charge-4.ensures.did printed)) (exit _ _ _ _ _ c.from_residual-in_err-constraint.ensures.1 (memory_ends _ _ _ c.in_err-constraint.ensures.memory ((goes_then (goes_unless _ _ _) (λ _. goes_node _ _ _)).from _).printed))))) }
 
 pub returns : goal.returns
-returns c = let n : c.len-count.result ≡ length c.args.cells.terms.items = omega (arith, c.len-count.ensures, c.args.cells.terms.ok.0) in record { did = λ printed. after _ _ _ _ (c.in_ok-charge.ensures.did printed) (after _ _ _ _ (rw n at (c.in_ok-charge-2.ensures.did printed)) (after _ _ _ _ (rw c.len-size_count.ensures at (c.in_ok-charge-3.ensures.did printed)) (after _ _ _ _ (rw c.len-capacity_count.ensures at (c.in_ok-charge-4.ensures.did printed)) (rw (c.in_ok-op.ensures.operation, c.len-size_count.ensures) at (c.even_of.ensures.did (state_seen c.charge-4.new.self printed)))))) }
+returns c = let n : c.len-count.result ≡ length c.args.cells.terms.items = omega (arith, c.len-count.ensures, c.args.cells.terms.ok.0) in record { did = λ printed. after _ _ _ _ (c.in_ok-charge.ensures.did printed) (after _ _ _ _ (rw n at (c.in_ok-charge-2.ensures.did printed)) (after _ _ _ _ (rw c.len-size_count.ensures at (c.in_ok-charge-3.ensures.did printed)) (after _ _ _ _ (rw c.len-capacity_count.ensures at (c.in_ok-charge-4.ensures.did printed)) (rw (c.in_ok-constraint.ensures.constraint, c.len-size_count.ensures) at (c.even_of.ensures.did (state_seen c.charge-4.new.self printed)))))) }

@@ -9,4 +9,4 @@ pub returns-in_err-terms : goal.returns-in_err-terms
 returns-in_err-terms c = record { did = λ s. exit _ _ s _ _ c.from_residual.ensures.1 (memory_ends _ _ _ c.in_err-terms.ensures.memory ((goes_node _ _ _).from s).printed) }
 
 pub returns : goal.returns
-returns c = record { did = λ s. rw (c.in_ok-terms.ensures.terms ∙ terms_seen c.args.bodies.items) at (rw c.joining_operation.ensures at (c.node_of.ensures.did s)) }
+returns c = record { did = λ s. rw (c.in_ok-terms.ensures.terms ∙ terms_seen c.args.bodies.items) at (rw c.joining.ensures at (c.node_of.ensures.did s)) }

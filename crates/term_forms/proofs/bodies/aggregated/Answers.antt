@@ -22,10 +22,10 @@ pub returns-in-Or : goal.returns-in-Or
 returns-in-Or c = record { did = λ s. rw c.in-Or.is (c.operation_of-in-Or.ensures.did s) }
 
 pub returns-in-SetOf : goal.returns-in-SetOf
-returns-in-SetOf c = record { did = λ s. rw c.in-SetOf.is (c.set_of.ensures.did s) }
+returns-in-SetOf c = record { did = λ s. rw c.in-SetOf.is (c.keyed_of.ensures.did s) }
 
 pub returns-in-ArgMin : goal.returns-in-ArgMin
-returns-in-ArgMin c = record { did = λ s. rw c.in-ArgMin.is (c.least_keys_of.ensures.did s) }
+returns-in-ArgMin c = record { did = λ s. rw c.in-ArgMin.is (c.keyed_of-in-ArgMin.ensures.did s) }
 
 pub returns-in-ArgMax : goal.returns-in-ArgMax
-returns-in-ArgMax c = record { did = λ s. rw c.in-ArgMax.is (c.greatest_keys_of.ensures.did s) }
+returns-in-ArgMax c = record { did = λ s. rw c.in-ArgMax.is (c.keyed_of-in-ArgMax.ensures.did s) }

@@ -13,11 +13,11 @@ returns c =
     let users : c.in_ok-are_users_once.field-0 ≡ true = search rules in
     let constraints : c.in_ok-are_posted_in_order.field-0 ≡ true = search rules in
     let parts : c.in_ok-are_posted_in_order-2.field-0 ≡ true = search rules in
-    well_formed_from c.args.model.now c.deref.result.now
+    well_formed_from c.args.model.now c.args.table.now
     (OnTrue_at definitions c.in_ok-are_definitions.ensures)
-    (subst (λ ds. (d : ℕ) → IsOwned c.deref.result.now ds d) c.deref-2.ensures.value (OnTrue_at c.if-not-are_owned.false c.are_owned.ensures))
-    (subst (All (IsTotal c.args.model.now)) c.deref-3.ensures.value (OnTrue_at systems c.in_ok-are_totals.ensures))
-    (subst (All (IsTotal c.args.model.now)) c.deref-4.ensures.value (OnTrue_at objectives c.in_ok-are_totals-2.ensures))
+    (subst (λ ds. (d : ℕ) → IsOwned c.args.table.now ds d) c.deref.ensures.value (OnTrue_at c.if-not-are_owned.false c.are_owned.ensures))
+    (subst (All (IsTotal c.args.model.now)) c.deref-2.ensures.value (OnTrue_at systems c.in_ok-are_totals.ensures))
+    (subst (All (IsTotal c.args.model.now)) c.deref-3.ensures.value (OnTrue_at objectives c.in_ok-are_totals-2.ensures))
     (OnTrue_at defined c.in_ok-are_defined_once.ensures)
     (OnTrue_at constraints c.in_ok-are_posted_in_order.ensures.posted)
     (OnTrue_at parts c.in_ok-are_posted_in_order-2.ensures.posted)
