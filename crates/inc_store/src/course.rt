@@ -1,5 +1,5 @@
 //! What a commit has come to so far.
-ghost use Rattle.std.specs.Prelude.{◌≡◌, ◌≢◌, ℕ, ◌+◌, ◌*◌, ◌<◌, ◌≤◌, cond, length, IfOk, OnOk, All, Some, None};
+ghost use Rattle.std.specs.Prelude.{◌≡◌, ◌≢◌, ℕ, ◌+◌, ◌*◌, ◌<◌, ◌≤◌, cond, length, OnOk, All, Some, None};
 ghost use Rattle.std.specs.BTreeMap.{get};
 ghost use Rattle.std.specs.Ordering.{nat_cmp};
 ghost use Rattle.cbl_base.specs.Inputs.{kind_of};
@@ -18,7 +18,7 @@ use cbl_base::{NoMemory, NodeId, NodeValue, RunFault, Steps};
 use std::alloc::Global;
 use std::collections::BTreeMap;
 use std::sync::ledger::Ledger;
-use store_turns::{Frame, Outcome, Waiting, tell};
+use store_turns::{Frame, Outcome, Waiting, copy_of, tell};
 
 /// What a commit has come to so far.
 #[derive(Drop)]
@@ -140,12 +140,4 @@ fn keep_value<L: Ledger>(
         course.changes.insert(id, NodeChange { node, old, new })?;
     }
     Ok(())
-}
-
-/// A copy of a value.
-fn copy_of(value: &NodeValue) -> Result<NodeValue, NoMemory>
-    ensures { IfOk result (λ copy. copy ≡ value.now) }
-{
-    let copy = value.clone()?;
-    Ok(copy)
 }

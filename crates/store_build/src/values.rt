@@ -6,7 +6,7 @@ ghost use Rattle.store_build.specs.Building.{value_in, values_in, cell_outcome, 
 
 use cbl_base::{Input, NoMemory, NodeId, NodeRule, NodeValue};
 use std::alloc::Global;
-use store_turns::Outcome;
+use store_turns::{Outcome, copy_of};
 
 /// What a node comes to.
 pub fn value_of<N: NodeRule>(node: &N) -> Result<Outcome, NoMemory>
@@ -59,8 +59,7 @@ pub(crate) fn values_at(
 fn push_copy(values: &mut Vec<Input>, value: &NodeValue) -> Result<(), NoMemory>
     ensures { OnOk result (values.new.items ≡ values.old.items ++ value.now ∷ []) }
 {
-    let copy = value.clone()?;
-    values.push(copy)?;
+    values.push(copy_of(value)?)?;
     Ok(())
 }
 

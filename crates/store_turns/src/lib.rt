@@ -15,7 +15,7 @@ mod telling;
 mod waiting;
 
 pub use frame::{Cone, Frame};
-pub use outcome::{Outcome, same};
+pub use outcome::{Outcome, copy_of, same};
 pub use set_changes::{change_to, without};
 pub use telling::{has, tell};
 pub use waiting::{Turn, Waiting};

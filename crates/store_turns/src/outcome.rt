@@ -1,12 +1,12 @@
 //! What a node comes to.
-ghost use Rattle.std.specs.Prelude.{◌≡◌, not};
+ghost use Rattle.std.specs.Prelude.{◌≡◌, not, IfOk};
 ghost use Rattle.cbl_base.specs.Inputs.{kind_of};
 ghost use Rattle.cbl_base.specs.Sets.{IsRising};
 ghost use Rattle.store_turns.specs.Telling.{LeadsTo};
 ghost use Rattle.store_turns.specs.Touch.{differs, same_members};
 ghost use Rattle.store_turns.specs.declared.outcome.Outcome.TheVariants.{Value};
 
-use cbl_base::{Input, IntSet, NodeValue, RunFault};
+use cbl_base::{Input, IntSet, NoMemory, NodeValue, RunFault};
 
 /// A value, a fault of its own, or nothing, where one of its inputs has no value.
 #[derive(Drop, Debug)]
@@ -37,4 +37,11 @@ fn same_set(old: &IntSet, new: &IntSet) -> bool
     ensures new { IsRising new.now }
 {
     old.as_slice() == new.as_slice()
+}
+
+/// A copy of a value.
+pub fn copy_of(value: &NodeValue) -> Result<NodeValue, NoMemory>
+    ensures { IfOk result (λ copy. copy ≡ value.now) }
+{
+    Ok(value.clone()?)
 }

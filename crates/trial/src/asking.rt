@@ -13,11 +13,10 @@ ghost use Rattle.inc_store.specs.Views.{IsUsable, value_at, count_of, first_of, 
 ghost use Rattle.trial.specs.Overlays.{asked, new_or, root_by, root_steps};
 
 use crate::overlay::Overlay;
-use crate::settling::copy_of;
 use cbl_base::{Change, NoMemory, NodeFault, NodeId, NodeRule, NodeValue, RunFault, Steps};
 use inc_store::{NodeChange, Store};
 use std::sync::ledger::Ledger;
-use store_turns::{Frame, Outcome};
+use store_turns::{Frame, Outcome, copy_of};
 
 /// What an id comes to in its turn, by what waited for it, which is taken. At most as many steps as there are
 /// changes, and one more, with that of `root_of`.

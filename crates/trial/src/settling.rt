@@ -16,7 +16,7 @@ ghost use Rattle.trial.specs.Overlays.{AreNoted};
 use crate::overlay::Overlay;
 use cbl_base::{NoMemory, NodeId, NodeValue, RunFault, Steps};
 use std::sync::ledger::Ledger;
-use store_turns::{Frame, Outcome, Turn, has, tell};
+use store_turns::{Frame, Outcome, Turn, copy_of, has, tell};
 
 /// An id whose value is the old one has come to this outcome: it is kept where it is another, and those members
 /// that use it are told, also on which failing node they stand. One step, and two more for each such use where it
@@ -189,12 +189,4 @@ fn keep_value<L: Ledger>(
         overlay.change(id, before, value, steps)?;
     }
     Ok(())
-}
-
-/// A copy of a value.
-pub(crate) fn copy_of(value: &NodeValue) -> Result<NodeValue, NoMemory>
-    ensures { IfOk result (λ copy. copy ≡ value.now) }
-{
-    let copy = value.clone()?;
-    Ok(copy)
 }
