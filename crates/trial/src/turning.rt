@@ -60,9 +60,7 @@ fn turn<N: NodeRule, L: Ledger>(
     let old = store.read(NodeId(turn.id), steps);
     let outcome = came_to(store, frame, overlay, turn.id, old, steps)?;
     let root = root_of(overlay, turn.id, &outcome, steps);
-    settle(
-        frame, members, overlay, turn.id, old, outcome, root, steps,
-    )?;
+    settle(frame, members, overlay, turn.id, old, outcome, root, steps)?;
     Ok(Some(turn))
 }
 
