@@ -1,5 +1,5 @@
 -- What holds between the turns of a commit, over the lists of a store.
-use Rattle.std.specs.Prelude.{◌⊎◌, ◌≡◌, ℕ, ◌+◌, ◌-◌, ◌*◌, ◌<◌, ◌≤◌, Bool, true, false, cond, nat_lt, List, [], length, map, slice_set, slice_get, slice_index_or, Option, Some, None}
+use Rattle.std.specs.Prelude.{◌⊎◌, ◌≡◌, ◌≢◌, ℕ, ◌+◌, ◌-◌, ◌*◌, ◌<◌, ◌≤◌, Bool, true, false, cond, nat_lt, List, [], length, map, slice_set, slice_get, slice_index_or, Option, Some, None}
 use Rattle.std.specs.BTreeMap.{BTreeMap, get}
 use Rattle.std.specs.Ordering.{nat_cmp}
 use Rattle.cbl_base.specs.Inputs.{InputKind, kind_of}
@@ -40,6 +40,18 @@ abbrev pub change_of : ℕ → Outcome → Input → Option NodeChange → Optio
 change_of id (Value x) old before = cond (differs (Value x) old) (Some (changed_at id old x)) before
 change_of id (Fails f) old before = before
 change_of id Missing old before = before
+
+-- in the new map this stands at the id, and at all others what stood there in the old one
+pub record IsPut {V : Type 0} (id : ℕ) (what : Option V) (old new : BTreeMap ℕ V) : Type 0 where
+  pub here : get nat_cmp new id ≡ what
+  pub elsewhere : (j : ℕ) → j ≢ id → get nat_cmp new j ≡ get nat_cmp old j
+
+-- so an outcome of an id whose value is this is kept, where it is no value, and where it is another value
+abbrev pub KeepsLost : ℕ → Outcome → BTreeMap ℕ (Option RunFault) → BTreeMap ℕ (Option RunFault) → Type 0
+KeepsLost id outcome old new = IsPut id (lost_by outcome) old new
+
+abbrev pub KeepsChange : ℕ → Outcome → Input → BTreeMap ℕ NodeChange → BTreeMap ℕ NodeChange → Type 0
+KeepsChange id outcome value old new = IsPut id (change_of id outcome value (get nat_cmp old id)) old new
 
 -- what an id comes to by what waited for it; a cell has the value of the one id in its list
 abbrev pub turn_outcome : List Rule → List (List Input) → Frame → List Input → ℕ → Option (List Change) → Outcome

@@ -12,7 +12,7 @@ ghost use Rattle.inc_store.specs.Faults.{first_failing, and_later, IsDone, EndsB
 ghost use Rattle.inc_store.specs.Moves.{AreMoves, LaterThanMoves, moved_to, trace_of};
 ghost use Rattle.store_build.specs.Kept.{IsKept};
 ghost use Rattle.store_build.specs.Stops.{IsStop};
-ghost use Rattle.inc_store.specs.Stores.{IsWithin, changes_between};
+ghost use Rattle.inc_store.specs.Stores.{IsInTime, changes_between};
 
 use crate::cells::Cells;
 use crate::changed::{Changed, NodeChange};
@@ -53,11 +53,11 @@ pub(crate) fn commit_moves<N: NodeRule, L: Ledger>(
         changed.list.items ≡ changes_between 0 cells.old cells.new) }
     ensures fault { IfErr result (λ stop.
         IsStop (graph_of given.rules frame.now) given.trace.target stop) }
-    ensures steps { IsWithin (graph_of given.rules frame.now) given.trace.before given.trace.target given.trace.moved (uses_in frame.now) given.trace.base steps.new }
+    ensures steps { IsInTime given.rules frame.now given.trace steps.new }
 {
     let mut course = Course::new(alloc);
     move_all(frame, cells, &mut course, moves, steps)?;
-    run(alloc, frame, nodes, cells, &mut course, steps)?;
+    run(frame, nodes, cells, &mut course, steps)?;
     finish(alloc, course)
 }
 
@@ -89,8 +89,9 @@ fn move_all<L: Ledger>(
     requires target { (j : ℕ) → given.trace.target j ≡ moved_to moves.now given.trace.before j }
     requires course { InCourse given.rules given.helds frame.now given.trace cells.old course.old
         (LaterThanMoves frame.now moves.now) (steps.old + 2 * length moves.now + 1) }
-    ensures course { OnOk result (InCourse given.rules given.helds frame.now given.trace cells.new course.new (NotBefore first_front (layer_of frame.now)) (steps.new + 1)) }
-    ensures limit { IsWithin (graph_of given.rules frame.now) given.trace.before given.trace.target given.trace.moved (uses_in frame.now) given.trace.base steps.new }
+    ensures course { OnOk result (InCourse given.rules given.helds frame.now given.trace cells.new
+        course.new (NotBefore first_front (layer_of frame.now)) (steps.new + 1)) }
+    ensures limit { IsInTime given.rules frame.now given.trace steps.new }
 {
     for (var, number) in moves {
         settle(

@@ -10,7 +10,7 @@ ghost use Rattle.store_turns.specs.Waits.{waits};
 ghost use Rattle.store_turns.specs.Touch.{differs};
 ghost use Rattle.store_turns.specs.Telling.{IsTold};
 ghost use Rattle.store_build.specs.Frames.{cell_of};
-ghost use Rattle.inc_store.specs.Course.{with_outcome, lost_by, change_of};
+ghost use Rattle.inc_store.specs.Course.{with_outcome, KeepsLost, KeepsChange};
 
 use crate::cells::Cells;
 use crate::changed::NodeChange;
@@ -63,13 +63,9 @@ pub(crate) fn settle<L: Ledger>(
     ensures told { OnOk result (IsTold (layer_of frame.now) (uses_in frame.now id)
         (cell_of cells.old id) outcome (waits course.old.waiting) (waits course.new.waiting)) }
     ensures cells { OnOk result (cells.new ≡ with_outcome cells.old id outcome) }
-    ensures lost_here { OnOk result (get nat_cmp course.new.lost id ≡ lost_by outcome) }
-    ensures lost_elsewhere { OnOk result ((j : ℕ) → j ≢ id →
-        get nat_cmp course.new.lost j ≡ get nat_cmp course.old.lost j) }
-    ensures change_here { OnOk result (get nat_cmp course.new.changes id ≡
-        change_of id outcome (cell_of cells.old id) (get nat_cmp course.old.changes id)) }
-    ensures change_elsewhere { OnOk result ((j : ℕ) → j ≢ id →
-        get nat_cmp course.new.changes j ≡ get nat_cmp course.old.changes j) }
+    ensures lost { OnOk result (KeepsLost id outcome course.old.lost course.new.lost) }
+    ensures change { OnOk result (KeepsChange id outcome (cell_of cells.old id)
+        course.old.changes course.new.changes) }
     ensures steps { steps.new ≤ steps.old + 2 + 2 * cond (differs outcome (cell_of cells.old id))
         (length (uses_in frame.now id)) 0 }
 {
@@ -101,13 +97,9 @@ fn keep<L: Ledger>(
     requires unlost { get nat_cmp course.old.lost id ≡ None }
     ensures waiting { OnOk result (course.new.waiting ≡ course.old.waiting) }
     ensures cells { OnOk result (cells.new ≡ with_outcome cells.old id outcome) }
-    ensures lost_here { OnOk result (get nat_cmp course.new.lost id ≡ lost_by outcome) }
-    ensures lost_elsewhere { OnOk result ((j : ℕ) → j ≢ id →
-        get nat_cmp course.new.lost j ≡ get nat_cmp course.old.lost j) }
-    ensures change_here { OnOk result (get nat_cmp course.new.changes id ≡
-        change_of id outcome (cell_of cells.old id) (get nat_cmp course.old.changes id)) }
-    ensures change_elsewhere { OnOk result ((j : ℕ) → j ≢ id →
-        get nat_cmp course.new.changes j ≡ get nat_cmp course.old.changes j) }
+    ensures lost { OnOk result (KeepsLost id outcome course.old.lost course.new.lost) }
+    ensures change { OnOk result (KeepsChange id outcome (cell_of cells.old id)
+        course.old.changes course.new.changes) }
     ensures steps { steps.new ≤ steps.old + 1 }
 {
     match outcome {
@@ -137,15 +129,12 @@ fn keep_value<L: Ledger>(
     ensures waiting { OnOk result (course.new.waiting ≡ course.old.waiting) }
     ensures lost { OnOk result (course.new.lost ≡ course.old.lost) }
     ensures cells { OnOk result (cells.new ≡ with_outcome cells.old id (Value value)) }
-    ensures change_here { OnOk result (get nat_cmp course.new.changes id ≡
-        change_of id (Value value) (cell_of cells.old id) (get nat_cmp course.old.changes id)) }
-    ensures change_elsewhere { OnOk result ((j : ℕ) → j ≢ id →
-        get nat_cmp course.new.changes j ≡ get nat_cmp course.old.changes j) }
+    ensures change { OnOk result (KeepsChange id (Value value) (cell_of cells.old id)
+        course.old.changes course.new.changes) }
     ensures steps { steps.new ≤ steps.old + 1 }
 {
-    let alloc = course.waiting.alloc();
     if other {
-        let new = copy_of(alloc, &value)?;
+        let new = copy_of(&value)?;
         let old = cells.write(id, value, steps);
         let node = NodeId(id);
         course.changes.insert(id, NodeChange { node, old, new })?;

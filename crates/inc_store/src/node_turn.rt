@@ -11,15 +11,13 @@ ghost use Rattle.inc_store.specs.Course.{turn_outcome, helds_after};
 
 use crate::cells::Cells;
 use cbl_base::{Change, NoMemory, NodeRule, Steps};
-use std::alloc::Global;
 use std::sync::ledger::Ledger;
 use store_build::value_of;
-use store_turns::{Frame, Outcome, Waiting, copy_of};
+use store_turns::{Frame, Outcome, Waiting};
 
 /// What an id comes to in its turn, by what waited for it, which is taken. At most as many steps as there
 /// are changes, and one more.
 pub(crate) fn outcome_of<N: NodeRule, L: Ledger>(
-    alloc: Global,
     frame: &Frame,
     nodes: &mut Vec<N>,
     cells: &Cells,
@@ -49,9 +47,9 @@ pub(crate) fn outcome_of<N: NodeRule, L: Ledger>(
         None => Ok(Outcome::Missing),
         Some(changes) => {
             if id < frame.first {
-                copied(alloc, frame, cells, id, steps)
+                copied(frame, cells, id, steps)
             } else {
-                apply_to(alloc, nodes, (id - frame.first) as usize, changes, steps)
+                apply_to(nodes, (id - frame.first) as usize, changes, steps)
             }
         }
     }
@@ -59,7 +57,6 @@ pub(crate) fn outcome_of<N: NodeRule, L: Ledger>(
 
 /// The value of a defined variable: that of the one node in its list. One step.
 fn copied<L: Ledger>(
-    alloc: Global,
     frame: &Frame,
     cells: &Cells,
     id: u32,
@@ -72,13 +69,12 @@ fn copied<L: Ledger>(
     ensures steps { steps.new ≡ steps.old + 1 }
 {
     let input = frame.inputs[id as usize][0];
-    let value = copy_of(alloc, cells.read(input.0, steps))?;
+    let value = cells.read(input.0, steps).clone()?;
     Ok(Outcome::Value(value))
 }
 
 /// What a node comes to after these changes of what it holds. A step for each change, and one more.
 fn apply_to<N: NodeRule, L: Ledger>(
-    alloc: Global,
     nodes: &mut Vec<N>,
     at: usize,
     changes: &[Change],
@@ -100,7 +96,7 @@ fn apply_to<N: NodeRule, L: Ledger>(
     tick_each(changes, steps);
     nodes[at].apply(changes)?;
     steps.tick();
-    let value = value_of(alloc, &nodes[at])?;
+    let value = value_of(&nodes[at])?;
     Ok(value)
 }
 

@@ -5,19 +5,17 @@ ghost use Rattle.store_turns.specs.Waits.{waits};
 ghost use Rattle.store_turns.specs.Turns.{rank};
 ghost use Rattle.store_build.specs.Frames.{IsFrame};
 ghost use Rattle.inc_store.specs.Course.{InCourse, IsOver, Trace, NotBefore, first_front};
-ghost use Rattle.inc_store.specs.Stores.{IsWithin};
+ghost use Rattle.inc_store.specs.Stores.{IsInTime};
 
 use crate::cells::Cells;
 use crate::course::{Course, settle};
 use crate::node_turn::outcome_of;
 use cbl_base::{NoMemory, NodeRule, Steps};
-use std::alloc::Global;
 use std::sync::ledger::Ledger;
 use store_turns::{Frame, Turn};
 
 /// The first that waits has its turn. It answers whose turn that was, and `None` where nothing waits.
 fn turn<N: NodeRule, L: Ledger>(
-    alloc: Global,
     frame: &Frame,
     nodes: &mut Vec<N>,
     cells: &mut Cells,
@@ -38,9 +36,7 @@ fn turn<N: NodeRule, L: Ledger>(
         MatchOption r (Unit {0}) (λ t. InCourse (map N.rule nodes.old.items)
         (map N.held nodes.new.items) frame.now trace cells.new course.new
         (NotBefore (rank (layer_of frame.now) t.id + 1) (layer_of frame.now)) (steps.new + 1))) }
-    ensures limit { IsWithin (graph_of
-        (map N.rule nodes.old.items) frame.now) trace.before trace.target trace.moved
-        (uses_in frame.now) trace.base steps.new }
+    ensures limit { IsInTime (map N.rule nodes.old.items) frame.now trace steps.new }
     ensures over { IfOk result (λ r. MatchOption r (((l i : ℕ) →
         waits course.old.waiting l i ≡ None) ×
         (map N.held nodes.new.items ≡ map N.held nodes.old.items) × (cells.new ≡ cells.old) ×
@@ -51,14 +47,13 @@ fn turn<N: NodeRule, L: Ledger>(
     let Some(turn) = course.waiting.pop(steps) else {
         return Ok(None);
     };
-    let outcome = outcome_of(alloc, frame, nodes, cells, turn.id, &course.waiting, steps)?;
+    let outcome = outcome_of(frame, nodes, cells, turn.id, &course.waiting, steps)?;
     settle(frame, cells, course, turn.id, outcome, steps)?;
     Ok(Some(turn))
 }
 
 /// Each node that waits has its turn, by layer and then by id.
 pub(crate) fn run<N: NodeRule, L: Ledger>(
-    alloc: Global,
     frame: &Frame,
     nodes: &mut Vec<N>,
     cells: &mut Cells,
@@ -73,15 +68,13 @@ pub(crate) fn run<N: NodeRule, L: Ledger>(
         (NotBefore first_front (layer_of frame.now)) (steps.old + 1) }
     ensures ready { OnOk result (All N.ready nodes.new.items) }
     ensures rules { OnOk result (map N.rule nodes.new.items ≡ map N.rule nodes.old.items) }
-    ensures limit { IsWithin (graph_of
-        (map N.rule nodes.old.items) frame.now) trace.before trace.target trace.moved
-        (uses_in frame.now) trace.base steps.new }
+    ensures limit { IsInTime (map N.rule nodes.old.items) frame.now trace steps.new }
     ensures over { OnOk result (IsOver (map N.rule nodes.old.items)
         (map N.held nodes.new.items) frame.now trace cells.new course.new steps.new) }
 {
     let mut front: u128 = 4294967296;
     loop {
-        let Some(turn) = turn(alloc, frame, nodes, cells, course, front, steps)? else {
+        let Some(turn) = turn(frame, nodes, cells, course, front, steps)? else {
             return Ok(());
         };
         front = u128::from(turn.layer) * 4294967296 + u128::from(turn.id) + 1;

@@ -1,5 +1,5 @@
 //! Layer by layer each id comes to its outcome.
-ghost use Rattle.std.specs.Prelude.{◌≡◌, ◌⊎◌, ℕ, ◌-◌, ◌+◌, ◌<◌, ◌≤◌, length, map, slice_set, slice_index_or, Some, vec_len, IfOk, OnOk, All};
+ghost use Rattle.std.specs.Prelude.{◌≡◌, ℕ, ◌-◌, ◌+◌, ◌<◌, ◌≤◌, length, map, slice_set, Some, IfOk, OnOk, All};
 ghost use Rattle.std.specs.List.{Contains};
 ghost use Rattle.store_turns.specs.Meaning.{AreLayers, Each, graph_of, layer_of, inputs_in, outcome_of};
 ghost use Rattle.store_build.specs.Groups.{IsItem, IsGrouped, ids_in};
@@ -24,7 +24,6 @@ pub(crate) struct Building<N: NodeRule> {
 
 /// A node that was reset comes to its outcome, and takes its place.
 fn keep_node<N: NodeRule>(
-    alloc: Global,
     first: u32,
     id: u32,
     node: N,
@@ -40,7 +39,7 @@ fn keep_node<N: NodeRule>(
     ensures nodes { OnOk result (building.new.nodes.items ≡
         slice_set building.old.nodes.items (id - first) (Some node)) }
 {
-    let outcome = value_of(alloc, &node)?;
+    let outcome = value_of(&node)?;
     building.outcomes[id as usize] = Some(outcome);
     building.nodes[(id - first) as usize] = Some(node);
     Ok(())
@@ -48,7 +47,6 @@ fn keep_node<N: NodeRule>(
 
 /// The nodes of a layer, which were reset, come to their outcomes.
 fn keep_nodes<N: NodeRule>(
-    alloc: Global,
     frame: &Frame,
     ids: &[u32],
     nodes: Vec<N>,
@@ -70,7 +68,7 @@ fn keep_nodes<N: NodeRule>(
 {
     let mut place = 0;
     for node in nodes {
-        keep_node(alloc, frame.first, ids[place], node, building)?;
+        keep_node(frame.first, ids[place], node, building)?;
         place += 1;
     }
     Ok(())
@@ -102,7 +100,7 @@ fn build_layer<N: NodeRule, E: LayerEval<N>>(
     let gathered = gather(alloc, frame, start, &mut building.outcomes, group)?;
     let ids = gathered.ids;
     let nodes = eval.reset(alloc, gathered.jobs)?;
-    keep_nodes(alloc, frame, &ids, nodes, building)
+    keep_nodes(frame, &ids, nodes, building)
 }
 
 /// Layer by layer each id comes to its outcome.

@@ -30,7 +30,8 @@ fn take_node<N: NodeRule>(
 ) -> Result<(), NoMemory>
     requires within { id < length outcomes.old.items }
     requires inputs { All (λ i. i.0 < length outcomes.old.items) inputs.now }
-    ensures { OnOk result (NodeTaken N.rule (values_in outcomes.old.items (ids_of inputs.now)) id node outcomes.old.items outcomes.new.items jobs.old jobs.new) }
+    ensures { OnOk result (NodeTaken N.rule (values_in outcomes.old.items (ids_of inputs.now))
+        id node outcomes.old.items outcomes.new.items jobs.old jobs.new) }
 {
     match values_at(alloc, inputs, outcomes)? {
         None => {
@@ -67,7 +68,7 @@ fn take_item<N: NodeRule>(
     match item.node {
         Some(node) => take_node(alloc, inputs, outcomes, jobs, id, node),
         None => {
-            let outcome = cell_outcome(alloc, inputs, start[id as usize], outcomes)?;
+            let outcome = cell_outcome(inputs, start[id as usize], outcomes)?;
             outcomes[id as usize] = Some(outcome);
             Ok(())
         }

@@ -9,13 +9,13 @@ use std::alloc::Global;
 use store_turns::{Outcome, copy_of};
 
 /// What a node comes to.
-pub fn value_of<N: NodeRule>(alloc: Global, node: &N) -> Result<Outcome, NoMemory>
+pub fn value_of<N: NodeRule>(node: &N) -> Result<Outcome, NoMemory>
     requires { N.ready node.now }
     ensures { IfOk result (λ o. o ≡ outcome_of ((N.rule node.now).value (N.held node.now))) }
 {
     match node.value() {
         Ok(value) => {
-            let copy = copy_of(alloc, value)?;
+            let copy = value.clone()?;
             Ok(Outcome::Value(copy))
         }
         Err(fault) => Ok(Outcome::Fails(fault)),
@@ -49,18 +49,22 @@ pub(crate) fn values_at(
     for id in ids {
         match value_at(outcomes, *id) {
             None => return Ok(None),
-            Some(value) => {
-                let copy = copy_of(alloc, value)?;
-                values.push(copy)?;
-            }
+            Some(value) => push_copy(&mut values, value)?,
         }
     }
     Ok(Some(values))
 }
 
+/// A copy of a value behind the others.
+fn push_copy(values: &mut Vec<Input>, value: &NodeValue) -> Result<(), NoMemory>
+    ensures { OnOk result (values.new.items ≡ values.old.items ++ value.now ∷ []) }
+{
+    values.push(copy_of(value)?)?;
+    Ok(())
+}
+
 /// What a cell comes to: a free one to its number, another to the value of the one id in its list.
 pub(crate) fn cell_outcome(
-    alloc: Global,
     ids: &[NodeId],
     number: i64,
     outcomes: &[Option<Outcome>],
@@ -72,18 +76,18 @@ pub(crate) fn cell_outcome(
 {
     match ids.first() {
         None => Ok(Outcome::Value(Input::Int(number))),
-        Some(id) => copied(alloc, value_at(outcomes, *id)),
+        Some(id) => copied(value_at(outcomes, *id)),
     }
 }
 
 /// A copy of what another id came to.
-fn copied(alloc: Global, value: Option<&NodeValue>) -> Result<Outcome, NoMemory>
+fn copied(value: Option<&NodeValue>) -> Result<Outcome, NoMemory>
     ensures { IfOk result (λ o. o ≡ copied (option_copied value.entry)) }
 {
     match value {
         None => Ok(Outcome::Missing),
         Some(value) => {
-            let copy = copy_of(alloc, value)?;
+            let copy = value.clone()?;
             Ok(Outcome::Value(copy))
         }
     }

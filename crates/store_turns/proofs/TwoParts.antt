@@ -1,5 +1,5 @@
 -- What waits in the short list or in the map.
-use Rattle.std.proofs.Common.{◌≡◌, ◌≢◌, ℕ, Bool, true, false, List, [], take, Option, Some, None, IsSome, IfSome, MatchOption, MatchBool, refl, sym, ap, ◌∙◌, subst, inl, inr, ◌⊎◌}
+use Rattle.std.proofs.Common.{◌≡◌, ◌≢◌, ℕ, Bool, true, false, List, [], ◌∷◌, length, take, Option, Some, None, IsSome, IfSome, MatchOption, MatchBool, refl, sym, ap, ◌∙◌, subst, inl, inr, ◌⊎◌, arith}
 use Rattle.std.specs.Option.{option_map}
 use Rattle.std.specs.BTreeMap.{get, is_at}
 use Rattle.std.specs.Ordering.{is_gt}
@@ -8,7 +8,7 @@ use Rattle.store_turns.specs.declared.waiting.Turn.{Turn}
 use Rattle.store_turns.specs.declared.waiting.Pending.{Pending}
 use Rattle.store_turns.specs.declared.waiting.Waiting.{Waiting}
 use Rattle.store_turns.specs.declared.short_list.ShortList.{ShortList}
-use Rattle.store_turns.specs.Waits.{turn_cmp, look, or_later, changes_of, and_change, NotAfter, IsBefore, IsLeast, IsFirst, IsFarFirst, IsGone, waits}
+use Rattle.store_turns.specs.Waits.{turn_cmp, look, or_later, changes_of, and_change, NotAfter, IsBefore, IsLeast, IsFarFirst, IsTaken, NothingWaits, taken_of}
 use Rattle.store_turns.specs.Entries.{Puts}
 use Rattle.store_turns.proofs.TurnOrder.{other_turn, no_later, not_after, later, before_not_after, not_both_ways, before_or_later, before_and_after}
 
@@ -28,6 +28,21 @@ added_here t u near near' far p c same before here =
     of_both o None e h = absurd (cc)
     of_both None (Some q) e h = absurd (cc)
     of_both (Some r) (Some q) e h = h ∙ ap (λ (o : Option Pending). Some (and_change c (option_map changes_of (or_later o far)))) (sym e)
+
+-- ---- written in the map, where the list has nothing
+pub added_far : (o far far' : Option Pending) (p p' : Pending) (c : Change) → o ≡ None → far ≡ Some p → far' ≡ Some p' → changes_of p' ≡ and_change c (Some (changes_of p)) → option_map changes_of (or_later o far') ≡ Some (and_change c (option_map changes_of (or_later o far)))
+added_far o far far' p p' c none was is more =
+    ap (λ (x : Option Pending). option_map changes_of (or_later x far')) none ∙ ap (λ (x : Option Pending). option_map changes_of x) is ∙ ap (λ x. Some x) more
+    ∙ sym (ap (λ (x : Option Pending). Some (and_change c (option_map changes_of (or_later x far)))) none ∙ ap (λ (x : Option Pending). Some (and_change c (option_map changes_of x))) was)
+
+-- what the list has comes first
+pub near_first : (o later : Option Pending) (x : Option (List Change)) → option_map changes_of o ≡ Some x → option_map changes_of (or_later o later) ≡ Some x
+near_first None later x h = absurd (cc)
+near_first (Some p) later x h = h
+
+pub none_in : (u : Turn) (es : List (Turn × Pending)) → length es ≡ 0 → look u es ≡ None
+none_in u [] none = refl
+none_in u (e ∷ es) none = absurd (omega (arith, none))
 
 -- ---- what waits is in one of the two
 pub one_there : (o later : Option Pending) → IsSome (option_map changes_of (or_later o later)) → IsSome o ⊎ IsSome later
@@ -88,19 +103,21 @@ module _ (w w' : Waiting) (same : w'.near ≡ w.near) where
   as_seen : (u : Turn) → option_map changes_of (or_later (look u (take w'.near.live w'.near.entries.items)) (get turn_cmp w'.far u)) ≡ option_map changes_of (or_later (look u (take w.near.live w.near.entries.items)) (get turn_cmp w'.far u))
   as_seen u = ap (λ (s : ShortList). option_map changes_of (or_later (look u (take s.live s.entries.items)) (get turn_cmp w'.far u))) same
 
-  pub popped : (t : Turn) (cs : Option (List Change)) → IsFarFirst (λ u. get turn_cmp w.far u) (λ u. get turn_cmp w'.far u) t cs → ((u : Turn) → IsSome (look u (take w.near.live w.near.entries.items)) → IsBefore t u) → IsFirst w t cs × IsGone w w' t
-  popped t cs is ahead =
-      let gone = far_gone (take w.near.live w.near.entries.items) (λ u. get turn_cmp w.far u) (λ u. get turn_cmp w'.far u) t cs is ahead in
-      (far_first (take w.near.live w.near.entries.items) (λ u. get turn_cmp w.far u) (λ u. get turn_cmp w'.far u) t cs is ahead, (as_seen t ∙ gone.0, λ l i ne. as_seen (turn l i) ∙ gone.1 l i ne))
+  pub popped : (t : Turn) → IsFarFirst (λ u. get turn_cmp w.far u) (λ u. get turn_cmp w'.far u) t (taken_of w') → ((u : Turn) → IsSome (look u (take w.near.live w.near.entries.items)) → IsBefore t u) → IsTaken t w w'
+  popped t is ahead =
+      let first = far_first (take w.near.live w.near.entries.items) (λ u. get turn_cmp w.far u) (λ u. get turn_cmp w'.far u) t (taken_of w') is ahead in
+      let gone = far_gone (take w.near.live w.near.entries.items) (λ u. get turn_cmp w.far u) (λ u. get turn_cmp w'.far u) t (taken_of w') is ahead in
+      record {
+        taken = first.0;
+        least = first.1;
+        here = as_seen t ∙ gone.0;
+        elsewhere = λ l i ne. as_seen (turn l i) ∙ gone.1 l i ne;
+      }
 
-  pub popped_alone : (r : Option Turn) (cs : Option (List Change)) → take w.near.live w.near.entries.items ≡ [] → MatchOption r ((u : Turn) → get turn_cmp w.far u ≡ None) (λ t. IsFarFirst (λ u. get turn_cmp w.far u) (λ u. get turn_cmp w'.far u) t cs) → MatchOption r ((l i : ℕ) → waits w l i ≡ None) (λ t. IsFirst w t cs × IsGone w w' t)
-  popped_alone None cs empty h = λ l i.
+  pub popped_alone : (r : Option Turn) → take w.near.live w.near.entries.items ≡ [] → MatchOption r ((u : Turn) → get turn_cmp w.far u ≡ None) (λ t. IsFarFirst (λ u. get turn_cmp w.far u) (λ u. get turn_cmp w'.far u) t (taken_of w')) → MatchOption r (NothingWaits w) (λ t. IsTaken t w w')
+  popped_alone None empty h = λ l i.
       ap (λ (xs : List (Turn × Pending)). option_map changes_of (or_later (look (turn l i) xs) (get turn_cmp w.far (turn l i)))) empty ∙ ap (λ (o : Option Pending). option_map changes_of o) (h (turn l i))
-  popped_alone (Some t) cs empty h = popped t cs h (none_ahead (take w.near.live w.near.entries.items) t empty)
-
-pub match_map : {A : Type 0} (r : Option A) (N M : Type 0) (P Q : A → Type 0) → (N → M) → ((x : A) → P x → Q x) → MatchOption r N P → MatchOption r M Q
-match_map None N M P Q f g h = f h
-match_map (Some x) N M P Q f g h = g x h
+  popped_alone (Some t) empty h = popped t h (none_ahead (take w.near.live w.near.entries.items) t empty)
 
 -- the first of a map, as it is told
 pub far_first_is : (far far' : Turn → Option Pending) (t : Turn) (p : Pending) (cs : Option (List Change)) → far t ≡ Some p → changes_of p ≡ cs → ((q : Turn) → IsSome (far q) → is_gt (turn_cmp t q) ≡ false) → far' t ≡ None → ((q : Turn) → is_at (turn_cmp t) q ≡ false → far' q ≡ far q) → IsFarFirst far far' t cs

@@ -1,5 +1,6 @@
 pub mod Cones
 pub mod Entries
+pub mod Listed
 pub mod Meaning
 pub mod Telling
 pub mod Touch

@@ -1,8 +1,9 @@
 -- How the new outcome of an id is told to those that use it.
-use Rattle.std.specs.Prelude.{◌≡◌, ◌≢◌, ◌⊎◌, ℕ, suc, ℤ, cond, nat_eq, not, List, [], ◌∷◌, map, slice_get, slice_index_or, slice_set, Option, Some, None}
+use Rattle.std.specs.Prelude.{◌≡◌, ◌≢◌, ◌⊎◌, ℕ, suc, ◌+◌, ◌*◌, ◌≤◌, ℤ, Bool, cond, nat_eq, not, List, [], ◌∷◌, length, map, slice_get, slice_index_or, slice_set, Option, Some, None, Result, IfOk, OnOk}
 use Rattle.std.specs.List.{filter}
 use Rattle.cbl_base.specs.Sets.{is_member}
 use Rattle.cbl_base.specs.Changes.{place_of, IsChange, NoneAt, AreChanges, after_change, after_changes}
+use Rattle.cbl_base.specs.declared.faults.NoMemory.{NoMemory}
 use Rattle.cbl_base.specs.declared.ids.NodeId.{NodeId}
 use Rattle.cbl_base.specs.declared.input.Input.{Input}
 use Rattle.cbl_base.specs.declared.input.Input.TheVariants.{Int, Set}
@@ -10,7 +11,9 @@ use Rattle.cbl_base.specs.declared.input.Change.{Change}
 use Rattle.cbl_base.specs.declared.input.Change.TheVariants.{Int as IntChange, Set as SetChange}
 use Rattle.store_turns.specs.declared.outcome.Outcome.{Outcome}
 use Rattle.store_turns.specs.declared.outcome.Outcome.TheVariants.{Value}
+use Rattle.store_turns.specs.Cones.{has, chosen}
 use Rattle.store_turns.specs.Meaning.{values_of}
+use Rattle.store_turns.specs.Touch.{differs}
 use Rattle.store_turns.specs.Waits.{Wait, and_change}
 
 -- the members of a set that another lacks
@@ -51,6 +54,20 @@ abbrev pub blocked : List ℕ → Wait → Wait
 blocked [] w = w
 blocked (p ∷ ps) w = Some None
 
+-- the members among those that use an id
+abbrev pub users_among : List Bool → List (NodeId × ℕ) → List (NodeId × ℕ)
+users_among members uses = chosen (has members) uses
+
+-- from u to v each user got these changes at its places, and nothing else is another
+pub record ArePushed (layer : ℕ → ℕ) (uses : List (NodeId × ℕ)) (change : ℕ → Change) (u v : ℕ → ℕ → Wait) : Type 0 where
+  pub here : (j : ℕ) → v (layer j) j ≡ pushed (map change (places_in j uses)) (u (layer j) j)
+  pub elsewhere : (l j : ℕ) → l ≢ layer j → v l j ≡ u l j
+
+-- from u to v each user heard that there is no value, and nothing else is another
+pub record AreBlocked (layer : ℕ → ℕ) (uses : List (NodeId × ℕ)) (u v : ℕ → ℕ → Wait) : Type 0 where
+  pub here : (j : ℕ) → v (layer j) j ≡ blocked (places_in j uses) (u (layer j) j)
+  pub elsewhere : (l j : ℕ) → l ≢ layer j → v l j ≡ u l j
+
 -- the outcome is no value
 abbrev pub IsLost : Outcome → Type 0
 IsLost o = (x : Input) → o ≢ Value x
@@ -62,6 +79,13 @@ IsTold layer uses old outcome u v =
     ((outcome ≡ Value old) × ((l j : ℕ) → v l j ≡ u l j))
     ⊎ (((new : Input) × (outcome ≡ Value new) × (old ≢ new) × LeadsTo old new × ((j : ℕ) → v (layer j) j ≡ pushed (map (λ p. change_to p old new) (places_in j uses)) (u (layer j) j)) × ((l j : ℕ) → l ≢ layer j → v l j ≡ u l j))
     ⊎ (IsLost outcome × ((j : ℕ) → v (layer j) j ≡ blocked (places_in j uses) (u (layer j) j)) × ((l j : ℕ) → l ≢ layer j → v l j ≡ u l j)))
+
+-- what it comes to to tell these users: whether the outcome is another than the old value; what waits then; and
+-- at most two steps a use, and none where it is the same
+pub record Tells (layer : ℕ → ℕ) (uses : List (NodeId × ℕ)) (old : Input) (outcome : Outcome) (result : Result Bool NoMemory) (u v : ℕ → ℕ → Wait) (base now : ℕ) : Type 0 where
+  pub answer : IfOk result (λ other. other ≡ differs outcome old)
+  pub told : OnOk result (IsTold layer uses old outcome u v)
+  pub steps : now ≤ base + 2 * cond (differs outcome old) (length uses) 0
 
 -- the changes that are to come, if all inputs have values
 abbrev pub to_come : Wait → Option (List Change)

@@ -1,5 +1,5 @@
 //! What a node comes to.
-ghost use Rattle.std.specs.Prelude.{◌≡◌, IfOk, not};
+ghost use Rattle.std.specs.Prelude.{◌≡◌, not, IfOk};
 ghost use Rattle.cbl_base.specs.Inputs.{kind_of};
 ghost use Rattle.cbl_base.specs.Sets.{IsRising};
 ghost use Rattle.store_turns.specs.Telling.{LeadsTo};
@@ -7,7 +7,6 @@ ghost use Rattle.store_turns.specs.Touch.{differs, same_members};
 ghost use Rattle.store_turns.specs.declared.outcome.Outcome.TheVariants.{Value};
 
 use cbl_base::{Input, IntSet, NoMemory, NodeValue, RunFault};
-use std::alloc::Global;
 
 /// A value, a fault of its own, or nothing, where one of its inputs has no value.
 #[derive(Drop, Debug)]
@@ -41,22 +40,8 @@ fn same_set(old: &IntSet, new: &IntSet) -> bool
 }
 
 /// A copy of a value.
-pub fn copy_of(alloc: Global, value: &NodeValue) -> Result<NodeValue, NoMemory>
+pub fn copy_of(value: &NodeValue) -> Result<NodeValue, NoMemory>
     ensures { IfOk result (λ copy. copy ≡ value.now) }
 {
-    match value {
-        Input::Int(number) => Ok(Input::Int(*number)),
-        Input::Set(set) => {
-            let copy = copy_of_set(alloc, set)?;
-            Ok(Input::Set(copy))
-        }
-    }
-}
-
-/// A copy of a set.
-fn copy_of_set(alloc: Global, set: &IntSet) -> Result<IntSet, NoMemory>
-    ensures { IfOk result (λ copy. copy ≡ set.now) }
-{
-    let copy = IntSet::from_slice(alloc, set.as_slice())?;
-    Ok(copy)
+    Ok(value.clone()?)
 }

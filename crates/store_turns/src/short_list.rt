@@ -1,9 +1,8 @@
 //! A short list of nodes that wait, in no order.
 ghost use Rattle.std.specs.Prelude.{◌≡◌, ◌+◌, ◌*◌, ◌<◌, ◌≤◌, true, [], ◌∷◌, take, Some, None, length, OnOk, MatchOption, MatchBool, option_copied};
-ghost use Rattle.std.specs.Option.{option_map};
 ghost use Rattle.std.specs.BTreeMap.{is_at};
 ghost use Rattle.cbl_base.specs.declared.input.Change.TheVariants.{Int as IntChange};
-ghost use Rattle.store_turns.specs.Entries.{are_distinct, changes_of, and_change, look, turn_at, pending_at, turn_cmp, IsBefore, IsLeast, NotAfter, Puts, SameBut};
+ghost use Rattle.store_turns.specs.Entries.{are_distinct, changes_of, and_change, look, turn_cmp, IsBefore, IsLeast, NotAfter, Puts};
 
 use crate::waiting::{Pending, Turn};
 use cbl_base::{Change, NoMemory};
@@ -21,6 +20,8 @@ pub(crate) struct ShortList {
 }
 
 impl ShortList {
+    ghost use Rattle.store_turns.specs.Listed.{listed, behind, turn_in, IsFoundAt, ListedFor, GetsAt};
+
     /// Nothing waits.
     pub(crate) fn new(alloc: Global) -> ShortList
         ensures { result.live ≡ 0 }
@@ -47,9 +48,8 @@ impl ShortList {
 
     /// The place of a node.
     pub(crate) fn place_of(&self, turn: Turn) -> Option<usize>
-        ensures { MatchOption result (look turn (take self.now.live self.now.entries.items) ≡ None)
-            (λ place. (place < length (take self.now.live self.now.entries.items)) ×
-            (turn_at (take self.now.live self.now.entries.items) place ≡ turn)) }
+        ensures { MatchOption result (look turn (listed self.now) ≡ None)
+            (λ place. (place < length (listed self.now)) × (turn_in self.now place ≡ turn)) }
     {
         for (place, entry) in self.entries[..self.live].iter().enumerate() {
             if is_same(turn, entry.0) {
@@ -61,10 +61,9 @@ impl ShortList {
 
     /// The place of the first node by layer and then by id.
     pub(crate) fn first(&self) -> Option<usize>
-        ensures { MatchOption result (take self.now.live self.now.entries.items ≡ []) (λ place.
-            (place < length (take self.now.live self.now.entries.items)) ×
-            IsLeast (turn_at (take self.now.live self.now.entries.items) place)
-            (take self.now.live self.now.entries.items)) }
+        ensures { MatchOption result (listed self.now ≡ []) (λ place.
+            (place < length (listed self.now)) ×
+            IsLeast (turn_in self.now place) (listed self.now)) }
     {
         if self.live == 0 {
             return None;
@@ -82,8 +81,8 @@ impl ShortList {
 
     /// The turn at a place.
     pub(crate) fn turn(&self, place: usize) -> Turn
-        requires { place < length (take self.now.live self.now.entries.items) }
-        ensures { result ≡ turn_at (take self.now.live self.now.entries.items) place }
+        requires { place < length (listed self.now) }
+        ensures { result ≡ turn_in self.now place }
     {
         self.entries[place].0
     }
@@ -95,11 +94,8 @@ impl ShortList {
         turn: Turn,
         change: Change,
     ) -> Result<(), NoMemory>
-        requires { look turn (take self.old.live self.old.entries.items) ≡ None }
-        ensures here { OnOk result (option_map changes_of
-            (look turn (take self.new.live self.new.entries.items)) ≡ Some (Some (change ∷ []))) }
-        ensures elsewhere { OnOk result (SameBut turn (take self.old.live self.old.entries.items)
-            (take self.new.live self.new.entries.items)) }
+        requires { look turn (listed self.old) ≡ None }
+        ensures { OnOk result (ListedFor turn (Some (Some (change ∷ []))) self.old self.new) }
     {
         self.make_room()?;
         let entry = &mut self.entries[self.live];
@@ -119,12 +115,9 @@ impl ShortList {
         old: &i64,
         new: &i64,
     ) -> Result<(), NoMemory>
-        requires { look turn (take self.old.live self.old.entries.items) ≡ None }
-        ensures here { OnOk result (option_map changes_of
-            (look turn (take self.new.live self.new.entries.items)) ≡
-            Some (Some (IntChange place old.now new.now ∷ []))) }
-        ensures elsewhere { OnOk result (SameBut turn (take self.old.live self.old.entries.items)
-            (take self.new.live self.new.entries.items)) }
+        requires { look turn (listed self.old) ≡ None }
+        ensures { OnOk result (ListedFor turn
+            (Some (Some (IntChange place old.now new.now ∷ []))) self.old self.new) }
     {
         self.make_room()?;
         let entry = &mut self.entries[self.live];
@@ -136,11 +129,8 @@ impl ShortList {
 
     /// An input of a node for which nothing waited has no value.
     pub(crate) fn begin_blocked(&mut self, turn: Turn) -> Result<(), NoMemory>
-        requires { look turn (take self.old.live self.old.entries.items) ≡ None }
-        ensures here { OnOk result (option_map changes_of
-            (look turn (take self.new.live self.new.entries.items)) ≡ Some None) }
-        ensures elsewhere { OnOk result (SameBut turn (take self.old.live self.old.entries.items)
-            (take self.new.live self.new.entries.items)) }
+        requires { look turn (listed self.old) ≡ None }
+        ensures { OnOk result (ListedFor turn (Some None) self.old self.new) }
     {
         self.make_room()?;
         self.entries[self.live] = (turn, Pending::Below);
@@ -152,8 +142,7 @@ impl ShortList {
     fn make_room(&mut self) -> Result<(), NoMemory>
         ensures room { OnOk result (self.new.live < length self.new.entries.items) }
         ensures live { self.new.live ≡ self.old.live }
-        ensures same { take self.new.live self.new.entries.items ≡
-            take self.old.live self.old.entries.items }
+        ensures same { listed self.new ≡ listed self.old }
     {
         if self.live == self.entries.len() {
             let turn = Turn { layer: 0, id: 0 };
@@ -164,19 +153,9 @@ impl ShortList {
 
     /// One more change waits for the node at a place.
     pub(crate) fn add(&mut self, place: usize, change: Change) -> Result<(), NoMemory>
-        requires { place < length (take self.old.live self.old.entries.items) }
-        ensures before { look (turn_at (take self.old.live self.old.entries.items) place)
-            (take self.old.live self.old.entries.items) ≡
-            Some (pending_at (take self.old.live self.old.entries.items) place) }
-        ensures here { OnOk result (option_map changes_of
-            (look (turn_at (take self.old.live self.old.entries.items) place)
-            (take self.new.live self.new.entries.items)) ≡
-            Some (and_change change (Some (changes_of
-            (pending_at (take self.old.live self.old.entries.items) place))))) }
-        ensures elsewhere { OnOk result (SameBut
-            (turn_at (take self.old.live self.old.entries.items) place)
-            (take self.old.live self.old.entries.items)
-            (take self.new.live self.new.entries.items)) }
+        requires { place < length (listed self.old) }
+        ensures before { IsFoundAt self.old place }
+        ensures after { OnOk result (GetsAt place change self.old self.new) }
     {
         add_to(&mut self.entries[place].1, change)
     }
@@ -190,44 +169,28 @@ impl ShortList {
         old: &i64,
         new: &i64,
     ) -> Result<(), NoMemory>
-        requires { at < length (take self.old.live self.old.entries.items) }
-        ensures before { look (turn_at (take self.old.live self.old.entries.items) at)
-            (take self.old.live self.old.entries.items) ≡
-            Some (pending_at (take self.old.live self.old.entries.items) at) }
-        ensures here { OnOk result (option_map changes_of
-            (look (turn_at (take self.old.live self.old.entries.items) at)
-            (take self.new.live self.new.entries.items)) ≡
-            Some (and_change (IntChange place old.now new.now) (Some (changes_of
-            (pending_at (take self.old.live self.old.entries.items) at))))) }
-        ensures elsewhere { OnOk result (SameBut
-            (turn_at (take self.old.live self.old.entries.items) at)
-            (take self.old.live self.old.entries.items)
-            (take self.new.live self.new.entries.items)) }
+        requires { at < length (listed self.old) }
+        ensures before { IsFoundAt self.old at }
+        ensures after { OnOk result (GetsAt at
+            (IntChange place old.now new.now) self.old self.new) }
     {
         add_number_to(&mut self.entries[at].1, place, old, new)
     }
 
     /// An input of the node at a place has no value. It answers what waited.
     pub(crate) fn block(&mut self, place: usize) -> Pending
-        requires { place < length (take self.old.live self.old.entries.items) }
-        ensures here { option_map changes_of
-            (look (turn_at (take self.old.live self.old.entries.items) place)
-            (take self.new.live self.new.entries.items)) ≡ Some None }
-        ensures elsewhere { SameBut (turn_at (take self.old.live self.old.entries.items) place)
-            (take self.old.live self.old.entries.items)
-            (take self.new.live self.new.entries.items) }
+        requires { place < length (listed self.old) }
+        ensures { ListedFor (turn_in self.old place) (Some None) self.old self.new }
     {
         mem::replace(&mut self.entries[place].1, Pending::Below)
     }
 
     /// The node at a place waits no more. What waited stands behind those that wait.
     pub(crate) fn take(&mut self, place: usize) -> Turn
-        requires { place < length (take self.old.live self.old.entries.items) }
-        ensures turn { result ≡ turn_at (take self.old.live self.old.entries.items) place }
-        ensures before { look result (take self.old.live self.old.entries.items) ≡
-            Some (pending_at self.new.entries.items self.new.live) }
-        ensures after { Puts result None (take self.old.live self.old.entries.items)
-            (take self.new.live self.new.entries.items) }
+        requires { place < length (listed self.old) }
+        ensures turn { result ≡ turn_in self.old place }
+        ensures before { look result (listed self.old) ≡ Some (behind self.new) }
+        ensures after { Puts result None (listed self.old) (listed self.new) }
     {
         let turn = self.entries[place].0;
         self.live -= 1;
@@ -237,8 +200,7 @@ impl ShortList {
 
     /// The changes that stand behind those that wait.
     pub(crate) fn taken(&self) -> Option<&[Change]>
-        ensures { option_copied result ≡ changes_of
-            (pending_at self.now.entries.items self.now.live) }
+        ensures { option_copied result ≡ changes_of (behind self.now) }
     {
         match self.entries.get(self.live) {
             Some(entry) => changes_in(&entry.1),

@@ -1,13 +1,12 @@
 //! The new outcome of a node is told to those that use it.
-ghost use Rattle.std.specs.Prelude.{◌≡◌, ◌≢◌, ℕ, ◌+◌, ◌*◌, ◌<◌, ◌≤◌, true, cond, length, map, slice_index_or, IfOk, OnOk, All};
+ghost use Rattle.std.specs.Prelude.{◌≡◌, ◌+◌, ◌*◌, ◌<◌, ◌≤◌, true, length, IfOk, OnOk, All};
 ghost use Rattle.cbl_base.specs.Inputs.{kind_of};
 ghost use Rattle.cbl_base.specs.declared.input.Input.{Input};
 ghost use Rattle.cbl_base.specs.declared.input.Input.TheVariants.{Int};
 ghost use Rattle.store_turns.specs.declared.outcome.Outcome.TheVariants.{Value};
 ghost use Rattle.store_turns.specs.Waits.{waits};
-ghost use Rattle.store_turns.specs.Touch.{differs};
-ghost use Rattle.store_turns.specs.Cones.{has, chosen};
-ghost use Rattle.store_turns.specs.Telling.{change_to, places_in, pushed, blocked, layer_in, IsTold};
+ghost use Rattle.store_turns.specs.Cones.{has};
+ghost use Rattle.store_turns.specs.Telling.{change_to, layer_in, users_among, ArePushed, AreBlocked, Tells};
 
 use crate::outcome::{Outcome, same};
 use crate::set_changes::change_to;
@@ -29,11 +28,8 @@ pub fn tell<L: Ledger>(
 ) -> Result<bool, NoMemory>
     requires users { All (λ u. u.0.0 < length layers.now) uses.now }
     requires kinds { (x : Input) → outcome.now ≡ Value x → kind_of x ≡ kind_of old.now }
-    ensures answer { IfOk result (λ r. r ≡ differs outcome.now old.now) }
-    ensures told { OnOk result (IsTold (layer_in layers.now) (chosen (has members.now) uses.now) old.now outcome.now
-        (waits waiting.old) (waits waiting.new)) }
-    ensures steps { steps.new ≤ steps.old + 2 * cond (differs outcome.now old.now)
-        (length (chosen (has members.now) uses.now)) 0 }
+    ensures { Tells (layer_in layers.now) (users_among members.now uses.now) old.now outcome.now
+        result (waits waiting.old) (waits waiting.new) steps.old steps.new }
 {
     match outcome {
         Outcome::Value(new) => tell_value(waiting, layers, uses, members, old, new, steps),
@@ -55,11 +51,8 @@ fn tell_value<L: Ledger>(
 ) -> Result<bool, NoMemory>
     requires users { All (λ u. u.0.0 < length layers.now) uses.now }
     requires kinds { kind_of new.now ≡ kind_of old.now }
-    ensures answer { IfOk result (λ r. r ≡ differs (Value new.now) old.now) }
-    ensures told { OnOk result (IsTold (layer_in layers.now) (chosen (has members.now) uses.now) old.now (Value new.now)
-        (waits waiting.old) (waits waiting.new)) }
-    ensures steps { steps.new ≤ steps.old + 2 * cond (differs (Value new.now) old.now)
-        (length (chosen (has members.now) uses.now)) 0 }
+    ensures { Tells (layer_in layers.now) (users_among members.now uses.now) old.now (Value new.now)
+        result (waits waiting.old) (waits waiting.new) steps.old steps.new }
 {
     match (old, new) {
         (Input::Int(a), Input::Int(b)) => tell_number(waiting, layers, uses, members, a, b, steps),
@@ -78,12 +71,9 @@ fn tell_number<L: Ledger>(
     steps: &mut Steps<L>,
 ) -> Result<bool, NoMemory>
     requires users { All (λ u. u.0.0 < length layers.now) uses.now }
-    ensures answer { IfOk result (λ r. r ≡ differs (Value (Int new.now)) (Int old.now)) }
-    ensures told { OnOk result (IsTold (layer_in layers.now) (chosen (has members.now) uses.now)
-        (Int old.now)
-        (Value (Int new.now)) (waits waiting.old) (waits waiting.new)) }
-    ensures steps { steps.new ≤ steps.old + 2 *
-        cond (differs (Value (Int new.now)) (Int old.now)) (length (chosen (has members.now) uses.now)) 0 }
+    ensures { Tells (layer_in layers.now) (users_among members.now uses.now)
+        (Int old.now) (Value (Int new.now))
+        result (waits waiting.old) (waits waiting.new) steps.old steps.new }
 {
     if *old == *new {
         return Ok(false);
@@ -103,13 +93,9 @@ fn push_numbers<L: Ledger>(
     steps: &mut Steps<L>,
 ) -> Result<(), NoMemory>
     requires users { All (λ u. u.0.0 < length layers.now) uses.now }
-    ensures here { OnOk result ((j : ℕ) →
-        waits waiting.new (layer_in layers.now j) j ≡
-        pushed (map (λ p. change_to p (Int old.now) (Int new.now)) (places_in j (chosen (has members.now) uses.now)))
-        (waits waiting.old (layer_in layers.now j) j)) }
-    ensures elsewhere { OnOk result ((l j : ℕ) → l ≢ layer_in layers.now j →
-        waits waiting.new l j ≡ waits waiting.old l j) }
-    ensures steps { steps.new ≤ steps.old + 2 * length (chosen (has members.now) uses.now) }
+    ensures told { OnOk result (ArePushed (layer_in layers.now) (users_among members.now uses.now)
+        (λ p. change_to p (Int old.now) (Int new.now)) (waits waiting.old) (waits waiting.new)) }
+    ensures steps { steps.new ≤ steps.old + 2 * length (users_among members.now uses.now) }
 {
     for (id, place) in uses {
         if !has(members, *id) {
@@ -132,11 +118,8 @@ fn tell_any<L: Ledger>(
 ) -> Result<bool, NoMemory>
     requires users { All (λ u. u.0.0 < length layers.now) uses.now }
     requires kinds { kind_of new.now ≡ kind_of old.now }
-    ensures answer { IfOk result (λ r. r ≡ differs (Value new.now) old.now) }
-    ensures told { OnOk result (IsTold (layer_in layers.now) (chosen (has members.now) uses.now) old.now (Value new.now)
-        (waits waiting.old) (waits waiting.new)) }
-    ensures steps { steps.new ≤ steps.old + 2 * cond (differs (Value new.now) old.now)
-        (length (chosen (has members.now) uses.now)) 0 }
+    ensures { Tells (layer_in layers.now) (users_among members.now uses.now) old.now (Value new.now)
+        result (waits waiting.old) (waits waiting.new) steps.old steps.new }
 {
     if same(old, new) {
         return Ok(false);
@@ -157,13 +140,9 @@ fn push_all<L: Ledger>(
 ) -> Result<(), NoMemory>
     requires users { All (λ u. u.0.0 < length layers.now) uses.now }
     requires kinds { kind_of new.now ≡ kind_of old.now }
-    ensures here { OnOk result ((j : ℕ) →
-        waits waiting.new (layer_in layers.now j) j ≡
-        pushed (map (λ p. change_to p old.now new.now) (places_in j (chosen (has members.now) uses.now)))
-        (waits waiting.old (layer_in layers.now j) j)) }
-    ensures elsewhere { OnOk result ((l j : ℕ) → l ≢ layer_in layers.now j →
-        waits waiting.new l j ≡ waits waiting.old l j) }
-    ensures steps { steps.new ≤ steps.old + 2 * length (chosen (has members.now) uses.now) }
+    ensures told { OnOk result (ArePushed (layer_in layers.now) (users_among members.now uses.now)
+        (λ p. change_to p old.now new.now) (waits waiting.old) (waits waiting.new)) }
+    ensures steps { steps.new ≤ steps.old + 2 * length (users_among members.now uses.now) }
 {
     let alloc = waiting.alloc();
     for (id, place) in uses {
@@ -187,12 +166,9 @@ fn block_all<L: Ledger>(
 ) -> Result<bool, NoMemory>
     requires users { All (λ u. u.0.0 < length layers.now) uses.now }
     ensures answer { IfOk result (λ r. r ≡ true) }
-    ensures here { OnOk result ((j : ℕ) →
-        waits waiting.new (layer_in layers.now j) j ≡
-        blocked (places_in j (chosen (has members.now) uses.now)) (waits waiting.old (layer_in layers.now j) j)) }
-    ensures elsewhere { OnOk result ((l j : ℕ) → l ≢ layer_in layers.now j →
-        waits waiting.new l j ≡ waits waiting.old l j) }
-    ensures steps { steps.new ≤ steps.old + length (chosen (has members.now) uses.now) }
+    ensures told { OnOk result (AreBlocked (layer_in layers.now)
+        (users_among members.now uses.now) (waits waiting.old) (waits waiting.new)) }
+    ensures steps { steps.new ≤ steps.old + length (users_among members.now uses.now) }
 {
     for (id, _) in uses {
         if !has(members, *id) {

@@ -1,9 +1,9 @@
 //! The nodes that wait for their turn.
-ghost use Rattle.std.specs.Prelude.{◌≡◌, ℕ, ◌+◌, ◌<◌, ◌≤◌, ◌⊎◌, [], ◌∷◌, take, None, Some, IsSome, IfSome, OnOk, MatchOption, MatchBool, length, option_copied};
+ghost use Rattle.std.specs.Prelude.{◌≡◌, ◌+◌, ◌<◌, [], None, Some, IsSome, IfSome, OnOk, MatchOption, MatchBool, length, option_copied};
 ghost use Rattle.std.specs.BTreeMap.{get};
 ghost use Rattle.cbl_base.specs.declared.input.Input.TheVariants.{Int};
 ghost use Rattle.store_turns.specs.Telling.{change_to};
-ghost use Rattle.store_turns.specs.Waits.{waits, taken_of, changes_of, and_change, turn_cmp, look, turn_at, NotAfter, IsBefore, IsLeast, SameElsewhere, IsFirst, IsFarFirst, IsGone};
+ghost use Rattle.store_turns.specs.Waits.{waits, taken_of, changes_of, turn_cmp, look, listed, turn_in, far_at, NotAfter, IsBefore, IsLeast, NothingWaits, WaitsFor, Gets, IsTaken, IsFarFirst};
 
 use crate::short_list::{ShortList, add_to, changes_in, is_before};
 use cbl_base::{Change, NoMemory, Steps};
@@ -47,7 +47,7 @@ pub struct Waiting {
 impl Waiting {
     /// Nothing waits.
     pub fn new(alloc: Global) -> Waiting
-        ensures { (l i : ℕ) → waits result l i ≡ None }
+        ensures { NothingWaits result }
     {
         Waiting {
             near: ShortList::new(alloc),
@@ -61,7 +61,7 @@ impl Waiting {
 
     /// Nothing waits from now on.
     pub fn clear(&mut self)
-        ensures { (l i : ℕ) → waits self.new l i ≡ None }
+        ensures { NothingWaits self.new }
     {
         self.near.clear();
         self.far.clear();
@@ -79,10 +79,7 @@ impl Waiting {
         change: Change,
         steps: &mut Steps<L>,
     ) -> Result<(), NoMemory>
-        ensures here { OnOk result (waits self.new turn.layer turn.id ≡
-            Some (and_change change (waits self.old turn.layer turn.id))) }
-        ensures elsewhere { OnOk result (SameElsewhere (waits self.new)
-            (waits self.old) turn.layer turn.id) }
+        ensures waiting { OnOk result (Gets turn change self.old self.new) }
         ensures steps { steps.new ≡ steps.old + 2 }
     {
         steps.tick();
@@ -102,11 +99,8 @@ impl Waiting {
         new: &i64,
         steps: &mut Steps<L>,
     ) -> Result<(), NoMemory>
-        ensures here { OnOk result (waits self.new turn.layer turn.id ≡
-            Some (and_change (change_to place (Int old.now) (Int new.now))
-            (waits self.old turn.layer turn.id))) }
-        ensures elsewhere { OnOk result (SameElsewhere (waits self.new)
-            (waits self.old) turn.layer turn.id) }
+        ensures waiting { OnOk result (Gets turn
+            (change_to place (Int old.now) (Int new.now)) self.old self.new) }
         ensures steps { steps.new ≡ steps.old + 2 }
     {
         steps.tick();
@@ -119,9 +113,7 @@ impl Waiting {
 
     /// An input of the node has no value. One step.
     pub fn block<L: Ledger>(&mut self, turn: Turn, steps: &mut Steps<L>) -> Result<(), NoMemory>
-        ensures here { OnOk result (waits self.new turn.layer turn.id ≡ Some None) }
-        ensures elsewhere { OnOk result (SameElsewhere (waits self.new)
-            (waits self.old) turn.layer turn.id) }
+        ensures waiting { OnOk result (WaitsFor turn (Some None) self.old self.new) }
         ensures steps { steps.new ≡ steps.old + 1 }
     {
         steps.tick();
@@ -139,14 +131,8 @@ impl Waiting {
     /// `None` exactly where nothing waits. One step.
     #[inline(always)]
     pub fn pop<L: Ledger>(&mut self, steps: &mut Steps<L>) -> Option<Turn>
-        ensures none { MatchOption result ((l i : ℕ) →
-            waits self.old l i ≡ None) (λ t.
-            waits self.old t.layer t.id ≡ Some (taken_of self.new)) }
-        ensures least { MatchOption result (Unit {0}) (λ t. (l i : ℕ) →
-            IsSome (waits self.old l i) → (t.layer < l) ⊎ ((t.layer ≡ l) × (t.id ≤ i))) }
-        ensures here { MatchOption result (Unit {0}) (λ t. waits self.new t.layer t.id ≡ None) }
-        ensures elsewhere { MatchOption result (Unit {0}) (λ t.
-            SameElsewhere (waits self.new) (waits self.old) t.layer t.id) }
+        ensures taken { MatchOption result (NothingWaits self.old)
+            (λ t. IsTaken t self.old self.new) }
         ensures steps { steps.new ≡ steps.old + 1 }
     {
         steps.tick();
@@ -169,12 +155,9 @@ impl Waiting {
 
     /// The first that waits, where the first of the short list stands at a place.
     fn pop_from(&mut self, place: usize) -> Option<Turn>
-        requires place { place < length (take self.old.near.live self.old.near.entries.items) }
-        requires least { IsLeast (turn_at
-            (take self.old.near.live self.old.near.entries.items) place)
-            (take self.old.near.live self.old.near.entries.items) }
-        ensures first { IfSome result (λ t. IsFirst self.old t (taken_of self.new)) }
-        ensures gone { IfSome result (λ t. IsGone self.old self.new t) }
+        requires place { place < length (listed self.old.near) }
+        requires least { IsLeast (turn_in self.old.near place) (listed self.old.near) }
+        ensures taken { IfSome result (λ t. IsTaken t self.old self.new) }
         ensures some { IsSome result }
     {
         if self.far.is_empty() {
@@ -193,10 +176,8 @@ impl Waiting {
     /// The first of the map.
     fn pop_far(&mut self) -> Option<Turn>
         ensures near { self.new.near ≡ self.old.near }
-        ensures far { MatchOption result ((u : Turn) →
-            get turn_cmp self.old.far u ≡ None) (λ t.
-            IsFarFirst (λ u. get turn_cmp self.old.far u) (λ u.
-            get turn_cmp self.new.far u) t (taken_of self.new)) }
+        ensures far { MatchOption result ((u : Turn) → far_at self.old u ≡ None)
+            (λ t. IsFarFirst (far_at self.old) (far_at self.new) t (taken_of self.new)) }
     {
         match self.far.pop_first() {
             None => None,
@@ -211,11 +192,8 @@ impl Waiting {
 
     /// One more change waits for a node that isn't in the short list.
     fn push_later(&mut self, turn: Turn, change: Change) -> Result<(), NoMemory>
-        requires { look turn (take self.old.near.live self.old.near.entries.items) ≡ None }
-        ensures here { OnOk result (waits self.new turn.layer turn.id ≡
-            Some (and_change change (waits self.old turn.layer turn.id))) }
-        ensures elsewhere { OnOk result (SameElsewhere (waits self.new)
-            (waits self.old) turn.layer turn.id) }
+        requires { look turn (listed self.old.near) ≡ None }
+        ensures { OnOk result (Gets turn change self.old self.new) }
     {
         if self.far.is_empty() {
             return self.push_first(turn, change);
@@ -235,12 +213,9 @@ impl Waiting {
         old: &i64,
         new: &i64,
     ) -> Result<(), NoMemory>
-        requires { look turn (take self.old.near.live self.old.near.entries.items) ≡ None }
-        ensures here { OnOk result (waits self.new turn.layer turn.id ≡
-            Some (and_change (change_to place (Int old.now) (Int new.now))
-            (waits self.old turn.layer turn.id))) }
-        ensures elsewhere { OnOk result (SameElsewhere (waits self.new)
-            (waits self.old) turn.layer turn.id) }
+        requires { look turn (listed self.old.near) ≡ None }
+        ensures { OnOk result (Gets turn
+            (change_to place (Int old.now) (Int new.now)) self.old self.new) }
     {
         if self.far.is_empty() {
             if self.near.len() < FEW {
@@ -254,9 +229,7 @@ impl Waiting {
     #[inline(always)]
     fn push_first(&mut self, turn: Turn, change: Change) -> Result<(), NoMemory>
         requires { waits self.old turn.layer turn.id ≡ None }
-        ensures here { OnOk result (waits self.new turn.layer turn.id ≡ Some (Some (change ∷ []))) }
-        ensures elsewhere { OnOk result (SameElsewhere (waits self.new)
-            (waits self.old) turn.layer turn.id) }
+        ensures { OnOk result (Gets turn change self.old self.new) }
     {
         if self.near.len() < FEW {
             return self.near.begin(self.alloc, turn, change);
@@ -268,10 +241,8 @@ impl Waiting {
 
     /// An input of a node that isn't in the short list has no value.
     fn block_later(&mut self, turn: Turn) -> Result<(), NoMemory>
-        requires { look turn (take self.old.near.live self.old.near.entries.items) ≡ None }
-        ensures here { OnOk result (waits self.new turn.layer turn.id ≡ Some None) }
-        ensures elsewhere { OnOk result (SameElsewhere (waits self.new)
-            (waits self.old) turn.layer turn.id) }
+        requires { look turn (listed self.old.near) ≡ None }
+        ensures { OnOk result (WaitsFor turn (Some None) self.old self.new) }
     {
         if self.far.is_empty() {
             return self.block_first(turn);
@@ -288,9 +259,7 @@ impl Waiting {
     /// An input of a node for which nothing waited has no value.
     fn block_first(&mut self, turn: Turn) -> Result<(), NoMemory>
         requires { waits self.old turn.layer turn.id ≡ None }
-        ensures here { OnOk result (waits self.new turn.layer turn.id ≡ Some None) }
-        ensures elsewhere { OnOk result (SameElsewhere (waits self.new)
-            (waits self.old) turn.layer turn.id) }
+        ensures { OnOk result (WaitsFor turn (Some None) self.old self.new) }
     {
         if self.near.len() < FEW {
             return self.near.begin_blocked(turn);
@@ -301,9 +270,7 @@ impl Waiting {
     /// This waits in the map for a node for which nothing waited.
     fn put_far(&mut self, turn: Turn, pending: Pending) -> Result<(), NoMemory>
         requires { waits self.old turn.layer turn.id ≡ None }
-        ensures here { OnOk result (waits self.new turn.layer turn.id ≡ Some (changes_of pending)) }
-        ensures elsewhere { OnOk result (SameElsewhere (waits self.new)
-            (waits self.old) turn.layer turn.id) }
+        ensures { OnOk result (WaitsFor turn (Some (changes_of pending)) self.old self.new) }
     {
         self.far.insert(turn, pending)?;
         Ok(())

@@ -4,6 +4,7 @@ use Rattle.std.specs.BTreeMap.{BTreeMap, get}
 use Rattle.std.specs.Ordering.{nat_cmp}
 use Rattle.cbl_base.specs.Changes.{after_changes}
 use Rattle.cbl_base.specs.NodeLaw.{Rule}
+use Rattle.cbl_base.specs.declared.ids.NodeId.{NodeId}
 use Rattle.cbl_base.specs.declared.input.Input.{Input}
 use Rattle.cbl_base.specs.declared.input.Change.{Change}
 use Rattle.cbl_base.specs.declared.faults.RunFault.{RunFault}
@@ -11,6 +12,7 @@ use Rattle.store_turns.specs.declared.frame.Frame.{Frame}
 use Rattle.store_turns.specs.declared.outcome.Outcome.{Outcome}
 use Rattle.store_turns.specs.declared.outcome.Outcome.TheVariants.{Value, Fails, Missing}
 use Rattle.store_turns.specs.Meaning.{outcome_of, rule_value, inputs_in}
+use Rattle.store_turns.specs.Telling.{places_in}
 use Rattle.store_turns.specs.Waits.{waits}
 use Rattle.store_build.specs.Frames.{cell_of}
 use Rattle.inc_store.specs.declared.changed.NodeChange.{NodeChange}
@@ -53,6 +55,10 @@ lesser (Some a) (Some b) = Some (cond (nat_le a.0 b.0) a b)
 abbrev pub noted : List ℕ → Option (ℕ × RunFault) → Option (ℕ × RunFault) → Option (ℕ × RunFault)
 noted [] root r = r
 noted (p ∷ ps) root r = lesser root r
+
+-- each id that uses another at a place is noted to stand on this root
+abbrev pub AreNoted : List (NodeId × ℕ) → Option (ℕ × RunFault) → BTreeMap ℕ (ℕ × RunFault) → BTreeMap ℕ (ℕ × RunFault) → Type 0
+AreNoted uses root old new = (j : ℕ) → get nat_cmp new j ≡ noted (places_in j uses) root (get nat_cmp old j)
 
 -- what an id comes to by what waited for it: a cell has the value of the one id in its list, and a node
 -- is asked for its value after the changes

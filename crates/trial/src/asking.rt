@@ -15,14 +15,12 @@ ghost use Rattle.trial.specs.Overlays.{asked, new_or, root_by, root_steps};
 use crate::overlay::Overlay;
 use cbl_base::{Change, NoMemory, NodeFault, NodeId, NodeRule, NodeValue, RunFault, Steps};
 use inc_store::{NodeChange, Store};
-use std::alloc::Global;
 use std::sync::ledger::Ledger;
 use store_turns::{Frame, Outcome, copy_of};
 
 /// What an id comes to in its turn, by what waited for it, which is taken. At most as many steps as there are
 /// changes, and one more, with that of `root_of`.
 pub(crate) fn came_to<N: NodeRule, L: Ledger>(
-    alloc: Global,
     store: &Store<N>,
     frame: &Frame,
     overlay: &Overlay,
@@ -50,7 +48,7 @@ pub(crate) fn came_to<N: NodeRule, L: Ledger>(
         None => Ok(Outcome::Missing),
         Some(changes) => {
             if id < frame.first {
-                copied(alloc, frame, overlay, id, old, steps)
+                copied(frame, overlay, id, old, steps)
             } else {
                 probed(store, id, changes, steps)
             }
@@ -78,7 +76,6 @@ pub(crate) fn root_of<L: Ledger>(
 
 /// What a defined variable comes to: the value of the one node in its list. One step.
 fn copied<L: Ledger>(
-    alloc: Global,
     frame: &Frame,
     overlay: &Overlay,
     id: u32,
@@ -93,7 +90,7 @@ fn copied<L: Ledger>(
     ensures steps { steps.new ≡ steps.old + 1 }
 {
     let input = frame.inputs[id as usize][0];
-    let value = copy_of(alloc, newest(overlay.changed(input.0, steps), old))?;
+    let value = copy_of(newest(overlay.changed(input.0, steps), old))?;
     Ok(Outcome::Value(value))
 }
 

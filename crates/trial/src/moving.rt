@@ -13,13 +13,11 @@ use crate::overlay::Overlay;
 use crate::settling::settle;
 use cbl_base::{Input, NoMemory, NodeId, NodeRule, Steps, VarId};
 use inc_store::Store;
-use std::alloc::Global;
 use std::sync::ledger::Ledger;
 use store_turns::{Outcome, has};
 
 /// Each moved cell that is a member takes its number.
 pub(crate) fn move_all<N: NodeRule, L: Ledger>(
-    alloc: Global,
     store: &Store<N>,
     members: &[bool],
     overlay: &mut Overlay,
@@ -33,7 +31,8 @@ pub(crate) fn move_all<N: NodeRule, L: Ledger>(
     requires moves { AreMoves (part_graph query.part) query.ask.moves }
     requires asked { query.ask.moves ≡ moves_of (has members.now) moves.now }
     requires course { InQuery query overlay.old
-        (LaterThanMoves query.part.frame query.ask.moves) (steps.old + 2 * length query.ask.moves + 4) }
+        (LaterThanMoves query.part.frame query.ask.moves)
+        (steps.old + 2 * length query.ask.moves + 4) }
     ensures course { OnOk result (InQuery query overlay.new
         (NotBefore first_front (layer_of query.part.frame)) (steps.new + 4)) }
     ensures limit { IsPaid query steps.new }
@@ -45,7 +44,6 @@ pub(crate) fn move_all<N: NodeRule, L: Ledger>(
         }
         let old = store.read(NodeId(var.index), steps);
         settle(
-            alloc,
             frame,
             members,
             overlay,

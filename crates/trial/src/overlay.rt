@@ -1,8 +1,8 @@
 //! The values that are others in a trial, and what is lost in it.
-ghost use Rattle.std.specs.Prelude.{◌≡◌, ◌≢◌, ℕ, ◌+◌, Some, None, OnOk, option_copied};
+ghost use Rattle.std.specs.Prelude.{◌≡◌, ◌+◌, Some, OnOk, option_copied};
 ghost use Rattle.std.specs.BTreeMap.{get};
 ghost use Rattle.std.specs.Ordering.{nat_cmp};
-ghost use Rattle.inc_store.specs.Course.{changed_at};
+ghost use Rattle.inc_store.specs.Course.{changed_at, IsPut};
 ghost use Rattle.trial.specs.Overlays.{IsEmpty, lesser};
 
 use crate::changes::Changes;
@@ -83,10 +83,8 @@ impl Overlay {
         new: NodeValue,
         steps: &mut Steps<L>,
     ) -> Result<(), NoMemory>
-        ensures here { OnOk result (get nat_cmp self.new.changes id ≡
-            Some (changed_at id old new)) }
-        ensures elsewhere { OnOk result ((j : ℕ) → j ≢ id →
-            get nat_cmp self.new.changes j ≡ get nat_cmp self.old.changes j) }
+        ensures change { OnOk result (IsPut id (Some (changed_at id old new))
+            self.old.changes self.new.changes) }
         ensures waiting { OnOk result (self.new.waiting ≡ self.old.waiting) }
         ensures lost { OnOk result (self.new.lost ≡ self.old.lost) }
         ensures roots { OnOk result (self.new.roots ≡ self.old.roots) }
@@ -104,9 +102,7 @@ impl Overlay {
         own: Option<RunFault>,
         steps: &mut Steps<L>,
     ) -> Result<(), NoMemory>
-        ensures here { OnOk result (get nat_cmp self.new.lost id ≡ Some own) }
-        ensures elsewhere { OnOk result ((j : ℕ) → j ≢ id →
-            get nat_cmp self.new.lost j ≡ get nat_cmp self.old.lost j) }
+        ensures lost { OnOk result (IsPut id (Some own) self.old.lost self.new.lost) }
         ensures waiting { OnOk result (self.new.waiting ≡ self.old.waiting) }
         ensures changes { OnOk result (self.new.changes ≡ self.old.changes) }
         ensures roots { OnOk result (self.new.roots ≡ self.old.roots) }
@@ -124,10 +120,8 @@ impl Overlay {
         root: Option<(u32, RunFault)>,
         steps: &mut Steps<L>,
     ) -> Result<(), NoMemory>
-        ensures here { OnOk result (get nat_cmp self.new.roots id ≡
-            lesser root (get nat_cmp self.old.roots id)) }
-        ensures elsewhere { OnOk result ((j : ℕ) → j ≢ id →
-            get nat_cmp self.new.roots j ≡ get nat_cmp self.old.roots j) }
+        ensures root { OnOk result (IsPut id (lesser root (get nat_cmp self.old.roots id))
+            self.old.roots self.new.roots) }
         ensures waiting { OnOk result (self.new.waiting ≡ self.old.waiting) }
         ensures lost { OnOk result (self.new.lost ≡ self.old.lost) }
         ensures changes { OnOk result (self.new.changes ≡ self.old.changes) }

@@ -8,14 +8,13 @@ ghost use Rattle.store_turns.specs.declared.outcome.Outcome.TheVariants.{Value};
 ghost use Rattle.store_turns.specs.Meaning.{layer_of, uses_in};
 ghost use Rattle.store_turns.specs.Waits.{waits};
 ghost use Rattle.store_turns.specs.Touch.{differs};
-ghost use Rattle.store_turns.specs.Cones.{has, chosen};
-ghost use Rattle.store_turns.specs.Telling.{IsTold, places_in, blocked, layer_in};
-ghost use Rattle.inc_store.specs.Course.{lost_by, change_of};
-ghost use Rattle.trial.specs.Overlays.{noted};
+ghost use Rattle.store_turns.specs.Cones.{has};
+ghost use Rattle.store_turns.specs.Telling.{IsTold, AreBlocked, users_among};
+ghost use Rattle.inc_store.specs.Course.{KeepsLost, KeepsChange};
+ghost use Rattle.trial.specs.Overlays.{AreNoted};
 
 use crate::overlay::Overlay;
 use cbl_base::{NoMemory, NodeId, NodeValue, RunFault, Steps};
-use std::alloc::Global;
 use std::sync::ledger::Ledger;
 use store_turns::{Frame, Outcome, Turn, copy_of, has, tell};
 
@@ -24,7 +23,6 @@ use store_turns::{Frame, Outcome, Turn, copy_of, has, tell};
 /// is another.
 #[inline(always)]
 pub(crate) fn settle<L: Ledger>(
-    alloc: Global,
     frame: &Frame,
     members: &[bool],
     overlay: &mut Overlay,
@@ -40,25 +38,19 @@ pub(crate) fn settle<L: Ledger>(
     requires found { (x : Input) → outcome ≡ Value x → root ≡ None }
     requires unlost { get nat_cmp overlay.old.lost id ≡ None }
     ensures told { OnOk result (IsTold (layer_of frame.now)
-        (chosen (has members.now) (uses_in frame.now id)) old.now outcome
+        (users_among members.now (uses_in frame.now id)) old.now outcome
         (waits overlay.old.waiting) (waits overlay.new.waiting)) }
-    ensures lost_here { OnOk result (get nat_cmp overlay.new.lost id ≡ lost_by outcome) }
-    ensures lost_elsewhere { OnOk result ((j : ℕ) → j ≢ id →
-        get nat_cmp overlay.new.lost j ≡ get nat_cmp overlay.old.lost j) }
-    ensures change_here { OnOk result (get nat_cmp overlay.new.changes id ≡
-        change_of id outcome old.now (get nat_cmp overlay.old.changes id)) }
-    ensures change_elsewhere { OnOk result ((j : ℕ) → j ≢ id →
-        get nat_cmp overlay.new.changes j ≡ get nat_cmp overlay.old.changes j) }
-    ensures roots { OnOk result ((j : ℕ) →
-        get nat_cmp overlay.new.roots j ≡
-        noted (places_in j (chosen (has members.now) (uses_in frame.now id))) root
-        (get nat_cmp overlay.old.roots j)) }
+    ensures lost { OnOk result (KeepsLost id outcome overlay.old.lost overlay.new.lost) }
+    ensures change { OnOk result (KeepsChange id outcome old.now
+        overlay.old.changes overlay.new.changes) }
+    ensures roots { OnOk result (AreNoted (users_among members.now (uses_in frame.now id)) root
+        overlay.old.roots overlay.new.roots) }
     ensures steps { steps.new ≤ steps.old + 1 + 2 * cond (differs outcome old.now)
-        (length (chosen (has members.now) (uses_in frame.now id))) 0 }
+        (length (users_among members.now (uses_in frame.now id))) 0 }
 {
     let uses = frame.uses[id as usize].as_slice();
     let other = spread(frame, members, overlay, uses, old, &outcome, root, steps)?;
-    keep(alloc, overlay, id, old, outcome, other, steps)?;
+    keep(overlay, id, old, outcome, other, steps)?;
     Ok(())
 }
 
@@ -79,16 +71,14 @@ fn spread<L: Ledger>(
     requires found { (x : Input) → outcome.now ≡ Value x → root ≡ None }
     ensures answer { IfOk result (λ r. r ≡ differs outcome.now old.now) }
     ensures told { OnOk result (IsTold (layer_of frame.now)
-        (chosen (has members.now) uses.now) old.now outcome.now
+        (users_among members.now uses.now) old.now outcome.now
         (waits overlay.old.waiting) (waits overlay.new.waiting)) }
     ensures lost { OnOk result (overlay.new.lost ≡ overlay.old.lost) }
     ensures changes { OnOk result (overlay.new.changes ≡ overlay.old.changes) }
-    ensures roots { OnOk result ((j : ℕ) →
-        get nat_cmp overlay.new.roots j ≡
-        noted (places_in j (chosen (has members.now) uses.now)) root
-        (get nat_cmp overlay.old.roots j)) }
+    ensures roots { OnOk result (AreNoted (users_among members.now uses.now) root
+        overlay.old.roots overlay.new.roots) }
     ensures steps { steps.new ≤ steps.old + 2 * cond (differs outcome.now old.now)
-        (length (chosen (has members.now) uses.now)) 0 }
+        (length (users_among members.now uses.now)) 0 }
 {
     match outcome {
         Outcome::Value(_) => tell(
@@ -116,19 +106,13 @@ fn block_users<L: Ledger>(
 ) -> Result<bool, NoMemory>
     requires users { All (λ u. u.0.0 < length frame.now.layers.items) uses.now }
     ensures answer { IfOk result (λ r. r ≡ true) }
-    ensures here { OnOk result ((j : ℕ) →
-        waits overlay.new.waiting (layer_of frame.now j) j ≡
-        blocked (places_in j (chosen (has members.now) uses.now))
-        (waits overlay.old.waiting (layer_of frame.now j) j)) }
-    ensures elsewhere { OnOk result ((l j : ℕ) → l ≢ layer_of frame.now j →
-        waits overlay.new.waiting l j ≡ waits overlay.old.waiting l j) }
+    ensures told { OnOk result (AreBlocked (layer_of frame.now) (users_among members.now uses.now)
+        (waits overlay.old.waiting) (waits overlay.new.waiting)) }
     ensures lost { OnOk result (overlay.new.lost ≡ overlay.old.lost) }
     ensures changes { OnOk result (overlay.new.changes ≡ overlay.old.changes) }
-    ensures roots { OnOk result ((j : ℕ) →
-        get nat_cmp overlay.new.roots j ≡
-        noted (places_in j (chosen (has members.now) uses.now)) root
-        (get nat_cmp overlay.old.roots j)) }
-    ensures steps { steps.new ≤ steps.old + 2 * length (chosen (has members.now) uses.now) }
+    ensures roots { OnOk result (AreNoted (users_among members.now uses.now) root
+        overlay.old.roots overlay.new.roots) }
+    ensures steps { steps.new ≤ steps.old + 2 * length (users_among members.now uses.now) }
 {
     for (id, _) in uses {
         if !has(members, *id) {
@@ -154,7 +138,6 @@ pub(crate) fn turn_of(frame: &Frame, id: NodeId) -> Turn
 
 /// Keeps the outcome of an id, of which is told whether it is another than its old value. One step at most.
 fn keep<L: Ledger>(
-    alloc: Global,
     overlay: &mut Overlay,
     id: u32,
     old: &NodeValue,
@@ -166,17 +149,13 @@ fn keep<L: Ledger>(
     requires unlost { get nat_cmp overlay.old.lost id ≡ None }
     ensures waiting { OnOk result (overlay.new.waiting ≡ overlay.old.waiting) }
     ensures roots { OnOk result (overlay.new.roots ≡ overlay.old.roots) }
-    ensures lost_here { OnOk result (get nat_cmp overlay.new.lost id ≡ lost_by outcome) }
-    ensures lost_elsewhere { OnOk result ((j : ℕ) → j ≢ id →
-        get nat_cmp overlay.new.lost j ≡ get nat_cmp overlay.old.lost j) }
-    ensures change_here { OnOk result (get nat_cmp overlay.new.changes id ≡
-        change_of id outcome old.now (get nat_cmp overlay.old.changes id)) }
-    ensures change_elsewhere { OnOk result ((j : ℕ) → j ≢ id →
-        get nat_cmp overlay.new.changes j ≡ get nat_cmp overlay.old.changes j) }
+    ensures lost { OnOk result (KeepsLost id outcome overlay.old.lost overlay.new.lost) }
+    ensures change { OnOk result (KeepsChange id outcome old.now
+        overlay.old.changes overlay.new.changes) }
     ensures steps { steps.new ≤ steps.old + 1 }
 {
     match outcome {
-        Outcome::Value(value) => keep_value(alloc, overlay, id, old, value, other, steps),
+        Outcome::Value(value) => keep_value(overlay, id, old, value, other, steps),
         Outcome::Fails(fault) => {
             overlay.lose(id, Some(fault), steps)?;
             Ok(())
@@ -190,7 +169,6 @@ fn keep<L: Ledger>(
 
 /// Keeps the value of an id, of which is told whether it is another than the old one. One step at most.
 fn keep_value<L: Ledger>(
-    alloc: Global,
     overlay: &mut Overlay,
     id: u32,
     old: &NodeValue,
@@ -202,14 +180,12 @@ fn keep_value<L: Ledger>(
     ensures waiting { OnOk result (overlay.new.waiting ≡ overlay.old.waiting) }
     ensures lost { OnOk result (overlay.new.lost ≡ overlay.old.lost) }
     ensures roots { OnOk result (overlay.new.roots ≡ overlay.old.roots) }
-    ensures change_here { OnOk result (get nat_cmp overlay.new.changes id ≡
-        change_of id (Value value) old.now (get nat_cmp overlay.old.changes id)) }
-    ensures change_elsewhere { OnOk result ((j : ℕ) → j ≢ id →
-        get nat_cmp overlay.new.changes j ≡ get nat_cmp overlay.old.changes j) }
+    ensures change { OnOk result (KeepsChange id (Value value) old.now
+        overlay.old.changes overlay.new.changes) }
     ensures steps { steps.new ≤ steps.old + 1 }
 {
     if other {
-        let before = copy_of(alloc, old)?;
+        let before = copy_of(old)?;
         overlay.change(id, before, value, steps)?;
     }
     Ok(())

@@ -28,7 +28,6 @@ pub struct Trial {
     overlay: Overlay,
     found: Cone,
     stack: Vec<u32>,
-    alloc: Global,
     ghost empty: { IsEmpty overlay },
 }
 
@@ -42,7 +41,6 @@ impl Trial {
                 members: Vec::new(alloc),
             },
             stack: Vec::new(alloc),
-            alloc,
         }
     }
 
@@ -72,16 +70,15 @@ impl Trial {
         let frame = store.frame();
         let overlay = &mut self.overlay;
         if let Some(cone) = frame.cone(target) {
-            return told(self.alloc, store, cone, overlay, moves, steps);
+            return told(store, cone, overlay, moves, steps);
         }
         find_cone(&mut self.found, &mut self.stack, &frame.inputs, target.0)?;
-        told(self.alloc, store, &self.found, overlay, moves, steps)
+        told(store, &self.found, overlay, moves, steps)
     }
 }
 
 /// What a trial tells of the target of a cone, in an overlay that is empty before and after.
 fn told<N: NodeRule, L: Ledger>(
-    alloc: Global,
     store: &Store<N>,
     cone: &Cone,
     overlay: &mut Overlay,
@@ -103,7 +100,7 @@ fn told<N: NodeRule, L: Ledger>(
         return Ok(0);
     }
     let target = NodeId(cone.target);
-    let found = answer(alloc, store, members, overlay, moves, target, steps);
+    let found = answer(store, members, overlay, moves, target, steps);
     overlay.clear();
     found
 }
@@ -122,7 +119,6 @@ fn any_moves(members: &[bool], moves: &[(VarId, i64)]) -> bool
 
 /// The answer of a trial, in an overlay that is empty before.
 fn answer<N: NodeRule, L: Ledger>(
-    alloc: Global,
     store: &Store<N>,
     members: &[bool],
     overlay: &mut Overlay,
@@ -148,7 +144,7 @@ fn answer<N: NodeRule, L: Ledger>(
         IsRefusal (part_graph query.part) (value_in query.part) (after_in query) target.0 stop) }
     ensures steps { IsPaid query steps.new }
 {
-    move_all(alloc, store, members, overlay, moves, steps)?;
-    run(alloc, store, members, overlay, target, steps)?;
+    move_all(store, members, overlay, moves, steps)?;
+    run(store, members, overlay, target, steps)?;
     conclude(store, overlay, target, steps)
 }

@@ -15,14 +15,12 @@ use crate::overlay::Overlay;
 use crate::settling::{settle, turn_of};
 use cbl_base::{NoMemory, NodeId, NodeRule, Steps};
 use inc_store::Store;
-use std::alloc::Global;
 use std::sync::ledger::Ledger;
 use store_turns::Turn;
 
 /// The first that waits has its turn, if that is not past the target's. It answers whose turn that was, and
 /// `None` where nothing waits up to there.
 fn turn<N: NodeRule, L: Ledger>(
-    alloc: Global,
     store: &Store<N>,
     members: &[bool],
     overlay: &mut Overlay,
@@ -60,11 +58,9 @@ fn turn<N: NodeRule, L: Ledger>(
     }
     let frame = store.frame();
     let old = store.read(NodeId(turn.id), steps);
-    let outcome = came_to(alloc, store, frame, overlay, turn.id, old, steps)?;
+    let outcome = came_to(store, frame, overlay, turn.id, old, steps)?;
     let root = root_of(overlay, turn.id, &outcome, steps);
-    settle(
-        alloc, frame, members, overlay, turn.id, old, outcome, root, steps,
-    )?;
+    settle(frame, members, overlay, turn.id, old, outcome, root, steps)?;
     Ok(Some(turn))
 }
 
@@ -85,7 +81,6 @@ fn rank_of(turn: Turn) -> u64
 
 /// Each node that waits has its turn, by layer and then by id, up to the target's.
 pub(crate) fn run<N: NodeRule, L: Ledger>(
-    alloc: Global,
     store: &Store<N>,
     members: &[bool],
     overlay: &mut Overlay,
@@ -107,7 +102,7 @@ pub(crate) fn run<N: NodeRule, L: Ledger>(
     let last = turn_of(store.frame(), target);
     let mut front: u128 = 4294967296;
     loop {
-        let Some(turn) = turn(alloc, store, members, overlay, last, front, steps)? else {
+        let Some(turn) = turn(store, members, overlay, last, front, steps)? else {
             return Ok(());
         };
         front = u128::from(rank_of(turn)) + 1;

@@ -52,8 +52,8 @@ loop-var-preserved g c =
       course = move_step g.given.rules c.args.frame.now g.given.trace c.requires.1.0 g.given.helds c.loop-var.cells c.settle.new.cells c.loop-var.course c.settle.new.course (c.loop-var.steps + 2 * (length c.args.moves.now - c.loop-var.var-index) + 1) (c.settle.new.steps + 2 * (length c.args.moves.now - (c.loop-var.var-index + 1)) + 1) (get_or c.args.moves.now c.loop-var.var-index (record { solver = 0; index = 0 }, pos 0)) (drop (c.loop-var.var-index + 1) c.args.moves.now) are state
           (c.requires.1.1.1.0 (get_or c.args.moves.now c.loop-var.var-index (record { solver = 0; index = 0 }, pos 0)).0.index ∙ target_at (graph_of g.given.rules c.args.frame.now) c.args.moves.now g.given.trace.before c.loop-var.var-index (record { solver = 0; index = 0 }, pos 0) c.requires.1.1.0 lt)
           (rw c.number_outcome.ensures at c.in_ok-settle.ensures.told) (rw c.number_outcome.ensures at c.in_ok-settle.ensures.cells)
-          (rw c.number_outcome.ensures at c.in_ok-settle.ensures.lost_here) c.in_ok-settle.ensures.lost_elsewhere
-          (rw c.number_outcome.ensures at c.in_ok-settle.ensures.change_here) c.in_ok-settle.ensures.change_elsewhere
+          (rw c.number_outcome.ensures at c.in_ok-settle.ensures.lost.here) c.in_ok-settle.ensures.lost.elsewhere
+          (rw c.number_outcome.ensures at c.in_ok-settle.ensures.change.here) c.in_ok-settle.ensures.change.elsewhere
           (let s = rw c.number_outcome.ensures at c.settle.ensures.steps in omega (arith, s, lt));
     }
 

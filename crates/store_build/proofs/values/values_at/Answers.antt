@@ -6,8 +6,8 @@ use Rattle.store_build.proofs.values.values_at.Goals as goal
 pub loop-id-preserved : goal.loop-id-preserved
 loop-id-preserved c =
     let lt : c.loop-id.id-index < length c.args.ids.now = omega arith in
-    values_more c.args.outcomes.now c.args.ids.now c.loop-id.id-index (record { 0 = 0 }) c.in_ok-copy-in-Some.copy c.loop-id.values.items lt (sym c.in-Some.ensures ∙ ap (λ (x : Input). Some x) (sym c.in_ok-copy-in-Some.ensures)) c.loop-id.invariant
-    ∙ ap (λ (xs : List Input). Some xs) (sym c.in_ok-push-in-Some.ensures.items)
+    values_more c.args.outcomes.now c.args.ids.now c.loop-id.id-index (record { 0 = 0 }) c.in-Some.value.now c.loop-id.values.items lt (sym c.in-Some.ensures) c.loop-id.invariant
+    ∙ ap (λ (xs : List Input). Some xs) (sym c.in_ok-push_copy-in-Some.ensures)
 
 pub returns-in-None : goal.returns-in-None
 returns-in-None c =

@@ -27,7 +27,7 @@ loop-id-preserved g c =
     let lt : c.loop-id.id-index < length c.args.uses.now = omega arith in
     let one = with_one (has c.args.members.now) c.args.uses.now c.loop-id.id-index (record { 0 = 0 }, 0) lt (sym c.has.ensures ∙ c.if-not-has.false) in
     record {
-      here = λ j. blocked_more (layer_in c.args.layers.now) (chosen (has c.args.members.now) (take c.loop-id.id-index c.args.uses.now)) (get_or c.args.uses.now c.loop-id.id-index (record { 0 = 0 }, 0)) (waits c.args.waiting.now) (waits c.loop-id.waiting) (waits c.block.new.self) (rw (c.turn_of.ensures.layer, c.turn_of.ensures.id) at c.in_ok-block.ensures.elsewhere) (rw (c.turn_of.ensures.layer, c.turn_of.ensures.id) at c.in_ok-block.ensures.here) c.loop-id.invariant.here j ∙ ap (λ us. blocked (places_in j us) (waits c.args.waiting.now (layer_in c.args.layers.now j) j)) (sym one);
-      elsewhere = told_elsewhere (layer_in c.args.layers.now) (chosen (has c.args.members.now) (take c.loop-id.id-index c.args.uses.now)) (get_or c.args.uses.now c.loop-id.id-index (record { 0 = 0 }, 0)) (waits c.args.waiting.now) (waits c.loop-id.waiting) (waits c.block.new.self) (rw (c.turn_of.ensures.layer, c.turn_of.ensures.id) at c.in_ok-block.ensures.elsewhere) c.loop-id.invariant.elsewhere;
+      here = λ j. blocked_more (layer_in c.args.layers.now) (chosen (has c.args.members.now) (take c.loop-id.id-index c.args.uses.now)) (get_or c.args.uses.now c.loop-id.id-index (record { 0 = 0 }, 0)) (waits c.args.waiting.now) (waits c.loop-id.waiting) (waits c.block.new.self) (rw (c.turn_of.ensures.layer, c.turn_of.ensures.id) at c.in_ok-block.ensures.waiting.elsewhere) (rw (c.turn_of.ensures.layer, c.turn_of.ensures.id) at c.in_ok-block.ensures.waiting.here) c.loop-id.invariant.here j ∙ ap (λ us. blocked (places_in j us) (waits c.args.waiting.now (layer_in c.args.layers.now j) j)) (sym one);
+      elsewhere = told_elsewhere (layer_in c.args.layers.now) (chosen (has c.args.members.now) (take c.loop-id.id-index c.args.uses.now)) (get_or c.args.uses.now c.loop-id.id-index (record { 0 = 0 }, 0)) (waits c.args.waiting.now) (waits c.loop-id.waiting) (waits c.block.new.self) (rw (c.turn_of.ensures.layer, c.turn_of.ensures.id) at c.in_ok-block.ensures.waiting.elsewhere) c.loop-id.invariant.elsewhere;
       steps = let more = paid (has c.args.members.now) c.args.uses.now c.loop-id.id-index (record { 0 = 0 }, 0) lt (sym c.has.ensures ∙ c.if-not-has.false) 1 c.args.steps.now c.loop-id.steps c.block.new.steps (let h = c.loop-id.invariant.steps in omega (arith, h)) (omega (arith, c.block.ensures.steps)) in omega (arith, more);
     }

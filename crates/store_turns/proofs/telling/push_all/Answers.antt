@@ -31,7 +31,7 @@ loop-id-preserved g c =
     let lt : c.loop-id.id-index < length c.args.uses.now = omega arith in
     let one = with_one (has c.args.members.now) c.args.uses.now c.loop-id.id-index (record { 0 = 0 }, 0) lt (sym c.has.ensures ∙ c.if-not-has.false) in
     record {
-      here = λ j. pushed_more (layer_in c.args.layers.now) (chosen (has c.args.members.now) (take c.loop-id.id-index c.args.uses.now)) (get_or c.args.uses.now c.loop-id.id-index (record { 0 = 0 }, 0)) (waits c.args.waiting.now) (waits c.loop-id.waiting) (waits c.push.new.self) (rw (c.turn_of-turn.ensures.layer, c.turn_of-turn.ensures.id) at c.in_ok-push.ensures.elsewhere) (λ p. change_to p c.args.old.now c.args.new.now) (rw (c.in_ok-change.ensures, c.turn_of-turn.ensures.layer, c.turn_of-turn.ensures.id) at c.in_ok-push.ensures.here) c.loop-id.invariant.here j ∙ ap (λ us. pushed (map (λ p. change_to p c.args.old.now c.args.new.now) (places_in j us)) (waits c.args.waiting.now (layer_in c.args.layers.now j) j)) (sym one);
-      elsewhere = told_elsewhere (layer_in c.args.layers.now) (chosen (has c.args.members.now) (take c.loop-id.id-index c.args.uses.now)) (get_or c.args.uses.now c.loop-id.id-index (record { 0 = 0 }, 0)) (waits c.args.waiting.now) (waits c.loop-id.waiting) (waits c.push.new.self) (rw (c.turn_of-turn.ensures.layer, c.turn_of-turn.ensures.id) at c.in_ok-push.ensures.elsewhere) c.loop-id.invariant.elsewhere;
+      here = λ j. pushed_more (layer_in c.args.layers.now) (chosen (has c.args.members.now) (take c.loop-id.id-index c.args.uses.now)) (get_or c.args.uses.now c.loop-id.id-index (record { 0 = 0 }, 0)) (waits c.args.waiting.now) (waits c.loop-id.waiting) (waits c.push.new.self) (rw (c.turn_of-turn.ensures.layer, c.turn_of-turn.ensures.id) at c.in_ok-push.ensures.waiting.elsewhere) (λ p. change_to p c.args.old.now c.args.new.now) (rw (c.in_ok-change.ensures, c.turn_of-turn.ensures.layer, c.turn_of-turn.ensures.id) at c.in_ok-push.ensures.waiting.here) c.loop-id.invariant.here j ∙ ap (λ us. pushed (map (λ p. change_to p c.args.old.now c.args.new.now) (places_in j us)) (waits c.args.waiting.now (layer_in c.args.layers.now j) j)) (sym one);
+      elsewhere = told_elsewhere (layer_in c.args.layers.now) (chosen (has c.args.members.now) (take c.loop-id.id-index c.args.uses.now)) (get_or c.args.uses.now c.loop-id.id-index (record { 0 = 0 }, 0)) (waits c.args.waiting.now) (waits c.loop-id.waiting) (waits c.push.new.self) (rw (c.turn_of-turn.ensures.layer, c.turn_of-turn.ensures.id) at c.in_ok-push.ensures.waiting.elsewhere) c.loop-id.invariant.elsewhere;
       steps = paid (has c.args.members.now) c.args.uses.now c.loop-id.id-index (record { 0 = 0 }, 0) lt (sym c.has.ensures ∙ c.if-not-has.false) 2 c.args.steps.now c.loop-id.steps c.push.new.steps c.loop-id.invariant.steps (omega (arith, c.push.ensures.steps));
     }

@@ -86,8 +86,8 @@ loop-var-preserved g c =
     record {
       course = one_move g.query.part.rules g.query.part.helds g.query.part.frame g.query.part.cells c.requires.1.1.1.1.1.0.kept g.query.ask c.loop-var.overlay (c.loop-var.steps + 2 * length ((get_or c.args.moves.now c.loop-var.var-index (record { solver = 0; index = 0 }, pos 0)) ∷ (moves_of (has c.args.members.now) (drop (c.loop-var.var-index + 1) c.args.moves.now))) + 4) (get_or c.args.moves.now c.loop-var.var-index (record { solver = 0; index = 0 }, pos 0)) (moves_of (has c.args.members.now) (drop (c.loop-var.var-index + 1) c.args.moves.now)) are state c.settle.new.overlay (c.settle.new.steps + 2 * length (moves_of (has c.args.members.now) (drop (c.loop-var.var-index + 1) c.args.moves.now)) + 4) (ap (λ (ms : List (VarId × ℤ)). moved_to ms (value_in g.query.part) (get_or c.args.moves.now c.loop-var.var-index (record { solver = 0; index = 0 }, pos 0)).0.index) c.requires.1.1.1.1.1.1.1.0 ∙ goes_to (has c.args.members.now) (part_graph g.query.part) c.args.moves.now (value_in g.query.part) c.loop-var.var-index (record { solver = 0; index = 0 }, pos 0) (subst (λ (ms : List (VarId × ℤ)). AreMoves (part_graph g.query.part) ms) c.requires.1.1.1.1.1.1.1.0 c.requires.1.1.1.1.1.1.0) lt t)
           (rw (sym value) at (told_part (map g.N.NodeRule.rule c.args.store.now.nodes.items) c.args.store.now.frame c.args.store.now.cells (has c.args.members.now) g.query.part c.requires.1.1.1.1.1.0 (get_or c.args.moves.now c.loop-var.var-index (record { solver = 0; index = 0 }, pos 0)).0.index _ (Value (Int (get_or c.args.moves.now c.loop-var.var-index (record { solver = 0; index = 0 }, pos 0)).1)) (waits c.loop-var.overlay.waiting) (waits c.settle.new.overlay.waiting) low (rw (c.frame-frame.ensures, c.read-old.ensures.value, c.number_outcome.ensures) at c.in_ok-settle.ensures.told)))
-          (rw c.number_outcome.ensures at c.in_ok-settle.ensures.lost_here) c.in_ok-settle.ensures.lost_elsewhere
-          (rw (c.read-old.ensures.value, c.number_outcome.ensures, sym value) at c.in_ok-settle.ensures.change_here) c.in_ok-settle.ensures.change_elsewhere
+          (rw c.number_outcome.ensures at c.in_ok-settle.ensures.lost.here) c.in_ok-settle.ensures.lost.elsewhere
+          (rw (c.read-old.ensures.value, c.number_outcome.ensures, sym value) at c.in_ok-settle.ensures.change.here) c.in_ok-settle.ensures.change.elsewhere
           (λ j. (rw c.frame-frame.ensures at c.in_ok-settle.ensures.roots) j ∙ noted_part (map g.N.NodeRule.rule c.args.store.now.nodes.items) c.args.store.now.frame c.args.store.now.cells (has c.args.members.now) g.query.part c.requires.1.1.1.1.1.0 (get_or c.args.moves.now c.loop-var.var-index (record { solver = 0; index = 0 }, pos 0)).0.index j None (get nat_cmp c.loop-var.overlay.roots j))
           (let s = rw (c.frame-frame.ensures, c.read-old.ensures.value, c.number_outcome.ensures) at c.settle.ensures.steps in omega (arith, s, share, c.read-old.ensures.steps, lt));
     }

@@ -39,11 +39,11 @@ loop-id-preserved g c =
     let lt : c.loop-id.id-index < length c.args.uses.now = omega arith in
     let one = with_one (has c.args.members.now) c.args.uses.now c.loop-id.id-index (record { 0 = 0 }, 0) lt (sym c.has.ensures ∙ c.if-not-has.false) in
     record {
-      here = λ j. rw c.in_ok-note.ensures.waiting (blocked_more (layer_of c.args.frame.now) (chosen (has c.args.members.now) (take c.loop-id.id-index c.args.uses.now)) (get_or c.args.uses.now c.loop-id.id-index (record { 0 = 0 }, 0)) (waits c.args.overlay.now.waiting) (waits c.loop-id.overlay.waiting) (waits c.block.new.self) (rw (c.turn_of.ensures.layer, c.turn_of.ensures.id) at c.in_ok-block.ensures.elsewhere) (rw (c.turn_of.ensures.layer, c.turn_of.ensures.id) at c.in_ok-block.ensures.here) c.loop-id.invariant.here j ∙ ap (λ us. blocked (places_in j us) (waits c.args.overlay.now.waiting (layer_of c.args.frame.now j) j)) (sym one));
-      elsewhere = rw c.in_ok-note.ensures.waiting (told_elsewhere (layer_of c.args.frame.now) (chosen (has c.args.members.now) (take c.loop-id.id-index c.args.uses.now)) (get_or c.args.uses.now c.loop-id.id-index (record { 0 = 0 }, 0)) (waits c.args.overlay.now.waiting) (waits c.loop-id.overlay.waiting) (waits c.block.new.self) (rw (c.turn_of.ensures.layer, c.turn_of.ensures.id) at c.in_ok-block.ensures.elsewhere) c.loop-id.invariant.elsewhere);
+      here = λ j. rw c.in_ok-note.ensures.waiting (blocked_more (layer_of c.args.frame.now) (chosen (has c.args.members.now) (take c.loop-id.id-index c.args.uses.now)) (get_or c.args.uses.now c.loop-id.id-index (record { 0 = 0 }, 0)) (waits c.args.overlay.now.waiting) (waits c.loop-id.overlay.waiting) (waits c.block.new.self) (rw (c.turn_of.ensures.layer, c.turn_of.ensures.id) at c.in_ok-block.ensures.waiting.elsewhere) (rw (c.turn_of.ensures.layer, c.turn_of.ensures.id) at c.in_ok-block.ensures.waiting.here) c.loop-id.invariant.here j ∙ ap (λ us. blocked (places_in j us) (waits c.args.overlay.now.waiting (layer_of c.args.frame.now j) j)) (sym one));
+      elsewhere = rw c.in_ok-note.ensures.waiting (told_elsewhere (layer_of c.args.frame.now) (chosen (has c.args.members.now) (take c.loop-id.id-index c.args.uses.now)) (get_or c.args.uses.now c.loop-id.id-index (record { 0 = 0 }, 0)) (waits c.args.overlay.now.waiting) (waits c.loop-id.overlay.waiting) (waits c.block.new.self) (rw (c.turn_of.ensures.layer, c.turn_of.ensures.id) at c.in_ok-block.ensures.waiting.elsewhere) c.loop-id.invariant.elsewhere);
       lost = c.in_ok-note.ensures.lost ∙ c.loop-id.invariant.lost;
       changes = c.in_ok-note.ensures.changes ∙ c.loop-id.invariant.changes;
       roots = λ j. noted_more (chosen (has c.args.members.now) (take c.loop-id.id-index c.args.uses.now)) (get_or c.args.uses.now c.loop-id.id-index (record { 0 = 0 }, 0)) c.args.root (get nat_cmp c.args.overlay.now.roots) (get nat_cmp c.loop-id.overlay.roots) (get nat_cmp c.note.new.self.roots)
-          c.in_ok-note.ensures.here c.in_ok-note.ensures.elsewhere c.loop-id.invariant.roots j ∙ ap (λ us. noted (places_in j us) c.args.root (get nat_cmp c.args.overlay.now.roots j)) (sym one);
+          c.in_ok-note.ensures.root.here c.in_ok-note.ensures.root.elsewhere c.loop-id.invariant.roots j ∙ ap (λ us. noted (places_in j us) c.args.root (get nat_cmp c.args.overlay.now.roots j)) (sym one);
       steps = paid (has c.args.members.now) c.args.uses.now c.loop-id.id-index (record { 0 = 0 }, 0) lt (sym c.has.ensures ∙ c.if-not-has.false) 2 c.args.steps.now c.loop-id.steps c.note.new.steps c.loop-id.invariant.steps (omega (arith, c.block.ensures.steps, c.note.ensures.steps));
     }

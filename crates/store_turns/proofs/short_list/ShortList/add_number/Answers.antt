@@ -17,12 +17,12 @@ invariant_of-self c = record {
 pub returns-clause-before : goal.returns-clause-before
 returns-clause-before c = found_at (take c.args.self.now.live c.args.self.now.entries.items) c.args.at (record { layer = 0; id = 0 }, Below) c.args.self.now.distinct c.requires
 
-pub returns-clause-here : goal.returns-clause-here
-returns-clause-here c =
-    when_ok c.add_number_to.result _ _ (λ e.
-    ap (λ (o : Option Pending). option_map changes_of o) (written_in c.args.self.now.live c.args.self.now.entries.items c.args.at c.index_mut.result.now c.add_number_to.new.pending c.requires c.index_mut.ensures.value c.args.self.now.distinct).0
-    ∙ ap (λ o. Some o) e
-    ∙ ap (λ (p : Pending). Some (and_change (IntChange c.args.place c.args.old.now c.args.new.now) (Some (changes_of p)))) (pending_read (take c.args.self.now.live c.args.self.now.entries.items) c.args.at c.index_mut.result.now c.requires (read_in c.args.self.now.live c.args.self.now.entries.items c.args.at c.index_mut.result.now c.requires c.index_mut.ensures.value))) c.add_number_to.ensures
-
-pub returns-clause-elsewhere : goal.returns-clause-elsewhere
-returns-clause-elsewhere c = when_ok c.add_number_to.result _ _ (λ e. (written_in c.args.self.now.live c.args.self.now.entries.items c.args.at c.index_mut.result.now c.add_number_to.new.pending c.requires c.index_mut.ensures.value c.args.self.now.distinct).1) c.add_number_to.ensures
+pub returns-clause-after : goal.returns-clause-after
+returns-clause-after c =
+    when_ok c.add_number_to.result _ _ (λ e. record {
+      here =
+          ap (λ (o : Option Pending). option_map changes_of o) (written_in c.args.self.now.live c.args.self.now.entries.items c.args.at c.index_mut.result.now c.add_number_to.new.pending c.requires c.index_mut.ensures.value c.args.self.now.distinct).0
+          ∙ ap (λ o. Some o) e
+          ∙ ap (λ (p : Pending). Some (and_change (IntChange c.args.place c.args.old.now c.args.new.now) (Some (changes_of p)))) (pending_read (take c.args.self.now.live c.args.self.now.entries.items) c.args.at c.index_mut.result.now c.requires (read_in c.args.self.now.live c.args.self.now.entries.items c.args.at c.index_mut.result.now c.requires c.index_mut.ensures.value));
+      elsewhere = (written_in c.args.self.now.live c.args.self.now.entries.items c.args.at c.index_mut.result.now c.add_number_to.new.pending c.requires c.index_mut.ensures.value c.args.self.now.distinct).1;
+    }) c.add_number_to.ensures

@@ -10,8 +10,8 @@ invariant_of-self c = record {
   distinct = distinct_one_more c.make_room.new.self.live (take c.args.self.now.live c.args.self.now.entries.items) c.make_room.new.self.entries.items c.args.turn Below c.in_ok-make_room.ensures.room c.make_room.ensures.same c.requires c.args.self.now.distinct;
 }
 
-pub returns-clause-here : goal.returns-clause-here
-returns-clause-here c = one_more_here c.make_room.new.self.live (take c.args.self.now.live c.args.self.now.entries.items) c.make_room.new.self.entries.items c.args.turn Below None c.in_ok-make_room.ensures.room c.make_room.ensures.same c.requires refl
-
-pub returns-clause-elsewhere : goal.returns-clause-elsewhere
-returns-clause-elsewhere c = one_more_other c.make_room.new.self.live (take c.args.self.now.live c.args.self.now.entries.items) c.make_room.new.self.entries.items c.args.turn Below c.in_ok-make_room.ensures.room c.make_room.ensures.same c.requires
+pub returns : goal.returns
+returns c = record {
+  here = one_more_here c.make_room.new.self.live (take c.args.self.now.live c.args.self.now.entries.items) c.make_room.new.self.entries.items c.args.turn Below None c.in_ok-make_room.ensures.room c.make_room.ensures.same c.requires refl;
+  elsewhere = one_more_other c.make_room.new.self.live (take c.args.self.now.live c.args.self.now.entries.items) c.make_room.new.self.entries.items c.args.turn Below c.in_ok-make_room.ensures.room c.make_room.ensures.same c.requires;
+}

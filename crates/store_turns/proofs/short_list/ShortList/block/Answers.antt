@@ -12,10 +12,9 @@ invariant_of-self c = record {
   distinct = distinct_written_in c.args.self.now.live c.args.self.now.entries.items c.args.place c.index_mut.result.now c.replace.new.dest c.requires c.index_mut.ensures.value c.args.self.now.distinct;
 }
 
-pub returns-clause-here : goal.returns-clause-here
-returns-clause-here c =
-    ap (λ (o : Option Pending). option_map changes_of o) (written_in c.args.self.now.live c.args.self.now.entries.items c.args.place c.index_mut.result.now c.replace.new.dest c.requires c.index_mut.ensures.value c.args.self.now.distinct).0
-    ∙ ap (λ (p : Pending). Some (changes_of p)) c.replace.ensures.after
-
-pub returns-clause-elsewhere : goal.returns-clause-elsewhere
-returns-clause-elsewhere c = (written_in c.args.self.now.live c.args.self.now.entries.items c.args.place c.index_mut.result.now c.replace.new.dest c.requires c.index_mut.ensures.value c.args.self.now.distinct).1
+pub returns : goal.returns
+returns c = record {
+  here = ap (λ (o : Option Pending). option_map changes_of o) (written_in c.args.self.now.live c.args.self.now.entries.items c.args.place c.index_mut.result.now c.replace.new.dest c.requires c.index_mut.ensures.value c.args.self.now.distinct).0
+      ∙ ap (λ (p : Pending). Some (changes_of p)) c.replace.ensures.after;
+  elsewhere = (written_in c.args.self.now.live c.args.self.now.entries.items c.args.place c.index_mut.result.now c.replace.new.dest c.requires c.index_mut.ensures.value c.args.self.now.distinct).1;
+}
