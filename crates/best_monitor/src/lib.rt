@@ -14,8 +14,6 @@ mod monitor;
 mod port;
 mod request;
 mod seat_port;
-#[cfg(test)]
-mod tests;
 
 pub use board::Board;
 pub use journal::{Entries, Journal, LoopHistory};

@@ -10,8 +10,6 @@
 mod book;
 mod calls;
 mod replays;
-#[cfg(test)]
-mod tests;
 mod turn;
 mod view;
 

@@ -11,8 +11,6 @@ mod job;
 pub mod laws;
 mod line;
 mod report;
-#[cfg(test)]
-mod tests;
 mod top;
 
 pub use comet_words::words_form;

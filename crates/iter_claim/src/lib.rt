@@ -7,8 +7,6 @@
 
 mod calls;
 mod claims;
-#[cfg(test)]
-mod tests;
 mod view;
 
 pub use claims::{ClaimSeat, Claims};

@@ -1,11 +1,17 @@
-//! What threads do with turns, claims, loops and journals.
+//! What seats and threads do with turns, claims, monitors, loops and journals.
 //!
 //! It has tests alone, so that the crates that they speak of are proved once and not twice.
 #![tactic(auto)]
 
 #[cfg(test)]
+mod claims;
+#[cfg(test)]
 mod journals;
 #[cfg(test)]
 mod loops;
 #[cfg(test)]
+mod monitors;
+#[cfg(test)]
 mod sleepers;
+#[cfg(test)]
+mod turns;

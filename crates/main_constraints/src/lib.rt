@@ -9,8 +9,6 @@ mod all_equal;
 mod increasing;
 mod laws;
 mod moves;
-#[cfg(test)]
-mod tests;
 mod whole;
 
 pub use all_equal::AllEqual;

@@ -6,7 +6,5 @@
 #![tactic(auto)]
 
 mod evaluation;
-#[cfg(test)]
-mod tests;
 
 pub use evaluation::{EvalStop, eval};

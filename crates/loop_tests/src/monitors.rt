@@ -1,3 +1,4 @@
+//! What a board of monitors answers, by itself, through seats and ports, and in a journal.
 ghost use Rattle.std.specs.Prelude.{◌≡◌, ◌<◌, ℕ, List, [], ◌∷◌, ◌++◌, Option, None, Some, length, IfOk, IfSome};
 ghost use Rattle.best_monitor.specs.declared.request.Reply.{Reply};
 ghost use Rattle.best_turn.specs.Seats.{start_of, IsSeatOf, view_of};
@@ -5,7 +6,9 @@ ghost use Rattle.best_monitor.specs.Board.{monitor_of};
 ghost use Rattle.best_monitor.specs.declared.request.Request.{Request};
 ghost use Rattle.best_monitor.specs.Port.{StopsAsTold, GoesAstray, with_all, entries_for};
 
-use super::*;
+use best_monitor::{
+    Board, Entries, Journal, LoopHistory, MonitorPort, PortStop, Reply, Request, SeatPort,
+};
 use best_turn::{Front, Replays, Seat, Turn};
 use cbl_base::{NoMemory, Numbers, Text};
 use std::alloc::Global;
@@ -87,7 +90,7 @@ fn report_all<R: Wait>(
 }
 
 // Two threads report through seats of their own. What the board's best is then, and how long the history.
-#[tactic(auto, using(crate::specs::BoardLaws::length_fold))]
+#[tactic(auto, using(best_monitor::specs::BoardLaws::length_fold))]
 fn report_by_two<R: Threads + Wait + Sync>(
     rt: &R,
     alloc: Global,
@@ -145,7 +148,7 @@ fn ask_twice<P: MonitorPort<Board>>(
 
 // Two iterations ask twice each, one after the other, through ports over one seat. It then made the entries of
 // the first, and behind them those of the second.
-#[tactic(auto, using(crate::proofs::Asked::seat_of_base))]
+#[tactic(auto, using(best_monitor::proofs::Asked::seat_of_base))]
 fn ask_by_two_iterations<R: Wait>(
     rt: &R,
     turn: &Turn<Board>,

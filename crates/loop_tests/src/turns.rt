@@ -1,7 +1,8 @@
+//! The calls of two seats of a turn, by one thread and by two.
 ghost use Rattle.std.specs.Prelude.{◌≡◌, length, IfSome};
 ghost use Rattle.best_turn.specs.Seats.{start_of, IsSeatOf, view_of};
 
-use super::*;
+use best_turn::{Front, Replays, Seat, Turn};
 use cbl_base::NoMemory;
 use std::sync::Wait;
 use std::test::*;

@@ -1,6 +1,6 @@
 //! Both constraints, in boxes, as a program hands them in.
 
-use crate::{AllEqual, Increasing};
+use main_constraints::{AllEqual, Increasing};
 use std::alloc::Global;
 use std::test::*;
 use user_constraint::UserConstraint;

@@ -1,7 +1,6 @@
 //! Expressions with values that were worked out by hand.
 ghost use Rattle.std.specs.Prelude.{◌≡◌, ◌<◌};
 
-use super::*;
 use cbl_base::{Fuel, Place, RunFault, Steps};
 use checked_tree::{Form, Generator, Kind, Link, Slot, Typed};
 use comet_syntax::tree::{Aggregate, ChainOperator};
@@ -14,6 +13,7 @@ use std::alloc::{AllocError, Global};
 use std::marker::Brand;
 use std::sync::ledger::{Blank, Ledger};
 use std::test::*;
+use stmt_expr::{EvalStop, eval};
 use user_constraint::{LocalConstraint, UserConstraint};
 
 /// What users' constraints come in.

@@ -1,4 +1,6 @@
-use super::*;
+//! The claims of iterations: each number once and in order, also by two seats.
+
+use iter_claim::Claims;
 use std::test::*;
 
 #[test]

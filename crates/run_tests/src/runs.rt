@@ -1,9 +1,9 @@
 //! Whole runs over memory: what the files of `examples/` can't hold, and a run that should succeed.
 ghost use Rattle.std.specs.Prelude.{◌<◌};
 
-use crate::{Cause, Report, comet_run, say};
 use cbl_base::Place;
 use cbl_io::{MemFiles, MemSink};
+use comet::{Cause, Report, comet_run, say};
 use comet_syntax::FormCause;
 use std::alloc::Global;
 use std::test::Fail;
