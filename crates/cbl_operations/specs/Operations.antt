@@ -7,11 +7,8 @@ pub mod Count
 pub mod Element
 pub mod Element2
 pub mod Greatest
-pub mod Inter
 pub mod Least
 pub mod Member
-pub mod Minus
 pub mod Or
 pub mod SetOf
 pub mod Sum
-pub mod Union

@@ -38,9 +38,6 @@ changes_beside xs [] c are is none = (is, tt, tt)
 changes_beside xs (d ∷ cs) c are is none =
     (are.0, none_push (place_of d) cs c are.1 (λ e. none.0 (sym e)), changes_beside xs cs c are.2 is none.1)
 
-pub makes_first : (from held : List Input) → held ≡ from → Makes from held []
-makes_first from held e = record { are = tt; after = sym e; long = ap length e }
-
 pub makes_more : (from held held' : List Input) (cs cs' : List Change) (p : ℕ) (c : Change) (x y : Input) → p < length from → x ≡ get_or from p x → IsStep p x y c
     → NoneAt p cs → cs' ≡ cs ++ c ∷ [] → held' ≡ set held p y → Makes from held cs → Makes from held' cs'
 makes_more from held held' cs cs' p c x y lt old step none pushed written so =

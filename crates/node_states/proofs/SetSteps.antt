@@ -8,7 +8,7 @@ use Rattle.cbl_base.specs.declared.input.Input.TheVariants.{Int, Set}
 use Rattle.cbl_base.specs.Changes.{edited, AreMembers, AreNoMembers, IsEdit}
 use Rattle.cbl_base.specs.Sets.{IsRising, is_member, with_members, without_members}
 use Rattle.cbl_base.proofs.SetLemmas.{int_eq-itself, is_member-filter, is_member-set_of, is_member-with_members, is_member-without_members, rising-with_members, rising-without_members, same_set}
-use Rattle.cbl_operations.specs.Operations.Minus.{minus_of}
+use Rattle.cbl_operations.specs.TwoSets.{minus_of}
 use Rattle.node_states.specs.Step.{IsStep}
 
 is_member-minus : (v : ℤ) (s t : List ℤ) → is_member v (minus_of s t) ≡ (not (is_member v t) && is_member v s)

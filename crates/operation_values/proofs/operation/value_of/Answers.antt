@@ -1,4 +1,4 @@
-use Rattle.std.proofs.Common.{rules, ap, ◌∙◌}
+use Rattle.std.proofs.Common.{rules}
 use Rattle.cbl_violations.specs.Constraints.{rule_of_constraint}
 use Rattle.cbl_operations.specs.Binary.{rule_of_binary}
 use Rattle.cbl_operations.specs.Nary.{rule_of_nary}
