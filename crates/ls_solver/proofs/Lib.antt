@@ -1,3 +1,4 @@
+pub mod AdmitLaws
 pub mod AnswerLaws
 pub mod CommitLaws
 pub mod RestoreLaws

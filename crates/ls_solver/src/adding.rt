@@ -1,9 +1,9 @@
 //! Constraints of systems, and terms of objectives.
-ghost use Rattle.std.specs.Prelude.{◌≡◌, true, false, None, Some, [], OnOk, OnErr};
+ghost use Rattle.std.specs.Prelude.{◌≡◌, true, false, None, Some, [], IfOk, OnOk, OnErr};
 ghost use Rattle.cbl_base.specs.Inputs.{number_kind};
 ghost use Rattle.ls_solver.specs.Answers.{Answers};
 ghost use Rattle.solver_models.specs.Adding.{Adds, early_member_refusal, is_own_member, member_refusal};
-ghost use Rattle.solver_models.specs.Defining.{distinct_with, is_too_deep, size_refusal};
+ghost use Rattle.solver_models.specs.Defining.{distinct_with, is_too_deep};
 ghost use Rattle.solver_models.specs.State.{IsUnchanged};
 ghost use Rattle.solver_models.specs.Totals.{of_objective, of_system};
 ghost use Rattle.term_count.specs.Counting.{Counts};
@@ -13,12 +13,8 @@ ghost use Rattle.term_model.specs.Subterms.{distinct_subterms};
 
 use crate::fault::SolverFault;
 use crate::solver::Solver;
-use cbl_base::limits::{MAX_TERM_DEPTH, MAX_TERM_NODES};
-use cbl_base::{Limit, NoMemory, RunFault};
-use solver_models::{
-    ObjectiveId, SystemId, TotalId, counted_with, is_within, names_given, push_member,
-};
-use std::mem;
+use cbl_base::{NoMemory, RunFault};
+use solver_models::{ObjectiveId, SystemId, TotalId, names_given, push_member};
 use term_count::Subterms;
 use term_model::{Member, Term};
 use user_constraint::LocalConstraint;
@@ -92,57 +88,27 @@ impl<U: LocalConstraint> Solver<U> {
         ensures added { OnOk result (Adds self.old self.new k member) }
         ensures kept { OnErr result (IsUnchanged self.old self.new) }
     {
+        match self.admit(k, &member) {
+            Ok(counted) => self.put_member(k, member, counted),
+            Err(fault) => Err(fault),
+        }
+    }
+
+    /// The distinct subterms with a member, or why it can't be put to a system or an objective.
+    pub(crate) fn admit(&mut self, k: TotalId, member: &Member) -> Result<Subterms, SolverFault>
+        ensures answer { Answers (member_refusal self.old k member.now.term member.now.weight)
+            result }
+        ensures same { self.new ≡ self.old }
+        ensures early { OnOk result (early_member_refusal self.old k member.now.term
+            member.now.weight ≡ None) }
+        ensures shallow { OnOk result (is_too_deep member.now.term ≡ false) }
+        ensures counted { IfOk result (λ counted.
+            Counts counted (distinct_with (distinct_subterms self.old.model) member.now.term)) }
+    {
         if let Some(fault) = self.early_member_refusal(k, &member.term, member.weight) {
             return Err(SolverFault::Run(fault));
         }
-        if !is_within(&member.term, MAX_TERM_DEPTH) {
-            return Err(SolverFault::Run(RunFault::TooMany(Limit::TermNodes)));
-        }
-        self.add_shallow(k, member)
-    }
-
-    /// The same of a member that is refused at most for its count.
-    fn add_shallow(&mut self, k: TotalId, member: Member) -> Result<(), SolverFault>
-        requires usable { self.old.usable ≡ true }
-        requires early { early_member_refusal self.old k member.term member.weight ≡ None }
-        requires shallow { is_too_deep member.term ≡ false }
-        requires kind { kind_of_term (kinds_in self.old.model.vars.items) member.term ≡
-            Some number_kind }
-        requires users { users_of member.term ≡ [] }
-        ensures answer { Answers (size_refusal self.old.model member.term) result }
-        ensures added { OnOk result (Adds self.old self.new k member) }
-        ensures kept { OnErr result (IsUnchanged self.old self.new) }
-    {
-        let kept = mem::replace(&mut self.terms, None);
-        match counted_with(self.alloc, kept, &self.model, &member.term) {
-            Ok(counted) => self.add_counted(k, member, counted),
-            Err(NoMemory) => Err(SolverFault::NoMemory),
-        }
-    }
-
-    /// The same where the distinct subterms with the term are counted.
-    fn add_counted(
-        &mut self,
-        k: TotalId,
-        member: Member,
-        counted: Subterms,
-    ) -> Result<(), SolverFault>
-        requires usable { self.old.usable ≡ true }
-        requires early { early_member_refusal self.old k member.term member.weight ≡ None }
-        requires shallow { is_too_deep member.term ≡ false }
-        requires kind { kind_of_term (kinds_in self.old.model.vars.items) member.term ≡
-            Some number_kind }
-        requires users { users_of member.term ≡ [] }
-        requires counted { Counts counted
-            (distinct_with (distinct_subterms self.old.model) member.term) }
-        ensures answer { Answers (size_refusal self.old.model member.term) result }
-        ensures added { OnOk result (Adds self.old self.new k member) }
-        ensures kept { OnErr result (IsUnchanged self.old self.new) }
-    {
-        if counted.len() > MAX_TERM_NODES {
-            return Err(SolverFault::Run(RunFault::TooMany(Limit::TermNodes)));
-        }
-        self.put_member(k, member, counted)
+        self.admit_size(&member.term)
     }
 
     /// Puts a member behind the others, with the distinct subterms then.

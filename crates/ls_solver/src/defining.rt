@@ -1,5 +1,5 @@
 //! Definitions of variables.
-ghost use Rattle.std.specs.Prelude.{◌≡◌, true, false, None, [], OnOk, OnErr};
+ghost use Rattle.std.specs.Prelude.{◌≡◌, true, false, None, [], IfOk, OnOk, OnErr};
 ghost use Rattle.ls_solver.specs.Answers.{Answers};
 ghost use Rattle.solver_models.specs.Defining.{Defines, define_refusal, distinct_with, early_refusal, is_own_definition, is_too_deep, size_refusal};
 ghost use Rattle.solver_models.specs.State.{IsUnchanged};
@@ -52,56 +52,55 @@ impl<U: LocalConstraint> Solver<U> {
             (record { var = x; term = term })) }
         ensures kept { OnErr result (IsUnchanged self.old self.new) }
     {
-        if let Some(fault) = self.early_refusal(x, &term) {
+        match self.admit_definition(x, &term) {
+            Ok(counted) => self.put_definition(Definition { var: x, term }, counted),
+            Err(fault) => Err(fault),
+        }
+    }
+
+    /// The distinct subterms with a variable's term, or why it can't have it as its definition.
+    fn admit_definition(&mut self, x: VarId, term: &Term) -> Result<Subterms, SolverFault>
+        ensures answer { Answers (define_refusal self.old x term.now) result }
+        ensures same { self.new ≡ self.old }
+        ensures early { OnOk result (early_refusal self.old x term.now ≡ None) }
+        ensures shallow { OnOk result (is_too_deep term.now ≡ false) }
+        ensures counted { IfOk result (λ counted.
+            Counts counted (distinct_with (distinct_subterms self.old.model) term.now)) }
+    {
+        if let Some(fault) = self.early_refusal(x, term) {
             return Err(SolverFault::Run(fault));
         }
-        if !is_within(&term, MAX_TERM_DEPTH) {
+        self.admit_size(term)
+    }
+
+    /// The distinct subterms with a term, or why it is too much.
+    pub(crate) fn admit_size(&mut self, term: &Term) -> Result<Subterms, SolverFault>
+        ensures answer { Answers (size_refusal self.old.model term.now) result }
+        ensures same { self.new ≡ self.old }
+        ensures shallow { OnOk result (is_too_deep term.now ≡ false) }
+        ensures counted { IfOk result (λ counted.
+            Counts counted (distinct_with (distinct_subterms self.old.model) term.now)) }
+    {
+        if !is_within(term, MAX_TERM_DEPTH) {
             return Err(SolverFault::Run(RunFault::TooMany(Limit::TermNodes)));
         }
-        self.define_shallow(Definition { var: x, term })
-    }
-
-    /// The same of a definition that is refused at most for its count.
-    fn define_shallow(&mut self, definition: Definition) -> Result<(), SolverFault>
-        requires usable { self.old.usable ≡ true }
-        requires early { early_refusal self.old definition.var definition.term ≡ None }
-        requires shallow { is_too_deep definition.term ≡ false }
-        requires kind { kind_of_term (kinds_in self.old.model.vars.items) definition.term ≡
-            kinds_in self.old.model.vars.items definition.var.index }
-        requires users { users_of definition.term ≡ [] }
-        ensures answer { Answers (size_refusal self.old.model definition.term) result }
-        ensures defined { OnOk result (Defines self.old self.new definition) }
-        ensures kept { OnErr result (IsUnchanged self.old self.new) }
-    {
-        let kept = mem::replace(&mut self.terms, None);
-        match counted_with(self.alloc, kept, &self.model, &definition.term) {
-            Ok(counted) => self.define_counted(definition, counted),
-            Err(NoMemory) => Err(SolverFault::NoMemory),
-        }
-    }
-
-    /// The same where the distinct subterms with the term are counted.
-    fn define_counted(
-        &mut self,
-        definition: Definition,
-        counted: Subterms,
-    ) -> Result<(), SolverFault>
-        requires usable { self.old.usable ≡ true }
-        requires early { early_refusal self.old definition.var definition.term ≡ None }
-        requires shallow { is_too_deep definition.term ≡ false }
-        requires kind { kind_of_term (kinds_in self.old.model.vars.items) definition.term ≡
-            kinds_in self.old.model.vars.items definition.var.index }
-        requires users { users_of definition.term ≡ [] }
-        requires counted { Counts counted
-            (distinct_with (distinct_subterms self.old.model) definition.term) }
-        ensures answer { Answers (size_refusal self.old.model definition.term) result }
-        ensures defined { OnOk result (Defines self.old self.new definition) }
-        ensures kept { OnErr result (IsUnchanged self.old self.new) }
-    {
+        let Ok(counted) = self.count_with(term) else {
+            return Err(SolverFault::NoMemory);
+        };
         if counted.len() > MAX_TERM_NODES {
             return Err(SolverFault::Run(RunFault::TooMany(Limit::TermNodes)));
         }
-        self.put_definition(definition, counted)
+        Ok(counted)
+    }
+
+    /// The distinct subterms with a term.
+    fn count_with(&mut self, term: &Term) -> Result<Subterms, NoMemory>
+        ensures same { self.new ≡ self.old }
+        ensures counted { IfOk result (λ counted.
+            Counts counted (distinct_with (distinct_subterms self.old.model) term.now)) }
+    {
+        let kept = mem::replace(&mut self.terms, None);
+        counted_with(self.alloc, kept, &self.model, term)
     }
 
     /// Puts a definition behind the others, with the distinct subterms then.

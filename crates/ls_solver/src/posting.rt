@@ -1,28 +1,28 @@
 //! Users' constraints of systems.
-ghost use Rattle.std.specs.Prelude.{◌≡◌, true, false, None, Some, [], ◌∷◌, length, IfErr, IfOk, OnOk, OnErr};
+ghost use Rattle.std.specs.Prelude.{◌≡◌, ◌<◌, true, false, None, Some, [], ◌∷◌, length, vec_capacity, vec_len, IfErr, IfOk, OnOk, OnErr};
 ghost use Rattle.std.specs.List.{All};
 ghost use Rattle.cbl_base.specs.Inputs.{number_kind};
-ghost use Rattle.ls_solver.specs.Answers.{Answers, AnswersBack};
+ghost use Rattle.ls_solver.specs.Answers.{AnswersBack};
 ghost use Rattle.posted_users.specs.KeptRule.{kept};
-ghost use Rattle.solver_models.specs.Adding.{early_member_refusal, is_own_member, member_refusal};
+ghost use Rattle.solver_models.specs.Adding.{GetsMember, early_member_refusal, is_own_member, member_refusal};
 ghost use Rattle.solver_models.specs.Defining.{distinct_with, is_too_deep};
-ghost use Rattle.solver_models.specs.State.{IsUnchanged};
+ghost use Rattle.solver_models.specs.State.{IsSameModel, IsUnchanged};
 ghost use Rattle.solver_models.specs.Totals.{of_system};
 ghost use Rattle.solver_models.specs.UserPosting.{AddsUser, user_term};
 ghost use Rattle.term_count.specs.Counting.{Counts};
 ghost use Rattle.term_model.specs.Kinds.{kind_of_term, kinds_in};
 ghost use Rattle.term_model.specs.Naming.{users_of};
+ghost use Rattle.term_model.specs.Posting.{totals_by};
 ghost use Rattle.term_model.specs.Subterms.{distinct_subterms};
 
 use crate::fault::SolverFault;
 use crate::solver::Solver;
-use cbl_base::limits::{MAX_TERM_DEPTH, MAX_TERM_NODES};
-use cbl_base::{Limit, NoMemory, Place, RunFault};
-use posted_users::reset_to_zeros;
-use solver_models::{SystemId, TotalId, counted_with, is_within, push_member};
-use std::mem;
+use cbl_base::{NoMemory, Place};
+use posted_users::{PostedUsers, reset_to_zeros};
+use solver_models::{SystemId, TotalId, push_member};
+use std::alloc::Global;
 use term_count::Subterms;
-use term_model::{Member, Op, Term};
+use term_model::{Member, Model, Op, Term};
 use user_constraint::LocalConstraint;
 
 /// The node of the user's constraint with a number over its places.
@@ -34,6 +34,50 @@ fn user_term(number: u32, places: Vec<Term>) -> Term
         args: places,
         place: Place { line: 0, col: 0 },
     }
+}
+
+/// Resets a user's constraint to so many zeros, and makes room for it.
+fn make_ready<U: LocalConstraint>(
+    alloc: Global,
+    users: &mut PostedUsers<U>,
+    user: &mut U,
+    count: usize,
+) -> Result<Vec<i64>, NoMemory>
+    ensures same { users.new.posted.items ≡ users.old.posted.items }
+    ensures room { OnOk result (vec_len users.new.posted < vec_capacity users.new.posted) }
+    ensures usable { OnOk result (U.usable user.new) }
+    ensures held { IfOk result (λ v. U.held user.new ≡ v.items) }
+    ensures rule { U.user_rule user.new ≡ U.user_rule user.old }
+    ensures name { U.user_name user.new ≡ U.user_name user.old }
+{
+    let numbers = reset_to_zeros(alloc, user, count)?;
+    users.reserve()?;
+    Ok(numbers)
+}
+
+/// Makes a user's constraint ready, and puts its member behind the others. With `NoMemory` the model is as before.
+fn put_node<U: LocalConstraint>(
+    alloc: Global,
+    users: &mut PostedUsers<U>,
+    model: &mut Model,
+    user: &mut U,
+    count: usize,
+    k: TotalId,
+    member: Member,
+) -> Result<Vec<i64>, NoMemory>
+    requires { k.index < length (totals_by model.old k.side) }
+    ensures ok { OnOk result (GetsMember model.old model.new k.side k.index member) }
+    ensures err { OnErr result (IsSameModel model.old model.new) }
+    ensures same { users.new.posted.items ≡ users.old.posted.items }
+    ensures room { OnOk result (vec_len users.new.posted < vec_capacity users.new.posted) }
+    ensures usable { OnOk result (U.usable user.new) }
+    ensures held { IfOk result (λ v. U.held user.new ≡ v.items) }
+    ensures rule { U.user_rule user.new ≡ U.user_rule user.old }
+    ensures name { U.user_name user.new ≡ U.user_name user.old }
+{
+    let numbers = make_ready(alloc, users, user, count)?;
+    push_member(alloc, model, k.side, k.index, member)?;
+    Ok(numbers)
 }
 
 impl<U: LocalConstraint> Solver<U> {
@@ -103,44 +147,10 @@ impl<U: LocalConstraint> Solver<U> {
         ensures rule { IfErr result (λ back. U.user_rule back.1 ≡ U.user_rule user) }
         ensures name { IfErr result (λ back. U.user_name back.1 ≡ U.user_name user) }
     {
-        match self.admit(k, &member.term, member.weight) {
+        match self.admit(k, &member) {
             Ok(counted) => self.put_user(k, user, count, member, counted),
             Err(fault) => Err((fault, user)),
         }
-    }
-
-    /// The distinct subterms with a member's term, or why it can't be put to a system or an objective.
-    fn admit(&mut self, k: TotalId, term: &Term, weight: i64) -> Result<Subterms, SolverFault>
-        ensures answer { Answers (member_refusal self.old k term.now weight) result }
-        ensures same { self.new ≡ self.old }
-        ensures early { OnOk result (early_member_refusal self.old k term.now weight ≡ None) }
-        ensures shallow { OnOk result (is_too_deep term.now ≡ false) }
-        ensures counted { IfOk result (λ counted.
-            Counts counted (distinct_with (distinct_subterms self.old.model) term.now)) }
-    {
-        if let Some(fault) = self.early_member_refusal(k, term, weight) {
-            return Err(SolverFault::Run(fault));
-        }
-        if !is_within(term, MAX_TERM_DEPTH) {
-            return Err(SolverFault::Run(RunFault::TooMany(Limit::TermNodes)));
-        }
-        let Ok(counted) = self.count_with(term) else {
-            return Err(SolverFault::NoMemory);
-        };
-        if counted.len() > MAX_TERM_NODES {
-            return Err(SolverFault::Run(RunFault::TooMany(Limit::TermNodes)));
-        }
-        Ok(counted)
-    }
-
-    /// The distinct subterms with a term.
-    fn count_with(&mut self, term: &Term) -> Result<Subterms, NoMemory>
-        ensures same { self.new ≡ self.old }
-        ensures counted { IfOk result (λ counted.
-            Counts counted (distinct_with (distinct_subterms self.old.model) term.now)) }
-    {
-        let kept = mem::replace(&mut self.terms, None);
-        counted_with(self.alloc, kept, &self.model, term)
     }
 
     /// Resets a user's constraint, and puts it behind the others, with the distinct subterms then.
@@ -168,14 +178,17 @@ impl<U: LocalConstraint> Solver<U> {
         ensures name { IfErr result (λ back. U.user_name back.1 ≡ U.user_name user) }
     {
         let mut user = user;
-        let Ok(numbers) = reset_to_zeros(self.alloc, &mut user, count) else {
-            return Err((SolverFault::NoMemory, user));
-        };
-        if self.users.reserve().is_err() {
-            return Err((SolverFault::NoMemory, user));
-        }
-        match push_member(self.alloc, &mut self.model, k.side, k.index, member) {
-            Ok(()) => {
+        let put = put_node(
+            self.alloc,
+            &mut self.users,
+            &mut self.model,
+            &mut user,
+            count,
+            k,
+            member,
+        );
+        match put {
+            Ok(numbers) => {
                 self.users.push_reserved(self.alloc, user, numbers);
                 self.terms = Some(counted);
                 Ok(())

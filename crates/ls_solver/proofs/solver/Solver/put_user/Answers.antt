@@ -8,24 +8,24 @@ use Rattle.solver_models.proofs.AddLaws.{member_within, no_member_there, user_th
 use Rattle.term_model.specs.Posting.{totals_by}
 use Rattle.ls_solver.proofs.solver.Solver.put_user.Goals as goal
 
-pub push_member-requires : goal.push_member-requires
-push_member-requires g c =
+pub put_node-put-requires : goal.put_node-put-requires
+put_node-put-requires g c =
     subst (λ (t : SolverState). c.args.k.index < length (totals_by t.model c.args.k.side)) (sym c.self.view_is)
     (member_within c.args.self.now c.args.k c.args.member.term c.args.member.weight c.requires.early)
 
-pub invariant_of-self-in-Ok-push_member : goal.invariant_of-self-in-Ok-push_member
-invariant_of-self-in-Ok-push_member g c =
+pub invariant_of-self : goal.invariant_of-self
+invariant_of-self g c =
     let s = c.self.inside in
-    let rule = kept (g.U.LocalConstraint.user_rule c.reset_to_zeros.new.user) in
-    let rules = c.push_reserved.ensures ∙ ap (λ ps. rules_of ps ++ rule ∷ []) c.reserve.ensures.same in
-    subst (λ rs. IsKept c.push_member.new.model s.assignment.items s.marks.items rs (Some c.args.counted) (seen_values s.values) s.closed s.usable) (sym {a = rules_of c.push_reserved.new.self.posted.items} rules)
-    (user_there s.number s.model c.push_member.new.model s.assignment.items s.marks.items (rules_of s.users.posted.items) s.terms c.args.counted (seen_values s.values) s.closed s.usable c.args.k c.args.member c.self.invariant
-    c.args.self.now c.self.view_is rule c.in-Ok-push_member.ensures.ok c.requires.early c.requires.shallow c.requires.kind c.requires.users c.requires.counted)
+    let rule = kept (g.U.LocalConstraint.user_rule c.put_node-put.new.user) in
+    let rules = c.push_reserved.ensures ∙ ap (λ ps. rules_of ps ++ rule ∷ []) c.put_node-put.ensures.same in
+    subst (λ rs. IsKept c.put_node-put.new.model s.assignment.items s.marks.items rs (Some c.args.counted) (seen_values s.values) s.closed s.usable) (sym {a = rules_of c.push_reserved.new.self.posted.items} rules)
+    (user_there s.number s.model c.put_node-put.new.model s.assignment.items s.marks.items (rules_of s.users.posted.items) s.terms c.args.counted (seen_values s.values) s.closed s.usable c.args.k c.args.member c.self.invariant
+    c.args.self.now c.self.view_is rule c.in-Ok.ensures.ok c.requires.early c.requires.shallow c.requires.kind c.requires.users c.requires.counted)
 
-pub invariant_of-self-in-Err-push_member : goal.invariant_of-self-in-Err-push_member
-invariant_of-self-in-Err-push_member g c =
+pub invariant_of-self-in-Err-1 : goal.invariant_of-self-in-Err-1
+invariant_of-self-in-Err-1 g c =
     let s = c.self.inside in
-    let rules = ap rules_of c.reserve.ensures.same in
-    subst (λ rs. IsKept c.push_member.new.model s.assignment.items s.marks.items rs s.terms (seen_values s.values) s.closed s.usable) (sym {a = rules_of c.reserve.new.self.posted.items} rules)
-    (no_member_there s.number s.model c.push_member.new.model s.assignment.items s.marks.items (rules_of s.users.posted.items) s.terms c.args.counted (seen_values s.values) s.closed s.usable c.args.k c.args.member c.self.invariant
+    let rules = ap rules_of c.put_node-put.ensures.same in
+    subst (λ rs. IsKept c.put_node-put.new.model s.assignment.items s.marks.items rs s.terms (seen_values s.values) s.closed s.usable) (sym {a = rules_of c.put_node-put.new.users.posted.items} rules)
+    (no_member_there s.number s.model c.put_node-put.new.model s.assignment.items s.marks.items (rules_of s.users.posted.items) s.terms c.args.counted (seen_values s.values) s.closed s.usable c.args.k c.args.member c.self.invariant
     c.args.self.now c.self.view_is c.in-Err.ensures.err c.requires.early)
