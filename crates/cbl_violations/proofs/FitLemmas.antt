@@ -1,7 +1,6 @@
 -- Where a value is there, each number that it is made of fits.
 use Rattle.std.proofs.Common.{◌≡◌, ℕ, zero, suc, ◌+◌, ◌<◌, ◌≤◌, Bool, true, false, cond, List, [], ◌∷◌, ◌++◌, refl, ap, ◌∙◌, sym, arith, ◌&&◌, Ok, Err, Result, ◌⊎◌, inl, inr}
-use Rattle.std.specs.Prelude.{ℤ, pos, negsuc, map, IsOk, int_lt, ◌≤ℤ◌}
-use Rattle.std.specs.Int.{int_max}
+use Rattle.std.specs.Prelude.{ℤ, pos, negsuc, map, IsOk, ◌≤ℤ◌}
 use Rattle.std.proofs.lemmas.Int.{ints}
 use Rattle.std.proofs.lemmas.Bool.Decides.{nat_tests}
 use Rattle.std.specs.List.{list_all, range_with_len}
@@ -53,13 +52,6 @@ exact_ok z e = ap (λ b. cond b (Ok z) (Err Overflow)) e
 -- what `unwrap_or` gives of a number that fits
 pub unwrapped : (z : ℤ) (r : Result ℤ RunFault) (u : ℤ) → fits_64 z ≡ true → r ≡ exact z → u ≡ result_unwrap_or r (pos 0) → u ≡ z
 unwrapped z r u fit e f = f ∙ ap (λ r. result_unwrap_or r (pos 0)) (e ∙ exact_ok z fit)
-
-pub fits_excess : (z : ℤ) → fits_64 z ≡ true → fits_64 (int_max z (pos 0)) ≡ true
-fits_excess z e = by_test (int_lt (pos 0) z)
-  where
-    by_test : (b : Bool) → fits_64 (cond b z (pos 0)) ≡ true
-    by_test true = e
-    by_test false = refl
 
 -- a number between 0 and one that fits
 pub fits_between : (y z : ℤ) → pos 0 ≤ℤ y → y ≤ℤ z → fits_64 z ≡ true → fits_64 y ≡ true

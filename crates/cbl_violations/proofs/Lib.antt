@@ -15,3 +15,4 @@ pub mod SequenceLaws
 pub mod SequenceRun
 pub mod SumSteps
 pub mod ValuesLemmas
+pub mod WideNumbers

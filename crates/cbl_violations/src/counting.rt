@@ -1,5 +1,5 @@
 //! How often values stand in a slice, and their bounds.
-ghost use Rattle.std.specs.Prelude.{◌≡◌};
+ghost use Rattle.std.specs.Prelude.{◌≡◌, slice_get};
 ghost use Rattle.cbl_base.specs.Counts.{count_of};
 ghost use Rattle.cbl_violations.specs.Bounds.{bound_of};
 
@@ -18,5 +18,12 @@ pub(crate) fn bound_of(low: i64, bounds: &[i64], value: i64) -> Option<i64>
     if index < 0 {
         return None;
     }
-    bounds.get(index as usize).copied()
+    entry(bounds, index as usize)
+}
+
+/// The entry at an index. `None` exactly past the end.
+fn entry(bounds: &[i64], index: usize) -> Option<i64>
+    ensures { result ≡ slice_get bounds.now index }
+{
+    bounds.get(index).copied()
 }

@@ -8,15 +8,6 @@ use Rattle.layer_plan.specs.NamedCycle.{IsNoLater, IsNamedCycle}
 use Rattle.layer_plan.specs.Nearness.{IsNear, ComesFirst, IsLeastOnCycle}
 use Rattle.layer_plan.proofs.Ways.{back_of_cycle, near_of_way}
 
-pub comes_first_next : (near : ℕ → ℕ) (a b c : ℕ) → ComesFirst near a b → ComesFirst near b c → ComesFirst near a c
-comes_first_next near a b c h k = elim h [
-  | inl x ↦ elim k [ inl y ↦ inl (omega arith) | inr y ↦ (let e = y.0 in inl (omega arith)) ]
-  | inr x ↦ (let e = x.0 in let le = x.1 in elim k [ inl y ↦ inl (omega arith) | inr y ↦ (let f = y.0 in let lf = y.1 in inr (omega arith, omega arith)) ])
-]
-
-pub comes_first_self : (near : ℕ → ℕ) (a : ℕ) → ComesFirst near a a
-comes_first_self near a = inr (refl, omega arith)
-
 -- the items of a shortest way from `v` to the root, the first in the order of lists
 pub record IsBest (deps : List (Vec ℕ Global)) (near : ℕ → ℕ) (root v : ℕ) (ys : List ℕ) : Type 0 where
   pub leads : Leads deps ys root

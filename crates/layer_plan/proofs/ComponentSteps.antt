@@ -204,3 +204,50 @@ Settled-open deps mark mark' place place' n x least o s = record {
   on_itself = s.on_itself;
   lies = s.lies;
 }
+
+-- what changes where one entry more of the list of `x`, that at `p`, was looked at
+pub record Passes (rest rest' : ℕ → ℕ) (x p : ℕ) : Type 0 where
+  pub was : rest x ≡ p + 1
+  pub is : rest' x ≡ p
+  pub same : (v : ℕ) → (v ≡ x → ⊥) → rest' v ≡ rest v
+
+passes_less : (rest rest' : ℕ → ℕ) (x p v : ℕ) → Passes rest rest' x p → rest' v ≤ rest v
+passes_less rest rest' x p v o = elim (cases_eq v x) [ inl e ↦ (let a = ap rest e in let b = ap rest' e in let c = o.was in let d = o.is in omega arith) | inr n ↦ (let a = o.same v n in omega arith) ]
+
+-- an entry that was looked at was so before, or is the new one
+passes_at : (rest rest' : ℕ → ℕ) (x p v k : ℕ) → Passes rest rest' x p → rest' v ≤ k → (rest v ≤ k) ⊎ ((v ≡ x) × (k ≡ p))
+passes_at rest rest' x p v k o le = elim (cases_eq v x) [
+  | inl e ↦ (let a = ap rest e in let b = ap rest' e in let c = o.was in let d = o.is in elim (cases_eq k p) [ inl q ↦ inr (e, q) | inr n ↦ inl (omega arith) ])
+  | inr n ↦ (let a = o.same v n in inl (omega arith))
+]
+
+pub Trailing-pass : (deps : List (Vec ℕ Global)) (mark : ℕ → Mark) (rest rest' place : ℕ → ℕ) (trail : List ℕ) (x p : ℕ) → Passes rest rest' x p → IsTrailing deps mark rest place trail → IsTrailing deps mark rest' place trail
+Trailing-pass deps mark rest rest' place trail x p o t = record {
+  items = t.items;
+  open_each = t.open_each;
+  rising = t.rising;
+  left = λ v lt e some. t.left v lt e (let a = passes_less rest rest' x p v o in omega arith);
+}
+
+pub Seen-pass : (deps : List (Vec ℕ Global)) (mark : ℕ → Mark) (rest rest' place : ℕ → ℕ) (starts : List ℕ) (x p w : ℕ) → Passes rest rest' x p → mark x ≡ Open → get_or (list_of deps x) p 0 ≡ w → (mark w ≡ Untouched → ⊥) → (mark w ≡ Open → IsNoEarlier starts (place x) (place w)) → IsSeen deps mark rest place starts → IsSeen deps mark rest' place starts
+Seen-pass deps mark rest rest' place starts x p w o opened at touched behind s =
+    let entry : (v k : ℕ) → v ≡ x → k ≡ p → get_or (list_of deps v) k 0 ≡ w = λ v k e q. ap (λ y. get_or (list_of deps y) k 0) e ∙ ap (λ y. get_or (list_of deps x) y 0) q ∙ at in
+    record {
+      fresh = λ v lt e. o.same v (λ q. open_other mark v x e opened (sym q)) ∙ s.fresh v lt e;
+      within = λ v lt. (let a = passes_less rest rest' x p v o in let b = s.within v lt in omega arith);
+      touched = λ v k lt e a b. elim (passes_at rest rest' x p v k o a) [ inl h ↦ s.touched v k lt e h b | inr h ↦ subst (λ y. mark y ≡ Untouched → ⊥) (sym (entry v k h.0 h.1)) touched ];
+      no_earlier = λ v k lt e a b. elim (passes_at rest rest' x p v k o a) [
+        | inl h ↦ s.no_earlier v k lt e h b
+        | inr h ↦ subst (λ y. mark y ≡ Open → IsNoEarlier starts (place v) (place y)) (sym (entry v k h.0 h.1)) (subst (λ y. mark w ≡ Open → IsNoEarlier starts (place y) (place w)) (sym h.0) behind)
+      ];
+    }
+
+-- where the trail's last item is before the place, all of it is
+pub trail_low : (deps : List (Vec ℕ Global)) (mark : ℕ → Mark) (rest place : ℕ → ℕ) (trail : List ℕ) (x start : ℕ) → IsTrailing deps mark rest place trail → IsLast trail x → place x < start → (i : ℕ) → i < length trail → place (get_or trail i 0) < start
+trail_low deps mark rest place trail x start t last low i i_in =
+    let size = last.1 in
+    let at = ap place last.2 in
+    elim (cases_eq i last.0) [
+      | inl e ↦ (let f = ap (λ k. place (get_or trail k 0)) e in omega arith)
+      | inr n ↦ (let r = t.rising i last.0 (omega arith) (omega arith) in omega arith)
+    ]

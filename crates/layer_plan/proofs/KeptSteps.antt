@@ -4,7 +4,7 @@ use Rattle.std.specs.declared.alloc.Global.{Global}
 use Rattle.std.proofs.lemmas.Bool.{cases_eq, cases_lt}
 use Rattle.layer_plan.specs.Dependencies.{list_of, DependsOn}
 use Rattle.std.proofs.lemmas.List.{get_or-set_same, get_or-set_other}
-use Rattle.std.proofs.lemmas.List.Sums.{sum_by-set}
+use Rattle.std.proofs.lemmas.List.Sums.{sum_by-set, sum_by-le}
 use Rattle.layer_plan.specs.Search.{Kept, IsReached, is_left}
 use Rattle.layer_plan.specs.declared.search.Stage.{Stage}
 use Rattle.layer_plan.specs.declared.search.Stage.TheVariants.{Untouched, Open, Placed}
@@ -99,3 +99,22 @@ touched_set st x new x_in ne v h e = elim (cases_eq v x) [
   | inl q ↦ ne (sym (get_or-set_same st x new Untouched x_in) ∙ sym (ap (λ y. get_or (set st x new) y Untouched) q) ∙ e)
   | inr n ↦ h (sym (get_or-set_other st x v new Untouched n) ∙ e)
 ]
+
+-- the search begins: nothing was done with any item
+left_low : (m : Stage) → is_left m ≤ 1
+left_low Untouched = omega arith
+left_low Open = omega arith
+left_low Placed = omega arith
+
+pub Kept-start : (deps : List (Vec ℕ Global)) (st : List Stage) (l r : ℕ → ℕ) → length st ≡ length deps → ((v : ℕ) → v < length deps → get_or st v Untouched ≡ Untouched) → ((v : ℕ) → v < length deps → l v ≡ 0) → ((v : ℕ) → v < length deps → r v ≡ length (list_of deps v)) → Kept deps (λ v. get_or st v Untouched) l r (sum_by is_left st)
+Kept-start deps st l r size fresh low full =
+    let few = sum_by-le is_left 1 st (λ k d lt. left_low (get_or st k d)) in
+    record {
+      within = λ v lt. (let e = full v lt in omega arith);
+      placed = λ v i lt a b. (let e = full v lt in absurd (omega arith));
+      below = λ v i lt a b. (let e = full v lt in absurd (omega arith));
+      reached = λ v lt. inl (low v lt);
+      done = λ v lt p. (let e = fresh v lt in cc);
+      room = λ v lt. (let e = low v lt in omega arith);
+      room_placed = λ v lt p. (let e = fresh v lt in cc);
+    }

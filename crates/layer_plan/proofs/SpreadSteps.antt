@@ -1,9 +1,9 @@
 -- The search back from a root, through each of its steps.
-use Rattle.std.proofs.Common.{Vec, ℕ, ◌+◌, ◌<◌, ◌≤◌, ◌≡◌, ◌⊎◌, ◌∙◌, List, [], ◌∷◌, ◌++◌, length, get_or, set, sum_by, subst, sym, ap, inl, inr, refl, arith}
+use Rattle.std.proofs.Common.{Vec, zero, suc, ℕ, ◌+◌, ◌<◌, ◌≤◌, ◌≡◌, ◌⊎◌, ◌∙◌, List, [], ◌∷◌, ◌++◌, length, get_or, set, sum_by, subst, sym, ap, inl, inr, refl, arith}
 use Rattle.std.specs.declared.alloc.Global.{Global}
 use Rattle.std.proofs.lemmas.Bool.{cases_eq, cases_lt}
 use Rattle.std.proofs.lemmas.Bool.Decides.{nat_tests}
-use Rattle.std.proofs.lemmas.List.Sums.{sum_by-set}
+use Rattle.std.proofs.lemmas.List.Sums.{sum_by-set, sum_by-le}
 use Rattle.std.proofs.lemmas.List.{length_push, get_or_push, get_or_append_left}
 use Rattle.layer_plan.specs.Dependencies.{DependsOn}
 use Rattle.layer_plan.specs.Nearness.{IsNear}
@@ -138,3 +138,33 @@ head_known uses near q head item s lt e =
     let size = s.size in
     let f = ap near e in
     omega arith
+
+-- the search begins: only the root is reached
+only_one : (root i : ℕ) → i < 1 → get_or (root ∷ []) i 0 ≡ root
+only_one root zero lt = refl
+only_one root (suc i) lt = absurd (omega arith)
+
+pub Spread-start : (uses : List (Vec ℕ Global)) (near : ℕ → ℕ) (root : ℕ) → root < length uses → near root ≡ 0 → ((v : ℕ) → v < length uses → (v ≡ root → ⊥) → near v ≡ length uses) → IsSpread uses near (root ∷ []) 0
+Spread-start uses near root root_in at far =
+    let is_root : (v : ℕ) → v < length uses → near v < length uses → v ≡ root = λ v v_in lt. elim (cases_eq v root) [ inl e ↦ e | inr n ↦ (let f = far v v_in n in absurd (omega arith)) ] in
+    let first : (i : ℕ) → i < 1 → near (get_or (root ∷ []) i 0) ≡ 0 = λ i lt. ap near (only_one root i lt) ∙ at in
+    record {
+      begun = omega arith;
+      size = omega arith;
+      items = λ i lt. subst (λ y. y < length uses) (sym (only_one root i lt)) root_in;
+      at_root = at;
+      only_root = λ v v_in z. is_root v v_in (omega arith);
+      bound = λ i lt. (let e = first i lt in omega arith);
+      all = λ v v_in lt. (0, omega arith, sym (is_root v v_in lt));
+      scanned = λ i v lt. absurd (omega arith);
+      rising = λ i j le lt. (let e = first i (omega arith) in omega arith);
+      flat = λ j lt some. (let e = first j lt in omega arith);
+      reached = λ v v_in some lt. (let e = ap near (is_root v v_in lt) in absurd (omega arith));
+    }
+
+-- at the begin all are far at most
+far_low : (count near : ℕ) → is_far count near ≤ 1
+far_low count near = elim (cases_lt near count) [ inl h ↦ (let e = far_no count near h in omega arith) | inr h ↦ (let e = far_yes count near h in omega arith) ]
+
+pub room_begun : (count : ℕ) (ns : List ℕ) (x : ℕ) → x < length ns → length ns ≡ count → count ≤ get_or ns x 0 → 1 + sum_by (is_far count) (set ns x 0) ≤ count
+room_begun count ns x x_in size far = let a = sum_by-le (is_far count) 1 ns (λ k d lt. far_low count (get_or ns k d)) in room_after count ns x 0 0 x_in far (omega arith) (omega arith)

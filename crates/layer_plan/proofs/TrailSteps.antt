@@ -40,3 +40,13 @@ Trail-pop deps s s' st i x t at is_x is same =
 
 pub leads_last : (deps : List (Vec ℕ Global)) (st : List ℕ) (item next : ℕ) → IsLast st item → DependsOn deps item next → LeadsOn deps st next
 leads_last deps st item next last dep i e = let last_at = last.1 in let q : i ≡ last.0 = omega arith in subst (λ y. DependsOn deps y next) (sym (ap (λ k. get_or st k 0) q ∙ last.2)) dep
+
+-- no item is open yet
+pub Trail-start : (deps : List (Vec ℕ Global)) (s : ℕ → Stage) → ((v : ℕ) → v < length deps → s v ≡ Untouched) → IsTrail deps s []
+Trail-start deps s fresh = record {
+  items = λ i lt. absurd (omega arith);
+  open_each = λ i lt. absurd (omega arith);
+  distinct = λ i j lt h. absurd (omega arith);
+  all = λ v lt o. (let e = fresh v lt in cc);
+  chain = λ i lt. absurd (omega arith);
+}

@@ -62,15 +62,6 @@ Adds-one old new i x xs l lt is count before after =
       ];
     }
 
--- nothing was added
-pub Adds-none : (old : List (Vec ℕ Global)) (P : ℕ → ℕ → Type 0) → ((w v : ℕ) → P w v → ⊥) → Adds old old P
-Adds-none old P none = record {
-  count = refl;
-  kept = λ w v d. d;
-  added = λ w v p. absurd (none w v p);
-  only = λ w v d. inl d;
-}
-
 -- one addition after another
 pub Adds-then : (a b c : List (Vec ℕ Global)) (P Q R : ℕ → ℕ → Type 0) → Adds a b P → Adds b c Q → ((w v : ℕ) → P w v → R w v) → ((w v : ℕ) → Q w v → R w v) → ((w v : ℕ) → R w v → P w v ⊎ Q w v) → Adds a c R
 Adds-then a b c P Q R p q from_p from_q split = record {

@@ -53,6 +53,3 @@ back_of deps x y (z ∷ xs) ys a e b f ne = (xs ++ ys, subst (λ v. Leads deps (
 
 pub back_of_ways : (deps : List (Vec ℕ Global)) (x y : ℕ) → HasWay deps x y → HasWay deps y x → (x ≡ y → ⊥) → LeadsBack deps x
 back_of_ways deps x y a b ne = back_of deps x y a.0 b.0 a.1 a.2 b.1 b.2 ne
-
-pub back_of_itself : (deps : List (Vec ℕ Global)) (x : ℕ) → DependsOn deps x x → LeadsBack deps x
-back_of_itself deps x d = ([], (d, tt))

@@ -1,12 +1,12 @@
 -- How often a number stands in a list, before and after a change.
-use Rattle.std.proofs.Common.{◌≡◌, ℕ, ◌+◌, ◌-◌, ◌<◌, ◌≤◌, ◌^◌, ℤ, Bool, true, false, cond, if◌then◌else◌, List, [], ◌∷◌, ◌++◌, length, get_or, refl, ap, ◌∙◌, arith}
+use Rattle.std.proofs.Common.{◌≡◌, ℕ, ◌+◌, ◌-◌, ◌<◌, ◌≤◌, ◌^◌, ℤ, Bool, true, false, cond, if◌then◌else◌, List, length, get_or, refl, ap, ◌∙◌, arith}
 use Rattle.std.specs.Prelude.{Some, None, unwrap_or}
 use Rattle.std.specs.List.{remove}
 use Rattle.std.specs.Map.{lookup}
 use Rattle.std.specs.Ordering.{int_eq}
 use Rattle.std.proofs.lemmas.List.Sums.{sum_by-remove}
 use Rattle.cbl_base.specs.Counts.{count_of}
-use Rattle.cbl_base.proofs.CountLemmas.{one_at, count_of-cons, count_of-append, count_of-set, count_of-le-length}
+use Rattle.cbl_base.proofs.CountLemmas.{one_at, count_of-set, count_of-le-length}
 use Rattle.cbl_base.proofs.SetLemmas.{int_eq-itself, int_eq-true}
 use Rattle.node_base.specs.declared.number_change.NumberChange.{NumberChange}
 use Rattle.node_base.specs.NumberChanges.{after_number_change, IsNumberChange}
@@ -67,11 +67,6 @@ less_is n y v = by_test (int_eq y v)
     by_test true = refl
     by_test false = omega arith
 
-pub counts_pushed : (f g : ℤ → ℕ) (xs : List ℤ) (y : ℤ) → AreCountsOf f xs → ((v : ℤ) → g v ≡ (if int_eq y v then f v + 1 else f v)) → AreCountsOf g (xs ++ y ∷ [])
-counts_pushed f g xs y are up v =
-    let one = count_of-cons v y [] in
-    omega (arith, are v, up v ∙ more_is (f v) y v, count_of-append v xs (y ∷ []), one)
-
 -- one more of the new number, and then one less of the old
 module _ (f g k : ℤ → ℕ) (xs : List ℤ) (c : NumberChange) (h : IsNumberChange xs c) (are : AreCountsOf f xs) (up : (v : ℤ) → g v ≡ (if int_eq c.new v then f v + 1 else f v)) where
   pub old_kept : 0 < g c.old
@@ -124,10 +119,6 @@ module _ (xs : List ℤ) (kept kept' kept'' : List (ℤ × ℕ)) (c : NumberChan
 
       changed : Shows xs kept'' (after_number_change ys c)
       changed v = omega (arith, more v, without v, count_after ys c h v)
-
--- ---- in a loop over changes, where an overlay shows the list so far
-pub shows_itself : (xs : List ℤ) → Shows xs [] xs
-shows_itself xs v = refl
 
 pub shown_stands : (xs : List ℤ) (kept : List (ℤ × ℕ)) (ys : List ℤ) (c : NumberChange) → Shows xs kept ys → IsNumberChange ys c → 0 < count_over xs kept c.old
 shown_stands xs kept ys c shows h = omega (arith, shows c.old, old_stands ys c h)

@@ -1,2 +1,3 @@
 pub mod CommaTexts
+pub mod MappedLists
 pub mod PlainTexts

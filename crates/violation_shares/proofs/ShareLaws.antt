@@ -19,7 +19,7 @@ use Rattle.model_values.specs.Dependence.{marked, var_depends, AreMarks}
 use Rattle.term_model.specs.Kinds.{kinds_in}
 use Rattle.model_values.specs.Outcomes.{Outcome, gathered}
 use Rattle.model_values.specs.VarOutcomes.{outcome_of_var}
-use Rattle.violation_shares.specs.VariableViolations.{Arguments, Weighed, answered, arguments_of, gather_violation, no_arguments, node_share, none_weighed, share_of, share_step, variable_violations_of, violation_in_system, violations_where, weigh_posted, weighed_in, weighted_violation, with_argument, with_member, HasWeightsOf}
+use Rattle.violation_shares.specs.VariableViolations.{Arguments, Weighed, answered, arguments_of, gather_violation, no_arguments, node_share, none_weighed, share_of, share_step, variable_violations_of, violation_in_system, violations_where, weigh_posted, weighed_in, weighted_violation, with_argument, with_member, with_weighed, HasWeightsOf}
 use Rattle.term_model.specs.Wellformed.{IsWellFormed}
 use Rattle.model_values.specs.Wholes.{outcome_of_whole, place_of}
 use Rattle.model_values.specs.Support.{member_in}
@@ -91,13 +91,10 @@ kind_of_share share kind (Ok s) h f = subst (λ u. IfSome u.outcome (λ x. kind 
 kind_of_share share kind (Err e) h f = tt
 
 -- ---- the members of a system one after another
-pub member_weighed : (users : ℕ → NumberRule) (env : ℕ → Outcome) (depends : ℕ → Bool) (M : Model) (s : ℕ) (violations after : Result (List ℤ) RunFault) (weights weights' : List ℤ) (posted : Posted) (member : Member) (share : Share) →
-    Some member ≡ member_in M (System s) posted → share ≡ share_of users env depends member.term → after ≡ gather_violation violations share.violation → weights' ≡ weights ++ member.weight ∷ [] →
-    ◌≡◌ {A = Weighed} (record { violations = after; weights = weights' }) (weigh_posted users env depends M s (record { violations = violations; weights = weights }) posted)
-member_weighed users env depends M s violations after weights weights' posted member share is e h w =
-    ap (λ v. record { violations = v; weights = weights' }) (h ∙ ap (λ (u : Share). gather_violation violations u.violation) e)
-    ∙ ap (λ (v : List ℤ). record { violations = gather_violation violations (share_of users env depends member.term).violation; weights = v }) w
-    ∙ ap (with_member users env depends (record { violations = violations; weights = weights })) is
+pub member_weighed : (users : ℕ → NumberRule) (env : ℕ → Outcome) (depends : ℕ → Bool) (M : Model) (s : ℕ) (weighed after : Weighed) (posted : Posted) (member : Member) (share : Share) →
+    Some member ≡ member_in M (System s) posted → share ≡ share_of users env depends member.term → after ≡ with_weighed weighed share.violation member.weight → after ≡ weigh_posted users env depends M s weighed posted
+member_weighed users env depends M s weighed after posted member share is e h =
+    h ∙ ap (λ (u : Share). with_weighed weighed u.violation member.weight) e ∙ ap (with_member users env depends weighed) is
 
 one_weight : (violations : Result (List ℤ) RunFault) (violation : Result ℤ RunFault) (weights : List ℤ) (w : ℤ) → HasWeightsOf violations weights → HasWeightsOf (gather_violation violations violation) (weights ++ w ∷ [])
 one_weight (Ok xs) (Ok x) weights w h = length-append xs (_ ∷ []) ∙ ap (λ n. n + 1) h ∙ sym (length-append weights (w ∷ []))

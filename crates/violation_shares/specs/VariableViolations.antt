@@ -144,6 +144,10 @@ with_member users env depends weighed (Some member) = record {
 }
 with_member users env depends weighed None = weighed
 
+-- what is weighed so far, and a member's violations with its weight
+abbrev pub with_weighed : Weighed → Result ℤ RunFault → ℤ → Weighed
+with_weighed weighed violation weight = record { violations = gather_violation weighed.violations violation; weights = weighed.weights ++ weight ∷ [] }
+
 abbrev pub weigh_posted : (ℕ → NumberRule) → (ℕ → Outcome) → (ℕ → Bool) → Model → ℕ → Weighed → Posted → Weighed
 weigh_posted users env depends M s weighed posted = with_member users env depends weighed (member_in M (System s) posted)
 

@@ -42,7 +42,6 @@ fn guessed_marks<U: UserValues>(tables: &Tables<'_, U>, var: u32) -> Result<Vec<
     Ok(marks)
 }
 
-#[tactic(auto, using(model_values::proofs::MarkLaws::marks_push))]
 /// A mark for each variable that is `var` or names one that has a mark.
 fn next_marks<U: UserValues>(
     tables: &Tables<'_, U>,

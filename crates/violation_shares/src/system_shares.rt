@@ -1,12 +1,13 @@
 //! The violations of a variable in a system.
-ghost use Rattle.std.specs.Prelude.{◌≡◌, ◌<◌, ◌++◌, [], ◌∷◌, IfOk, Ok, Err, length};
+ghost use Rattle.std.specs.Prelude.{◌≡◌, ◌<◌, ◌++◌, [], ◌∷◌, IfOk, Ok, Err, length, map};
 ghost use Rattle.model_values.specs.Asked.{IsAnswer, answer_of, stop_at};
 ghost use Rattle.term_model.specs.Definitions.{IsAcyclic};
 ghost use Rattle.model_values.specs.Dependence.{marked};
 ghost use Rattle.term_model.specs.Kinds.{kinds_in};
 ghost use Rattle.model_values.specs.Outcomes.{HasKinds, env_of};
+ghost use Rattle.model_values.specs.Settling.{AreTables};
 ghost use Rattle.term_model.specs.Users.{user_rules};
-ghost use Rattle.violation_shares.specs.VariableViolations.{HasWeightsOf, answered, listed_violations, none_weighed, seen_weighed, variable_violations_of, violation_in_system, weigh_posted, weighed_in, weighted_violation};
+ghost use Rattle.violation_shares.specs.VariableViolations.{HasWeightsOf, answered, listed_violations, none_weighed, seen_weighed, variable_violations_of, violation_in_system, weigh_posted, weighed_in, weighted_violation, with_weighed};
 ghost use Rattle.term_model.specs.Wellformed.{IsWellFormed, HasDefinedSets};
 
 use crate::dependence::marks_of;
@@ -17,10 +18,10 @@ use model_values::asked::AskStop;
 use model_values::computing::UserValues;
 use model_values::deltas::whole_outcome;
 use model_values::evaluation::Setting;
-use model_values::settling::{outcomes_of, tables_of};
+use model_values::settling::{Tables, outcomes_of, tables_of};
 use model_values::wholes::{Sum, Whole, member_in, place_of};
 use std::alloc::Global;
-use term_model::{Model, Posted};
+use term_model::{Member, Model, Posted};
 
 /// The variable's violations in the members of a system, so far, and their weights; or why one doesn't fit
 /// in place of the violations.
@@ -30,7 +31,29 @@ pub(crate) struct WeighedHeld {
     pub(crate) weights: Vec<i64>,
 }
 
-#[tactic(auto, using(model_values::proofs::PartLaws::member_kinded, crate::proofs::ShareLaws::member_weighed, crate::proofs::ShareLaws::weights_more))]
+/// The members so far and one more, in which the variable has these violations.
+#[tactic(auto, using(crate::proofs::ShareLaws::weights_more))]
+fn with_member(
+    weighed: WeighedHeld,
+    member: &Member,
+    violation: Result<i64, RunFault>,
+) -> Result<WeighedHeld, NoMemory>
+    requires weighed { HasWeightsOf (listed_violations weighed.violations) weighed.weights.items }
+    ensures more { IfOk result (λ w. seen_weighed w ≡
+        with_weighed (seen_weighed weighed) violation member.now.weight) }
+    ensures weighed { IfOk result (λ w.
+        HasWeightsOf (listed_violations w.violations) w.weights.items) }
+{
+    let violations = gather_violation(weighed.violations, violation)?;
+    let mut weights = weighed.weights;
+    weights.push(member.weight)?;
+    Ok(WeighedHeld {
+        violations,
+        weights,
+    })
+}
+
+#[tactic(auto, using(model_values::proofs::PartLaws::member_kinded, crate::proofs::ShareLaws::member_weighed))]
 /// The members so far and what was posted, where it is one of them.
 fn weigh_posted<U: UserValues>(
     setting: &Setting<'_, U>,
@@ -54,13 +77,7 @@ fn weigh_posted<U: UserValues>(
         return Ok(weighed);
     };
     let share = term_share(setting, marks, &member.term)?;
-    let violations = gather_violation(weighed.violations, share.violation)?;
-    let mut weights = weighed.weights;
-    weights.push(member.weight)?;
-    Ok(WeighedHeld {
-        violations,
-        weights,
-    })
+    with_member(weighed, member, share.violation)
 }
 
 /// The members of a system, in order of posting.
@@ -138,7 +155,39 @@ fn answered(whole: Sum, violation: Result<i64, RunFault>) -> Result<i64, AskStop
     }
 }
 
+/// The violations of a variable in a system, from the tables of its model and an assignment.
 #[tactic(auto, using(crate::proofs::ShareLaws::variable_from))]
+fn violations_by<U: UserValues>(
+    tables: &Tables<'_, U>,
+    system: u32,
+    var: u32,
+) -> Result<i64, AskStop>
+    requires well_formed { IsWellFormed tables.now.model.now }
+    requires sets { HasDefinedSets tables.now.model.now }
+    requires acyclic { IsAcyclic tables.now.model.now }
+    requires assigned { length tables.now.assignment.now ≡ length tables.now.model.now.vars.items }
+    requires tables { AreTables tables.now.model.now tables.now.definitions.items
+        (map (λ names. names.items) tables.now.named.items) }
+    requires system { system < length tables.now.model.now.systems.items }
+    ensures { IsAnswer (variable_violations_of
+        (user_rules (U.viol_of tables.now.users.now)
+        (U.viol_at tables.now.users.now)) tables.now.model.now tables.now.assignment.now system var)
+        result }
+{
+    let cells = outcomes_of(tables)?;
+    let marks = marks_of(tables, var)?;
+    let setting = Setting {
+        alloc: tables.alloc,
+        users: tables.users,
+        model: tables.model,
+        cells: &cells,
+    };
+    let whole = Whole::System(system as usize);
+    let outcome = whole_outcome(tables, &setting, whole, place_of(tables.model, whole))?;
+    let violation = violation_in_system(&setting, &marks, system as usize)?;
+    answered(outcome, violation)
+}
+
 /// The violations of a variable in a system: in a constraint the greatest of the violations at the places
 /// whose term depends on it, also through definitions, and 0 where there is none; in a combination of
 /// constraints by that of its members, and in the system their total, each times its weight. The system
@@ -165,16 +214,5 @@ pub fn variable_violations<U: UserValues>(
         (U.viol_at users.now)) model.now assignment.now system var) result }
 {
     let tables = tables_of(alloc, users, model, assignment)?;
-    let cells = outcomes_of(&tables)?;
-    let marks = marks_of(&tables, var)?;
-    let setting = Setting {
-        alloc,
-        users,
-        model,
-        cells: &cells,
-    };
-    let whole = Whole::System(system as usize);
-    let outcome = whole_outcome(&tables, &setting, whole, place_of(model, whole))?;
-    let violation = violation_in_system(&setting, &marks, system as usize)?;
-    answered(outcome, violation)
+    violations_by(&tables, system, var)
 }

@@ -1,22 +1,41 @@
-use Rattle.std.proofs.Common.{◌≡◌, ◌∙◌, ap, subst, sym}
-use Rattle.model_values.specs.Dependence.{AreMarks}
-use Rattle.model_values.specs.Outcomes.{env_of}
-use Rattle.model_values.specs.VarOutcomes.{outcome_of_var}
+use Rattle.std.proofs.Common.{◌∙◌, ◌<◌, ap, length, map, subst, sym}
+use Rattle.model_values.specs.Asked.{IsAnswer}
+use Rattle.model_values.specs.Settling.{AreTables}
+use Rattle.term_model.specs.Definitions.{IsAcyclic}
 use Rattle.term_model.specs.Users.{user_rules}
-use Rattle.violation_shares.proofs.ShareLaws.{variable_from}
+use Rattle.term_model.specs.Wellformed.{IsWellFormed, HasDefinedSets}
+use Rattle.term_model.specs.declared.model.Model.{Model}
+use Rattle.violation_shares.specs.VariableViolations.{variable_violations_of}
 use Rattle.violation_shares.proofs.system_shares.variable_violations.Goals as goal
 
 pub returns : goal.returns
 returns g c =
     let t = c.in_ok-tables.tables in
-    let M = c.args.model.now in
-    let a = c.args.assignment.now in
-    let users = user_rules (g.U.UserValues.viol_of c.args.users.now) (g.U.UserValues.viol_at c.args.users.now) in
     let same = c.in_ok-tables.ensures.same in
-    let env : env_of c.in_ok-cells.cells.items ≡ outcome_of_var users M a =
-    c.in_ok-cells.ensures.env ∙ ap (λ u. outcome_of_var (user_rules (g.U.UserValues.viol_of u) (g.U.UserValues.viol_at u)) t.model.now t.assignment.now) same.0
-    ∙ ap (λ N. outcome_of_var users N t.assignment.now) same.1 ∙ ap (outcome_of_var users M) same.2 in
-    let marks = c.deref-2.result.now in
-    let are : AreMarks M c.args.var marks = subst (λ N. AreMarks N c.args.var marks) same.1 (subst (AreMarks t.model.now c.args.var) (sym c.deref-2.ensures.value) c.in_ok-marks.ensures) in
-    variable_from users M a c.args.system c.args.var c.place_of.result (env_of c.deref.result.now) marks c.in_ok-outcome.outcome c.in_ok-violation.violation c.answered.result
-    c.requires.well_formed (ap env_of c.deref.ensures.value ∙ env) are c.place_of.ensures c.in_ok-outcome.ensures c.in_ok-violation.ensures c.answered.ensures
+    subst (λ answer. IsAnswer answer c.violations_by.result)
+        (ap (λ u. variable_violations_of (user_rules (g.U.UserValues.viol_of u) (g.U.UserValues.viol_at u)) t.model.now t.assignment.now c.args.system c.args.var) same.0
+        ∙ ap (λ M. variable_violations_of (user_rules (g.U.UserValues.viol_of c.args.users.now) (g.U.UserValues.viol_at c.args.users.now)) M t.assignment.now c.args.system c.args.var) same.1
+        ∙ ap (λ a. variable_violations_of (user_rules (g.U.UserValues.viol_of c.args.users.now) (g.U.UserValues.viol_at c.args.users.now)) c.args.model.now a c.args.system c.args.var) same.2)
+        c.violations_by.ensures
+
+pub violations_by-requires-clause-well_formed : goal.violations_by-requires-clause-well_formed
+violations_by-requires-clause-well_formed g c = subst IsWellFormed (sym c.in_ok-tables.ensures.same.1) c.requires.well_formed
+
+pub violations_by-requires-clause-sets : goal.violations_by-requires-clause-sets
+violations_by-requires-clause-sets g c = subst HasDefinedSets (sym c.in_ok-tables.ensures.same.1) c.requires.sets
+
+pub violations_by-requires-clause-acyclic : goal.violations_by-requires-clause-acyclic
+violations_by-requires-clause-acyclic g c = subst IsAcyclic (sym c.in_ok-tables.ensures.same.1) c.requires.acyclic
+
+pub violations_by-requires-clause-assigned : goal.violations_by-requires-clause-assigned
+violations_by-requires-clause-assigned g c =
+    let same = c.in_ok-tables.ensures.same in
+    ap length same.2 ∙ c.requires.assigned ∙ ap (λ (M : Model). length M.vars.items) (sym same.1)
+
+pub violations_by-requires-clause-tables : goal.violations_by-requires-clause-tables
+violations_by-requires-clause-tables g c =
+    let t = c.in_ok-tables.tables in
+    subst (λ M. AreTables M t.definitions.items (map (λ names. names.items) t.named.items)) (sym c.in_ok-tables.ensures.same.1) c.in_ok-tables.ensures.tables
+
+pub violations_by-requires-clause-system : goal.violations_by-requires-clause-system
+violations_by-requires-clause-system g c = subst (λ (M : Model). c.args.system < length M.systems.items) (sym c.in_ok-tables.ensures.same.1) c.requires.system
