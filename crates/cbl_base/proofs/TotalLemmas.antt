@@ -41,14 +41,6 @@ total-zeros [] h = refl
 total-zeros (x ∷ xs) h =
     omega (arith, ints, All-head (λ x. x ≡ pos 0) x xs h, total-zeros xs (All-tail (λ x. x ≡ pos 0) x xs h))
 
--- each is no more than the total
-pub part-le-total : (xs : List ℤ) (i : ℕ) (d : ℤ) → All (λ x. pos 0 ≤ℤ x) xs → i < length xs → get_or xs i d ≤ℤ total xs
-part-le-total [] i d h lt = absurd (omega arith)
-part-le-total (x ∷ xs) zero d h lt =
-    omega (arith, ints, total-nonnegative xs (All-tail (λ x. pos 0 ≤ℤ x) x xs h))
-part-le-total (x ∷ xs) (suc i) d h lt =
-    omega (arith, ints, All-head (λ x. pos 0 ≤ℤ x) x xs h, part-le-total xs i d (All-tail (λ x. pos 0 ≤ℤ x) x xs h) (omega arith))
-
 pub total_by-append : {X : Type 0} (f : X → ℤ) (xs ys : List X) → total_by f (xs ++ ys) ≡ total_by f xs +ℤ total_by f ys
 total_by-append f xs ys = ap total (map-append f xs ys) ∙ total-append (map f xs) (map f ys)
 

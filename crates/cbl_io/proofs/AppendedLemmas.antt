@@ -1,12 +1,7 @@
 -- Pieces that are appended one after the other.
-use Rattle.std.proofs.Common.{◌≡◌, ◌++◌, ◌-◌, ℕ, List, [], Option, Some, None, refl, append_assoc, ap, sym, append-nil, length, take, drop}
+use Rattle.std.proofs.Common.{◌≡◌, ◌++◌, ◌-◌, ℕ, List, Option, Some, None, append_assoc, length, take, drop}
 use Rattle.std.proofs.lemmas.List.{take-append-drop, take_rest}
 use Rattle.cbl_io.specs.Appended.{Appends}
-
--- nothing is appended where nothing changes
-pub Appends-nil : (bytes : Option (List ℕ)) → Appends bytes bytes []
-Appends-nil None = refl
-Appends-nil (Some old) = ap Some (sym (append-nil old))
 
 -- two pieces in turn are one piece
 pub Appends-append : (old middle new : Option (List ℕ)) (first second : List ℕ)

@@ -1,28 +1,12 @@
 -- A run that ended as its program means has the cause and the bytes of its meaning.
-use Rattle.std.proofs.Common.{◌≡◌, ◌≢◌, ◌++◌, ℕ, List, [], Option, refl, sym, ◌∙◌, ap, append-nil, append_assoc}
+use Rattle.std.proofs.Common.{◌≡◌, ◌≢◌, ◌++◌, ℕ, List, [], Option, sym, ◌∙◌, ap, append-nil, append_assoc}
 use Rattle.cbl_io.specs.Appended.{AppendsFront}
 use Rattle.comet_meaning.specs.Onward.{IsFront}
 use Rattle.comet_meaning.specs.Program.{Meant}
 use Rattle.stmt_run.specs.Ending.{EndsAs}
 use Rattle.stmt_run.specs.declared.execution.RunEnd.{RunEnd}
 use Rattle.stmt_run.specs.declared.execution.RunEnd.TheVariants as ends
-use Rattle.comet.specs.Status.{status_of, cause_of, cause_of_run}
-
-pub ends_with : (end : RunEnd) (fuel : ℕ) (printed : List ℕ) (m : Meant) → EndsAs end fuel printed m → status_of (cause_of_run end) ≢ 7 → cause_of_run end ≡ cause_of m.end
-ends_with ends.Done fuel printed m e wants = ap (λ n. cause_of n.end) (sym e)
-ends_with (ends.Cyclic place names) fuel printed m e wants = ap (λ n. cause_of n.end) (sym e)
-ends_with (ends.Run place fault) fuel printed m e wants = ap (λ n. cause_of n.end) (sym e)
-ends_with (ends.Spent place) fuel printed m e wants = ap (λ n. cause_of n.end) (sym e)
-ends_with ends.NoMemory fuel printed m e wants = absurd (wants refl)
-ends_with ends.Write fuel printed m e wants = absurd (wants refl)
-
-pub prints_with : (end : RunEnd) (fuel : ℕ) (printed : List ℕ) (m : Meant) → EndsAs end fuel printed m → status_of (cause_of_run end) ≢ 7 → printed ≡ m.printed
-prints_with ends.Done fuel printed m e wants = ap (λ n. n.printed) (sym e)
-prints_with (ends.Cyclic place names) fuel printed m e wants = ap (λ n. n.printed) (sym e)
-prints_with (ends.Run place fault) fuel printed m e wants = ap (λ n. n.printed) (sym e)
-prints_with (ends.Spent place) fuel printed m e wants = ap (λ n. n.printed) (sym e)
-prints_with ends.NoMemory fuel printed m e wants = absurd (wants refl)
-prints_with ends.Write fuel printed m e wants = absurd (wants refl)
+use Rattle.comet.specs.Status.{status_of, cause_of_run}
 
 whole : {printed : List ℕ} (m : Meant) → m.printed ≡ printed → IsFront printed m.printed
 whole {printed = printed} m e = ([], e ∙ sym (append-nil printed))

@@ -1,6 +1,5 @@
 -- The headline of a run, from what its parts promise.
-use Rattle.std.proofs.Common.{◌≡◌, ◌≢◌, ◌⊎◌, ℕ, List, [], Option, Some, None, refl, sym, ◌∙◌, ap, subst, inl, inr}
-use Rattle.std.proofs.lemmas.Bool.Decides.{eqb_tells}
+use Rattle.std.proofs.Common.{◌≡◌, ◌≢◌, ◌⊎◌, ℕ, List, [], Option, Some, None, refl, sym, ◌∙◌, subst, inl, inr}
 use Rattle.cbl_io.specs.Appended.{Appends, AppendsFront}
 use Rattle.cbl_io.specs.Faults.{HasRisen}
 use Rattle.cbl_io.specs.Held.{Held}
@@ -10,50 +9,13 @@ use Rattle.comet_words.specs.Asked.{asked}
 use Rattle.comet.specs.Headline.{Taken, RunHeadline, JobHeadline, IsCalm}
 use Rattle.comet.specs.Line.{line_of}
 use Rattle.comet.specs.Loading.{IsJob, IsFrontStop}
-use Rattle.comet.specs.Output.{Runs, RunOutput, Decides, EndsAsMeant, meant_with}
-use Rattle.comet.specs.Status.{status_of, cause_of}
+use Rattle.comet.specs.Output.{Runs, RunOutput, Decides, EndsAsMeant}
+use Rattle.comet.specs.Status.{status_of}
 use Rattle.comet.specs.declared.report.Cause.{Cause}
 use Rattle.comet.specs.declared.report.Cause.TheVariants as causes
 use Rattle.comet.specs.declared.report.Report.{Report}
 use Rattle.comet.proofs.Jobs.{job_gives, job_only}
 use Rattle.comet.proofs.Pieces.{appends_nothing}
-
--- want of memory apart, what could fail did not
-ends_or_wants : (status : ℕ) {E Risen : Type 0} → status ≢ 8 → (status ≡ 9 → Risen) → ¬ Risen → (Decides status → E) → (status ≡ 7) ⊎ E
-ends_or_wants status {E} {Risen} read write risen decided =
-    elim (eqb_tells status 7) [
-      | inl wants ↦ inl wants.1
-      | inr ends ↦ inr (decided (ends.1, read, λ is_write. risen (write is_write)))
-    ]
-
-pub job_headline : (users : List User) (program : Whole) (seed fuel : ℕ) (text : List ℕ) (report : Report) (out out_after err err_after : Taken) →
-    report.status ≡ status_of report.cause →
-    (report.status ≢ 1) × (report.status ≢ 8) →
-    (Decides report.status → (report.cause ≡ cause_of (meant_with users program seed fuel text).end) × Appends out.bytes out_after.bytes (meant_with users program seed fuel text).printed) →
-    AppendsFront out.bytes out_after.bytes (meant_with users program seed fuel text).printed →
-    (report.status ≡ 9 → HasRisen out.faults out_after.faults) →
-    (¬ HasRisen err.faults err_after.faults → Appends err.bytes err_after.bytes (line_of report.cause)) →
-    AppendsFront err.bytes err_after.bytes (line_of report.cause) →
-    JobHeadline users program seed fuel text report out out_after err err_after
-job_headline users program seed fuel text report out out_after err err_after status ran exact front write said said_front = record {
-  status = status;
-  words = (λ e. ran.0 e, λ e. absurd e);
-  unwritten = λ e. unwritten e;
-  exact = λ outside is_told decides. meant decides;
-  front = λ outside is_told cause printed given. subst (λ bytes. AppendsFront out.bytes out_after.bytes bytes) (sym given.1) front;
-  read = λ role is. ran.1 (status ∙ ap status_of is);
-  write = write;
-  complete = λ outside is_told calm still. ends_or_wants report.status ran.1 write still meant;
-  said = said;
-  said_front = said_front;
-}
-  where
-    meant : Decides report.status → EndsAsMeant (Runs users program seed fuel text) report.cause out.bytes out_after.bytes
-    meant decides = record { printed = (meant_with users program seed fuel text).printed; given = ((exact decides).0, refl); written = (exact decides).1 }
-
-    unwritten : (report.status ≡ 1) ⊎ (report.status ≡ 8) → out_after.bytes ≡ out.bytes
-    unwritten (inl e) = absurd (ran.0 e)
-    unwritten (inr e) = absurd (ran.1 e)
 
 -- a run of the job that the words ask for
 meant_by_words : (users : List User) (words : List (List ℕ)) (held : Held) (program : Whole) (seed fuel : ℕ) (text : List ℕ) (cause : Cause) (old new : Option (List ℕ)) → IsJob words held program seed fuel text →

@@ -10,7 +10,7 @@ use Rattle.comet_syntax.specs.Tokens.TokenFault.{too_long, not_utf8, not_read}
 use Rattle.comet_syntax.specs.declared.limits.TheConstants.{MOST_BYTES}
 use Rattle.comet_syntax.specs.declared.stop.FormCause.{FormCause}
 use Rattle.comet.specs.Headline.{IsHeldProgram}
-use Rattle.comet.specs.Loading.{IsTextStop, IsRefused, IsLoadStop, IsReadStop}
+use Rattle.comet.specs.Loading.{IsTextStop, IsRefused, IsLoadStop}
 use Rattle.comet.specs.declared.report.Cause.{Cause}
 use Rattle.comet.specs.declared.report.Cause.TheVariants as causes
 use Rattle.comet.specs.declared.report.FileRole.TheVariants as roles
@@ -95,17 +95,3 @@ text_stops told name bytes old new (causes.Run place fault) read stop = absurd s
 text_stops told name bytes old new (causes.Spent place) read stop = absurd stop
 text_stops told name bytes old new (causes.Read role) read stop = absurd stop
 text_stops told name bytes old new causes.Write read stop = absurd stop
-
--- a program that can't be read can't be loaded
-pub read_stops : (told : Option Held) (name : List ℕ) (old new : ℕ) (cause : Cause) → IsReadStop roles.Program old new cause → IsLoadStop name told old new cause
-read_stops told name old new (causes.Read roles.Program) stop = stop.1
-read_stops told name old new (causes.Read roles.Data) stop = let other : roles.Data ≡ roles.Program = stop.0 in absurd cc
-read_stops told name old new causes.NoMemory stop = tt
-read_stops told name old new (causes.IllFormed place form) stop = absurd stop
-read_stops told name old new (causes.IllTyped place code) stop = absurd stop
-read_stops told name old new causes.Done stop = absurd stop
-read_stops told name old new causes.Words stop = absurd stop
-read_stops told name old new (causes.Cyclic place names) stop = absurd stop
-read_stops told name old new (causes.Run place fault) stop = absurd stop
-read_stops told name old new (causes.Spent place) stop = absurd stop
-read_stops told name old new causes.Write stop = absurd stop

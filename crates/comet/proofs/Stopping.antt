@@ -5,12 +5,10 @@ use Rattle.cbl_io.specs.Held.{Held, IsRead}
 use Rattle.checked_tree.specs.Tasks.{Whole}
 use Rattle.comet_meaning.specs.Limits.{most_data}
 use Rattle.comet_meaning.specs.Users.{User}
-use Rattle.comet_syntax.specs.Place.{first_place}
-use Rattle.comet_syntax.specs.declared.stop.FormCause.TheVariants.{NotBuilt}
 use Rattle.comet_words.specs.Asked.{Asked, asked}
 use Rattle.comet.specs.Asking.{program_named}
 use Rattle.comet.specs.Headline.{IsHeldProgram, IsBlamed}
-use Rattle.comet.specs.Loading.{IsLoaded, IsJob, IsTextStop, IsRefused, IsLoadStop, IsReadStop, IsDataStop, IsFilesStop, IsFrontStop}
+use Rattle.comet.specs.Loading.{IsTextStop, IsRefused, IsLoadStop, IsDataStop, IsFilesStop, IsFrontStop}
 use Rattle.comet.specs.Output.{GivesAsked, GivesNamed, GivesHeld, Gives, ill_formed, ill_typed, RunOutput, data_of}
 use Rattle.comet.specs.declared.report.Cause.{Cause}
 use Rattle.comet.specs.declared.report.Cause.TheVariants as causes
@@ -23,19 +21,6 @@ pub read_data : (told : Option Held) (file text : List ℕ) → IsRead told file
 read_data told file text read held is_told =
     let r : IsRead (Some held) file most_data text = subst (λ o. IsRead o file most_data text) is_told read in
     ap (option_map (take (most_data + 1))) r.1 ∙ ap Some (sym r.2)
-
-pub data_stops : (file : List ℕ) (old new : List ℕ → ℕ) (cause : Cause) → IsReadStop roles.Data (old file) (new file) cause → IsDataStop (Some file) old new cause
-data_stops file old new (causes.Read roles.Data) stop = record { file = file; named = refl; risen = stop.1 }
-data_stops file old new (causes.Read roles.Program) stop = let other : roles.Program ≡ roles.Data = stop.0 in absurd cc
-data_stops file old new causes.NoMemory stop = tt
-data_stops file old new (causes.IllFormed place form) stop = absurd stop
-data_stops file old new (causes.IllTyped place code) stop = absurd stop
-data_stops file old new causes.Done stop = absurd stop
-data_stops file old new causes.Words stop = absurd stop
-data_stops file old new (causes.Cyclic place names) stop = absurd stop
-data_stops file old new (causes.Run place fault) stop = absurd stop
-data_stops file old new (causes.Spent place) stop = absurd stop
-data_stops file old new causes.Write stop = absurd stop
 
 -- a program that can't be loaded gives no job
 pub program_stops : (name : List ℕ) (data_file : Option (List ℕ)) (told : Option Held) (old new : List ℕ → ℕ) (cause : Cause) → IsLoadStop name told (old name) (new name) cause → IsFilesStop name data_file told old new cause
@@ -84,9 +69,6 @@ words_give users words asks name held cause printed is_asked named given =
 -- words that ask for something are in form
 in_form : (words : List (List ℕ)) (asks : Asked) → Some asks ≡ asked words → asked words ≢ None
 in_form words asks is_asked e = let same : Some asks ≡ None = is_asked ∙ e in absurd cc
-
-pub asks_something : (words : List (List ℕ)) (asks : Asked) → Some asks ≡ asked words → asked words ≢ None
-asks_something words asks is_asked = in_form words asks is_asked
 
 never : (words : List (List ℕ)) (asks : Asked) (status : ℕ) → Some asks ≡ asked words → status ≢ 1 → (status ≡ 1) ↔ (asked words ≡ None)
 never words asks status is_asked other = (λ e. absurd (other e), λ e. absurd (in_form words asks is_asked e))
@@ -150,27 +132,3 @@ files_stop words told old new asks name (causes.Cyclic place names) is_asked nam
 files_stop words told old new asks name (causes.Run place fault) is_asked named stop = absurd stop
 files_stop words told old new asks name (causes.Spent place) is_asked named stop = absurd stop
 files_stop words told old new asks name causes.Write is_asked named stop = absurd stop
-
--- words that aren't in form
-pub words_stop : (words : List (List ℕ)) (told : Option Held) (old new : List ℕ → ℕ) → None ≡ asked words → IsFrontStop words told old new causes.Words
-words_stop words told old new none = record {
-  wordless = (λ e. sym none, λ e. refl);
-  given = λ users held is_told decides. subst (λ o. GivesAsked users o held causes.Words []) none (refl, refl);
-  read = λ role e. absurd cc;
-  reads_only = λ e. absurd cc;
-}
-
--- words that ask for what isn't built
-pub not_built_stop : (words : List (List ℕ)) (told : Option Held) (old new : List ℕ → ℕ) (asks : Asked) → Some asks ≡ asked words → None ≡ program_named asks →
-    IsFrontStop words told old new (causes.IllFormed first_place NotBuilt)
-not_built_stop words told old new asks is_asked none = record {
-  wordless = never words asks 2 is_asked (λ e. absurd cc);
-  given = λ users held is_told decides. subst (λ o. GivesAsked users o held (causes.IllFormed first_place NotBuilt) []) is_asked (subst (λ o. GivesNamed users o asks held (causes.IllFormed first_place NotBuilt) []) none (refl, refl));
-  read = λ role e. absurd cc;
-  reads_only = λ e. absurd cc;
-}
-
--- what is loaded is the job that the words ask for
-pub job_of : (words : List (List ℕ)) (asks : Asked) (name : List ℕ) (held : Held) (program : Whole) (seed fuel : ℕ) (text : List ℕ) → Some asks ≡ asked words → Some name ≡ program_named asks →
-    seed ≡ asks.seed → fuel ≡ asks.fuel → IsLoaded name asks.data_file held program text → IsJob words held program seed fuel text
-job_of words asks name held program seed fuel text is_asked named seed_is fuel_is loaded = record { asks = asks; asked_is = sym is_asked; name = name; named = sym named; loaded = loaded; seed_is = seed_is; fuel_is = fuel_is }

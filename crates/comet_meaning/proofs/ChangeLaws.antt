@@ -1,6 +1,5 @@
 -- Where a solver keeps its model, its assignment and its rules, nothing changed, and no event is queued.
-use Rattle.std.proofs.Common.{◌≡◌, refl, ap, ◌∙◌, rules, ℕ, ℤ, Bool, true, false, List, [], ◌∷◌, ◌++◌, Option, Some, None, filter_map, if◌then◌else◌}
-use Rattle.std.proofs.lemmas.List.{append-nil}
+use Rattle.std.proofs.Common.{◌≡◌, refl, ap, ◌∙◌, rules, ℕ, ℤ, Bool, true, false, List, [], ◌∷◌, Option, Some, None, filter_map, if◌then◌else◌}
 use Rattle.std.specs.List.{range_with_len, cons_option}
 use Rattle.posted_users.specs.KeptRule.{users_of}
 use Rattle.model_values.specs.VarOutcomes.{outcome_of_var}
@@ -8,10 +7,8 @@ use Rattle.std.specs.Ordering.{int_eq}
 use Rattle.comet_meaning.specs.Values as values
 use Rattle.comet_meaning.specs.Values.{Value}
 use Rattle.comet_meaning.specs.Solvers.{SolverState, variable_count}
-use Rattle.comet_meaning.specs.State.{State}
-use Rattle.comet_meaning.specs.Outcome.{Went}
-use Rattle.comet_meaning.specs.Parts.{solver_at, value_of, value_now}
-use Rattle.comet_meaning.specs.Changes.{change_between, changes_between, changes_of, queued_events, notice}
+use Rattle.comet_meaning.specs.Parts.{value_of, value_now}
+use Rattle.comet_meaning.specs.Changes.{change_between, changes_between, changes_of}
 
 int_same : (z : ℤ) → int_eq z z ≡ true
 int_same z = search rules
@@ -23,9 +20,6 @@ same_value x v = refl
 none_of : {A B : Type 0} (f : A → Option B) (xs : List A) → ((x : A) → f x ≡ None) → filter_map f xs ≡ []
 none_of f [] k = refl
 none_of f (x ∷ xs) k = ap (λ o. cons_option o (filter_map f xs)) (k x) ∙ none_of f xs k
-
-pub nothing_between : (m : SolverState) → changes_between m m ≡ []
-nothing_between m = none_of _ (range_with_len 0 (variable_count m)) (λ x. same_value x (value_now m x))
 
 value_kept : (m n : SolverState) → n.model ≡ m.model → n.assignment ≡ m.assignment → n.rules ≡ m.rules → (x : ℕ) → value_now n x ≡ value_now m x
 value_kept m n p q r x =
@@ -41,9 +35,3 @@ nothing_changed m n p q r = on m.closed where
   on : (b : Bool) → (if b then changes_between m n else []) ≡ []
   on true = between
   on false = refl
-
-pub nothing_noticed : (k : ℕ) (m : SolverState) (s : State) → changes_of m (solver_at s k) ≡ [] → notice k m s ≡ Went tt s
-unfolding notice
-nothing_noticed k m s e =
-    ap (λ cs. Went tt (record s { search = record s.search { queue = s.search.queue ++ queued_events k s.search.handlers cs } })) e
-    ∙ ap (λ es. Went tt (record s { search = record s.search { queue = es } })) (append-nil s.search.queue)

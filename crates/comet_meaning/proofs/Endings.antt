@@ -2,8 +2,7 @@
 use Rattle.std.proofs.Common.{◌≡◌, refl, ap, subst}
 use Rattle.comet_meaning.specs.State.{State, Left}
 use Rattle.comet_meaning.specs.Outcome.{Outcome, Went, Halted, Halt, Act, then_do}
-use Rattle.comet_meaning.specs.Onward.{IsOnward, left_by, GoesOn}
-use Rattle.comet_meaning.proofs.GoingOn.{then_on}
+use Rattle.comet_meaning.specs.Onward.{GoesOn}
 
 pub then_give : {A : Type 0} (o : Outcome A) → then_do o (λ x s. Went x s) ≡ o
 then_give (Went x s) = refl
@@ -23,12 +22,6 @@ halted_then f e = ap (λ o. then_do o f) e
 -- what holds of a part's outcome holds of the whole's, whatever goes onward behind it
 abbrev pub Passes : ((A : Type 0) → Outcome A → Type 0) → Type 1
 Passes P = (A B : Type 0) (o : Outcome A) (f : A → Act B) → ((x : A) → GoesOn (f x)) → P A o → P B (then_do o f)
-
-pub halted_passes : (h : Halt) (t : Left) → Passes (λ A o. o ≡ Halted h t)
-halted_passes h t A B o f k e = halted_then f e
-
-pub onward_passes : (a : Left) → Passes (λ A o. IsOnward a (left_by o))
-onward_passes a A B o f k on = then_on a o f on k
 
 pub passes_to : {A B : Type 0} {w : Outcome B} (P : (A : Type 0) → Outcome A → Type 0) → Passes P → (o : Outcome A) (f : A → Act B) → then_do o f ≡ w → ((x : A) → GoesOn (f x)) → P A o → P B w
 passes_to {A} {B} P through o f e k h = subst (P B) e (through A B o f k h)

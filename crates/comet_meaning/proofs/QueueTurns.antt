@@ -1,17 +1,17 @@
 -- The run of a queue is its first event, and then the run of what is left: each handler is a statement, which costs a unit,
 -- so the bound on the turns is never met.
-use Rattle.std.proofs.Common.{◌≡◌, refl, zero, suc, ℕ, ◌≤◌, Bool, true, false, List, [], ◌∷◌, Option, Some, None, slice_index_or, if◌then◌else◌, rules, arith}
+use Rattle.std.proofs.Common.{◌≡◌, zero, suc, ℕ, ◌≤◌, List, [], ◌∷◌, Option, Some, None, slice_index_or, arith}
 use Rattle.cbl_base.specs.declared.place.Place.{Place}
 use Rattle.checked_tree.specs.Tasks as works
 use Rattle.checked_tree.specs.Tasks.{Work}
 use Rattle.comet_meaning.specs.Values.{Value}
 use Rattle.comet_meaning.specs.Search.{Closure, Reaction, Event, no_reaction}
 use Rattle.comet_meaning.specs.State.{State, left}
-use Rattle.comet_meaning.specs.Outcome.{Outcome, Went, Halted, Act, then_do, ◌>>=◌, give}
+use Rattle.comet_meaning.specs.Outcome.{Outcome, Went, Halted, Act, then_do, ◌>>=◌}
 use Rattle.comet_meaning.specs.Cells.{in_scope, in_frame, back_in}
-use Rattle.comet_meaning.specs.Levels.{Code, Level, Flow}
+use Rattle.comet_meaning.specs.Levels.{Code, Flow}
 use Rattle.comet_meaning.specs.Loops.{end_or, turns, repeated}
-use Rattle.comet_meaning.specs.Events.{run_closure, put_running, react, first_event, next_event, run_all, run_queue}
+use Rattle.comet_meaning.specs.Events.{run_closure, react, first_event, next_event}
 use Rattle.comet_meaning.specs.Statements.{meaning_of_statement}
 use Rattle.comet_meaning.specs.Program.{level}
 use Rattle.comet_meaning.specs.Onward.{IsOnward, left_by, GoesOn}
@@ -82,13 +82,3 @@ takes_event c room = record { from = λ s. event_before c room s.search.queue s 
 
 pub queue_again : (c : Code) (room : ℕ) (at : Place) (s : State) → repeated at (next_event (level c room)) s ≡ then_do (next_event (level c room) s) (end_or (repeated at (next_event (level c room))))
 queue_again c room at s = repeats_again at (next_event (level c room)) (takes_event c room) s
-
--- where nothing is queued nothing runs
-pub nothing_queued : (l : Level) (at : Place) (s : State) → s.search.running ≡ false → s.search.queue ≡ [] → run_queue l at s ≡ Went tt s
-unfolding run_queue run_all repeated turns next_event put_running
-nothing_queued l at s p q = on s.search.running s.search.queue p q where
-  on : (b : Bool) (es : List Event) → b ≡ false → es ≡ [] →
-      (if b then give tt else run_all l at) (record s { search = record s.search { queue = es; running = b } }) ≡ Went tt (record s { search = record s.search { queue = es; running = b } })
-  on false [] p q = refl
-  on false (e ∷ es) p q = absurd (search rules)
-  on true es p q = absurd cc

@@ -36,10 +36,6 @@ pub items_rows : (xs : List Shape) → items (rows xs) ≡ xs
 items_rows [] = refl
 items_rows (x ∷ xs) = ap (λ ys. x ∷ ys) (items_rows xs)
 
-pub items_wholes : (es : List Seen) → items (wholes es) ≡ map whole es
-items_wholes [] = refl
-items_wholes (e ∷ es) = ap (λ ys. whole e ∷ ys) (items_wholes es)
-
 -- the same of expressions as something else gives them
 pub items_wholes_of : {X : Type 0} (f : X → Seen) (xs : List X) → items (wholes (map f xs)) ≡ map (λ x. whole (f x)) xs
 items_wholes_of f [] = refl
@@ -234,9 +230,6 @@ module _ {X : Type 0} {l : Level} {f : X → Shape} {ks : List Kind} {xs : List 
 
 pub record OwnLeft (vs : List Value) (i : ℕ) (ws : List Value) (s : State) (w : Outcome (List Value)) : Type 0 where
   pub left : own_arrays (drop i vs) ws s ≡ w
-
-pub own_start : (vs : List Value) (s : State) → OwnLeft vs 0 [] s (own_arrays vs [] s)
-own_start vs s = record { left = refl }
 
 module _ {vs : List Value} {i : ℕ} {ws : List Value} {s : State} {w : Outcome (List Value)} (m : OwnLeft vs i ws s w) where
   pub own_end : length vs ≤ i → w ≡ Went ws s

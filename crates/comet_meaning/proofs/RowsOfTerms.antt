@@ -1,6 +1,6 @@
 -- A loop over parts of a term keeps what is left of the row, as loops over other parts do: the operands of a chain, parts
 -- that each are a term, and variables that are read.
-use Rattle.std.proofs.Common.{◌≡◌, refl, sym, subst, ap, ◌∙◌, ℕ, ◌+◌, ◌<◌, ◌≤◌, List, [], ◌∷◌, ◌++◌, map, length, drop, get_or}
+use Rattle.std.proofs.Common.{◌≡◌, sym, subst, ap, ◌∙◌, ℕ, ◌+◌, ◌<◌, ◌≤◌, List, [], ◌∷◌, ◌++◌, map, length, drop, get_or}
 use Rattle.std.proofs.lemmas.List.{at_drop_more, at_drop_all}
 use Rattle.cbl_base.specs.declared.ids.VarId.{VarId}
 use Rattle.cbl_base.specs.declared.place.Place.{Place}
@@ -115,9 +115,6 @@ module _ {X : Type 0} {l : Level} {f : X → Shape} {xs : List X} {i : ℕ} {ts 
 
 pub record ReadLeft (at : Place) (xs : List VarId) (i : ℕ) (vs : List Value) (s : State) (w : Outcome (List Value)) : Type 0 where
   pub left : read_each at (drop i xs) vs s ≡ w
-
-pub read_start : (at : Place) (xs : List VarId) (s : State) → ReadLeft at xs 0 [] s (read_each at xs [] s)
-read_start at xs s = record { left = refl }
 
 module _ {at : Place} {xs : List VarId} {i : ℕ} {vs : List Value} {s : State} {w : Outcome (List Value)} (m : ReadLeft at xs i vs s w) where
   pub read_end : length xs ≤ i → w ≡ Went vs s

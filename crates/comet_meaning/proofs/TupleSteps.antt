@@ -3,7 +3,6 @@
 use Rattle.std.proofs.Common.{◌≡◌, sym, subst, ◌∙◌, refl, ℤ, Bool, true, false, List, [], ◌∷◌, ◌++◌, Some, None}
 use Rattle.cbl_base.specs.declared.place.Place.{Place}
 use Rattle.checked_tree.specs.declared.expressions.Slot.{Slot}
-use Rattle.checked_tree.specs.declared.expressions.Slot.TheVariants.{Global, Local}
 use Rattle.checked_tree.specs.Shape as shapes
 use Rattle.checked_tree.specs.Shape.{Shape}
 use Rattle.comet_meaning.specs.Values.{Value, Number}
@@ -12,12 +11,12 @@ use Rattle.comet_meaning.specs.Outcome.{Outcome, Went, Halted, Halt, Act, then_d
 use Rattle.comet_meaning.specs.Cells.{put}
 use Rattle.comet_meaning.specs.Levels.{Level}
 use Rattle.comet_meaning.specs.Parts.{value}
-use Rattle.comet_meaning.specs.Generators.{Bound, with_bound, bind, generated, each_tuple}
+use Rattle.comet_meaning.specs.Generators.{Bound, bind, generated, each_tuple}
 use Rattle.comet_meaning.specs.Odometer.{Pending, Numbers, Members, next_of, each_pending, Opened, opened, advanced, known_at, one_value, begun, rest_of}
 use Rattle.comet_meaning.specs.Onward.{IsOnward, left_by, GoesOn}
 use Rattle.comet_meaning.proofs.GoingOn.{goes_then, goes_give, goes_each_of, goes_each_from}
 use Rattle.comet_meaning.proofs.GoingParts.{LevelGoesOn, goes_value, goes_generated, goes_each_tuple}
-use Rattle.comet_meaning.proofs.Endings.{then_give, then_then, went_then, halted_then, Passes, passes_to}
+use Rattle.comet_meaning.proofs.Endings.{then_then, went_then, halted_then, Passes, passes_to}
 use Rattle.comet_meaning.proofs.Tuples.{begun_first, tuples_start, rest_of_none, rest_closes, rest_is_over, rest_visits, rest_opens}
 
 -- what comes behind the names of a value
@@ -53,15 +52,6 @@ pub goes_opening : {A : Type 0} (l : Level) → LevelGoesOn l → (at : Place) (
 goes_opening l h at more visit place slot domain gs o os v x k =
     goes_then (goes_value l h domain) (λ d. goes_rest l h at more visit (opened (known_at o v) place slot gs d ∷ advanced o ∷ os) x k)
 
--- names always get their values
-pub bind_gives : (known : List Bound) (s : State) → (t : State) × (bind known s ≡ Went tt t)
-unfolding bind put
-bind_gives [] s = (s, refl)
-bind_gives (b ∷ bs) s = on b.slot (λ t. bind_gives bs t) where
-  on : (slot : Slot) → ((t : State) → (u : State) × (bind bs t ≡ Went tt u)) → (u : State) × (then_do (put slot (Number b.value) s) (λ _. bind bs) ≡ Went tt u)
-  on (Global i) again = again _
-  on (Local i) again = again _
-
 -- names behind others
 
 pub bind_append : (known more : List Bound) (s : State) → bind (known ++ more) s ≡ then_do (bind known s) (λ _. bind more)
@@ -70,12 +60,6 @@ bind_append [] more s = refl
 bind_append (b ∷ bs) more s =
     (λ k. then_do (put b.slot (Number b.value) s) (λ _ t. bind_append bs more t k))
     ∙ sym (then_then (put b.slot (Number b.value) s) (λ _. bind bs) (λ _. bind more))
-
--- where the names before have their values already, only the last one is bound
-pub bind_last : (known : List Bound) (slot : Slot) (v : ℤ) (s : State) → bind known s ≡ Went tt s → bind (with_bound known slot v) s ≡ put slot (Number v) s
-unfolding bind
-bind_last known slot v s e =
-    bind_append known _ s ∙ went_then (λ _. bind (record { slot = slot; value = v } ∷ [])) e ∙ then_give (put slot (Number v) s)
 
 -- how a value begins
 

@@ -2,7 +2,6 @@
 use Rattle.std.specs.Prelude.{ℕ, List, [], ◌∷◌, ◌++◌, ◌+◌, ◌-◌, ◌≡◌, ◌≤◌, length, take, drop, refl}
 use Rattle.std.proofs.Common.{sym, ◌∙◌, ap, subst, arith}
 use Rattle.std.proofs.lemmas.List.{length-append}
-use Rattle.std.proofs.Math.Seq.{take-append_seam, drop-append_seam}
 use Rattle.cbl_base.specs.declared.limits.TheConstants.{MAX_NESTING}
 use Rattle.comet_syntax.specs.declared.stop.FormCause.{FormCause}
 use Rattle.comet_syntax.specs.declared.stop.FormCause.TheVariants as causes
@@ -34,17 +33,6 @@ record Cut (ts before rest : List Token) (left number : ℕ) : Type 0 where
   back : rest ≡ drop number ts
   size : length ts ≡ length before + length rest
 
-cut_at : (ts before rest : List Token) (left number : ℕ) (cause : FormCause) → Refused MAX_NESTING ts before rest cause → left ≡ length rest → number ≡ length ts - left → Cut ts before rest left number
-cut_at ts before rest left number cause refused left_is is =
-    let cut : ts ≡ before ++ rest = cut_of MAX_NESTING ts before rest cause refused in
-    let size : length ts ≡ length before + length rest = ap length cut ∙ length-append before rest in
-    let at : length before ≡ number = omega (arith, size, left_is, is) in
-    record {
-      front = sym (take-append_seam before rest) ∙ ap (λ n. take n (before ++ rest)) at ∙ ap (take number) (sym cut);
-      back = sym (drop-append_seam before rest) ∙ ap (λ n. drop n (before ++ rest)) at ∙ ap (drop number) (sym cut);
-      size = size;
-    }
-
 -- the tokens are refused where so many are left
 by_cause : (ts before rest : List Token) (left number : ℕ) (cause : FormCause) → Refused MAX_NESTING ts before rest cause → Cut ts before rest left number → left ≡ length rest → number ≡ length ts - left
     → IsRefusal MAX_NESTING ts (refusals.Fault number cause)
@@ -54,9 +42,6 @@ by_cause ts before (u ∷ more) left number causes.Unexpected r c l is =
 by_cause ts before (u ∷ more) left number causes.TooDeep r c l is =
     subst (λ z. Refused MAX_NESTING ts (take number ts) z causes.TooDeep) c.back (subst (λ z. Refused MAX_NESTING ts z (u ∷ more) causes.TooDeep) c.front r)
 by_cause ts before _ left number _ r c l is = absurd r
-
-pub refused_there : (ts : List Token) (left number : ℕ) (cause : FormCause) → IsStop MAX_NESTING ts (Fault left cause) → number ≡ length ts - left → IsRefusal MAX_NESTING ts (refusals.Fault number cause)
-refused_there ts left number cause (before, rest, left_is, refused) is = by_cause ts before rest left number cause refused (cut_at ts before rest left number cause refused left_is is) left_is is
 
 -- no more are left than there are
 pub few_left : (ts : List Token) (left : ℕ) (cause : FormCause) → IsStop MAX_NESTING ts (Fault left cause) → left ≤ length ts

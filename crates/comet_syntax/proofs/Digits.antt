@@ -26,9 +26,6 @@ digit_here digits i low h =
     let g : (is_digit (slice_index digits i) && list_all is_digit (drop (i + 1) digits)) ≡ true = sym (ap (list_all is_digit) (digits_drop digits i low)) ∙ h in
     (and_left _ _ g, and_right (is_digit (slice_index digits i)) _ g)
 
-pub digit_bounds : (c : ℕ) → is_digit c ≡ true → (48 ≤ c) × (c ≤ 57)
-digit_bounds c h = grind arith
-
 pub at_least : (digits : List ℕ) (i before : ℕ) → i < length digits → digits_behind before (drop i digits) ≡ number_of_digits digits
     → before * 10 + (slice_index digits i - 48) ≤ number_of_digits digits
 at_least digits i before low e =

@@ -36,13 +36,6 @@ longest_one {text} {w} {v} {r} {s} x y =
     let high : length v ≤ length w = x.longest v s y.spelled y.is_lexeme in
     fronts_one w v r s (sym x.spelled ∙ y.spelled) (omega arith)
 
-pub no_longest : {text w r : List ℕ} → ((v s : List ℕ) → text ≡ v ++ s → IsLexeme v → length v ≤ 0) → IsLongest text w r → ⊥
-no_longest {text} {w} {r} none x =
-    let (c, cs, e, no_space) = lexeme_head w x.is_lexeme in
-    let short : length w ≤ 0 = none w r x.spelled x.is_lexeme in
-    let long : length w ≡ length (c ∷ cs) = ap length e in
-    omega arith
-
 -- no lexeme begins with a quote
 abbrev begins_with_no_quote : List ℕ → Bool
 begins_with_no_quote [] = true
@@ -193,9 +186,6 @@ line_one (c ∷ b) [] r s e h k x y = absurd (both_ways c (and_left _ _ h) (subs
     both_ways : (z : ℕ) → not (is_line_feed z) ≡ true → is_line_feed z ≡ true → ⊥
     both_ways z p q = grind arith
 line_one (c ∷ b) (z ∷ d) r s e h k x y = line_one b d r s (tail_one e) (and_right (not (is_line_feed c)) _ h) (and_right (not (is_line_feed z)) _ k) x y
-
-second_one : {a b c d : ℕ} {xs ys : List ℕ} → a ∷ b ∷ xs ≡ c ∷ d ∷ ys → b ≡ d
-second_one e = cc
 
 inside_one : {a b c d : ℕ} {xs ys : List ℕ} → a ∷ b ∷ xs ≡ c ∷ d ∷ ys → xs ≡ ys
 inside_one e = cc

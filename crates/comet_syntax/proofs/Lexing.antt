@@ -110,13 +110,6 @@ front_within p (x ∷ xs) ys h =
     let here : p x ≡ true = and_left _ _ h in
     rw here (omega (arith, front_within p xs ys (and_right (p x) _ h)))
 
--- behind a front whose bytes all pass, and before a byte that doesn't
-pub prefix_is : (p : ℕ → Bool) (xs : List ℕ) (y : ℕ) (ys : List ℕ) → list_all p xs ≡ true → p y ≡ false → prefix_len p (xs ++ (y ∷ ys)) ≡ length xs
-prefix_is p [] y ys h k = rw k refl
-prefix_is p (x ∷ xs) y ys h k =
-    let here : p x ≡ true = and_left _ _ h in
-    rw here (omega (arith, prefix_is p xs y ys (and_right (p x) _ h) k))
-
 -- how many bytes a test finds from the front
 pub found_length : (p : ℕ → Bool) (xs : List ℕ) → length (take_while p xs) ≡ prefix_len p xs
 found_length p xs = length-take-le (prefix_len p xs) xs (prefix_within p xs)
@@ -158,12 +151,6 @@ begins_number c cs digit (a_word h) = absurd (cc (digit_no_letter c digit, and_l
 begins_number c cs digit (a_number h) = h
 begins_number c cs digit (a_sign h) = absurd (cc (digit_in_word c digit, not_false (is_word_byte c) (and_left _ _ (sign_begins (c ∷ cs) h))))
 
--- else a sign
-pub begins_sign : (c : ℕ) (cs : List ℕ) → is_letter c ≡ false → is_digit c ≡ false → IsLexeme (c ∷ cs) → is_sign (c ∷ cs) ≡ true
-begins_sign c cs letter digit (a_word h) = absurd (cc (and_left (is_letter c) _ h))
-begins_sign c cs letter digit (a_number h) = absurd (cc (and_left (is_digit c) _ h))
-begins_sign c cs letter digit (a_sign h) = h
-
 word_bytes : (c : ℕ) (cs : List ℕ) → is_word (c ∷ cs) ≡ true → list_all is_word_byte (c ∷ cs) ≡ true
 word_bytes c cs h = and_both _ _ (letter_in_word c (and_left _ _ h)) (and_right (is_letter c) _ h)
 
@@ -190,14 +177,6 @@ pub number_found : (c : ℕ) (cs : List ℕ) → is_digit c ≡ true → IsLexem
 number_found c cs digit = subst IsLexeme (sym (found_behind is_digit c cs digit))
     (a_number (and_both _ _ digit (all_prefix is_digit cs)))
 
-pub longest_sign : (c : ℕ) (cs w r : List ℕ) (len : ℕ) → is_letter c ≡ false → is_digit c ≡ false
-    → ((w r : List ℕ) → c ∷ cs ≡ w ++ r → is_sign w ≡ true → length w ≤ len)
-    → c ∷ cs ≡ w ++ r → IsLexeme w → length w ≤ len
-longest_sign c cs [] r len letter digit most e h = omega arith
-longest_sign c cs (d ∷ ds) r len letter digit most e h =
-    let same : c ≡ d = cc in
-    most (d ∷ ds) r e (begins_sign d ds (subst (λ x. is_letter x ≡ false) same letter) (subst (λ x. is_digit x ≡ false) same digit) h)
-
 pub words_of : (xs : List ℕ) (x : ℕ) (ys : List ℕ) (len : ℕ) → xs ≡ x ∷ ys → is_letter x ≡ true → len ≡ length (take_while is_word_byte xs) → IsLexeme (take len xs)
 words_of xs x ys len e letter size = subst (λ n. IsLexeme (take n xs)) (sym size) (subst (λ z. IsLexeme (take (length (take_while is_word_byte z)) z)) (sym e) (word_found x ys letter))
 
@@ -217,12 +196,3 @@ numbers_longest xs x ys len e digit size w r f h =
     let most : length w ≤ length (take_while is_digit (x ∷ ys)) = longest_number x ys w r digit (sym e ∙ f) h in
     let same : length (take_while is_digit xs) ≡ length (take_while is_digit (x ∷ ys)) = ap (λ z. length (take_while is_digit z)) e in
     omega arith
-
-pub signs_longest : (xs : List ℕ) (x : ℕ) (ys : List ℕ) (len : ℕ) → xs ≡ x ∷ ys → is_letter x ≡ false → is_digit x ≡ false
-    → ((w r : List ℕ) → xs ≡ w ++ r → is_sign w ≡ true → length w ≤ len)
-    → (w r : List ℕ) → xs ≡ w ++ r → IsLexeme w → length w ≤ len
-signs_longest xs x ys len e letter digit most w r f h =
-    longest_sign x ys w r len letter digit (λ v s g. most v s (e ∙ g)) (sym e ∙ f) h
-
-pub nothing_longest : (xs : List ℕ) → length xs ≡ 0 → (w r : List ℕ) → xs ≡ w ++ r → IsLexeme w → length w ≤ 0
-nothing_longest xs e w r f h = let whole : length xs ≡ length w + length r = ap length f ∙ simp length-append in omega arith

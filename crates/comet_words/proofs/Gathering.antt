@@ -4,7 +4,7 @@ use Rattle.std.specs.List.{filter_map}
 use Rattle.comet_words.specs.Options.{Origin, Item, OriginItem, DataItem, ReplayItem, SeedItem, WorkersItem, FuelItem, JournalItem}
 use Rattle.comet_words.specs.Items.{followed, ◌>>=◌}
 use Rattle.comet_words.specs.Asked.{Asked, asked_by, at_most_one, exactly_one, data_in, replay_in, seed_in, workers_in, fuel_in, journal_in, origin_in}
-use Rattle.comet_words.specs.Given.{all_given, asked_with, has, nothing, one_more, Known, with}
+use Rattle.comet_words.specs.Given.{asked_with, has, nothing, one_more, Known, with}
 
 taken : {A : Type 0} (had : Option A) (x : A) (xs : List A) → is_some had ≡ true → one_more had (x ∷ xs) ≡ None
 taken None x xs is = cc
@@ -53,9 +53,6 @@ one_exactly (x ∷ y ∷ more) f = refl
 
 pub asked_with_nothing : (items : List Item) → asked_with nothing items ≡ asked_by items
 asked_with_nothing items = simp (from_none {A = List ℕ}, from_none {A = ℕ}, from_none {A = Bool}, from_none {A = Origin}, one_exactly {A = Origin})
-
-pub asked_with_no_more : (known : Known) → asked_with known [] ≡ all_given known
-asked_with_no_more known = refl
 
 -- what is asked for by what was given and the words that are left, each case of the first item
 pub more_twice : (known : Known) (item : Item) (more : Option (List Item)) → has known item ≡ true

@@ -112,12 +112,6 @@ module _ (sizes : List ℤ) (low : ℤ) (capacities xs : List ℤ) where
       (length-map capacities (λ (capacity : ℤ). record { height = pos 0; limit = capacity }))
       (λ k h. get_or-map (λ (capacity : ℤ). record { height = pos 0; limit = capacity }) capacities k (pos 0) flat h)
 
--- ---- levels that are low can be raised twice
-pub low_raisable : (levels : List Level) (by : ℤ) → AreLow levels → neg_ℤ (pos (2 ^ 63)) ≤ℤ by → by ≤ℤ pos (2 ^ 63) → (k : ℕ) → k < length levels → IsRaisable (level_at levels k) by
-low_raisable levels by are down up k h =
-    let is = are k h in
-    record { low = omega (arith, ints, is.low); high = omega (arith, ints, is.high); down = down; up = up }
-
 pub raised_raisable : (levels : List Level) (low bin first by : ℤ) → AreLow levels → neg_ℤ (pos (2 ^ 63)) ≤ℤ first → first ≤ℤ pos (2 ^ 63) → neg_ℤ (pos (2 ^ 63)) ≤ℤ by → by ≤ℤ pos (2 ^ 63)
     → (k : ℕ) → k < length (bin_raised low bin first levels) → IsRaisable (level_at (bin_raised low bin first levels) k) by
 raised_raisable levels low bin first by are first_down first_up down up k h =

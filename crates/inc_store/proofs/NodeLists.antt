@@ -1,5 +1,5 @@
 -- Lists of nodes, and what holds of one of them.
-use Rattle.std.proofs.Common.{◌≡◌, ℕ, zero, suc, ◌<◌, List, [], ◌∷◌, length, map, get_or, set, slice_get, Some, refl, sym, ap, ◌∙◌, arith, subst, Vec, Bool, false, cond, nat_lt, ◌&&◌, ◌+◌, ◌-◌, ◌≤◌, slice_index_or, pos}
+use Rattle.std.proofs.Common.{◌≡◌, ℕ, zero, suc, ◌<◌, List, [], ◌∷◌, length, map, get_or, set, slice_get, Some, refl, sym, ap, ◌∙◌, arith, subst, Vec, Bool, false, cond, nat_lt, ◌&&◌, ◌-◌, ◌≤◌, slice_index_or, pos}
 use Rattle.cbl_base.specs.declared.ids.NodeId.{NodeId}
 use Rattle.cbl_base.specs.declared.input.Input.{Input}
 use Rattle.cbl_base.specs.declared.input.Input.TheVariants.{Int}
@@ -18,7 +18,6 @@ use Rattle.store_turns.specs.Touch.{differs}
 use Rattle.store_turns.proofs.ConeLists.{all_chosen}
 use Rattle.store_turns.proofs.Differs.{same_value}
 use Rattle.store_build.specs.Frames.{cell_of}
-use Rattle.std.proofs.lemmas.List.{length-map}
 
 pub here : {A : Type 0} (xs : List A) (i : ℕ) (n : A) → i < length xs → n ≡ get_or xs i n → slice_get xs i ≡ Some n
 here [] i n lt e = absurd (omega arith)
@@ -49,9 +48,6 @@ set_back (x ∷ xs) (suc i) n e = ap (λ ys. x ∷ ys) (set_back xs i n e)
 pub list_at : {A Z : Type 0} (vs : List (Vec A Z)) (i : ℕ) (v : Vec A Z) → i < length vs → v ≡ get_or vs i v → v.items ≡ get_or (lists_of vs) i []
 list_at vs i v lt e = sym (get_at (lists_of vs) i v.items [] (mapped_get (λ w. w.items) vs i v (here vs i v lt e)))
 
-pub length_lists : {A Z : Type 0} (vs : List (Vec A Z)) → length (lists_of vs) ≡ length vs
-length_lists vs = length-map vs (λ v. v.items)
-
 pub set_same : {A : Type 0} (xs : List A) (i : ℕ) (d : A) → i < length xs → set xs i (get_or xs i d) ≡ xs
 set_same [] i d lt = absurd (omega arith)
 set_same (x ∷ xs) zero d lt = refl
@@ -80,9 +76,6 @@ all_share us all old read outcome eu er =
 pub values_all : (f : ℕ → Input) (is : List ℕ) → values_of (map (λ i. Value (f i)) is) ≡ Some (map f is)
 values_all f [] = refl
 values_all f (i ∷ is) = rw (values_all f is) refl
-
-pub node_place : (first id n : ℕ) → first ≤ id → id < first + n → id - first < n
-node_place first id n le lt = omega (arith, le, lt)
 
 pub past_first : (id first : ℕ) → first ≤ id → nat_lt id first ≡ false
 past_first id first le = grind (arith, nat_tests)

@@ -314,9 +314,6 @@ pub digit_fault : (e : stop.Stop) (n : ℕ) (word : List ℕ) (i : ℕ) (whole :
 digit_fault stops.NoMemory n word i whole lt h is = tt
 digit_fault stops.Fault n word i whole lt h is = sym is ∙ (at_drop_more (digits_from n) word i 0 lt ∙ ap (λ o. o >>= λ m. digits_from m (drop (i + 1) word)) h)
 
-pub digit_more : (n m : ℕ) (word : List ℕ) (i : ℕ) (whole : Option ℕ) → i < length word → more_digit n (get_or word i 0) ≡ Some m → digits_from n (drop i word) ≡ whole → digits_from m (drop (i + 1) word) ≡ whole
-digit_more n m word i whole lt h is = sym (at_drop_more (digits_from n) word i 0 lt ∙ ap (λ o. o >>= λ k. digits_from k (drop (i + 1) word)) h) ∙ is
-
 -- ---- the exits of the loop over the numbers of a list
 
 pub number_fault : {X : Type 0} (view : X → List ℤ) (e : stop.Stop) (front : List ℤ) (rest word behind : List ℕ) (whole : Option (List ℤ)) → next (split 44 rest) ≡ Some (word, split 44 behind) → Gives {X = ℤ} {Y = ℤ} (λ z. z) (Err e) (signed_of word) → more front (numbers_of (split 44 rest)) ≡ whole → Gives view (Err e) whole

@@ -1,5 +1,5 @@
 -- The scan of two adjoining lists of candidates.
-use Rattle.std.proofs.Common.{◌≡◌, ℕ, ◌+◌, ◌-◌, ◌<◌, ◌≤◌, Bool, true, false, List, [], ◌∷◌, ◌++◌, Option, Some, None, length, refl, sym, ap, ◌∙◌, subst, arith, if◌then◌else◌, nat_le, nat_lt, ◌&&◌, true≢false}
+use Rattle.std.proofs.Common.{◌≡◌, ℕ, ◌+◌, ◌-◌, ◌≤◌, Bool, true, false, List, [], ◌∷◌, ◌++◌, Option, Some, None, length, refl, sym, ap, ◌∙◌, subst, arith, if◌then◌else◌, nat_le, nat_lt, ◌&&◌, true≢false}
 use Rattle.std.proofs.lemmas.Bool.Decides.{nat_tests}
 use Rattle.std.proofs.lemmas.List.Sums.{sum_by-cons}
 use Rattle.std.specs.List.{sum_by}
@@ -8,7 +8,7 @@ use Rattle.ls_select.specs.Candidates.{Candidate, end_of, scan, score, stop_in}
 use Rattle.ls_select.specs.Joining.{joined}
 use Rattle.ls_select.specs.Merging.{Merges}
 use Rattle.ls_select.specs.Parts.{part_of, part_under, stop_from}
-use Rattle.ls_select.specs.declared.merging.Merged.TheVariants.{Whole, Rescan}
+use Rattle.ls_select.specs.declared.merging.Merged.TheVariants.{Whole}
 use Rattle.ls_select.specs.declared.part.Part.{Part}
 use Rattle.ls_select.specs.declared.scored.End.TheVariants.{Stopped}
 use Rattle.ls_select.specs.declared.scored.Scored.{Scored}
@@ -166,12 +166,6 @@ pub stopped_merges : (want : Want) (fuel : ℕ) (p q : Part) → is_some p.stop 
 stopped_merges want fuel p q h =
     let none = stopped p.stop h in
     (ap (λ b. b && nat_lt fuel (p.cost + q.cost)) none, λ e. refl, λ front back one two. first_stopped want fuel p front back one none)
-
--- of parts that are to be scanned again
-pub rescan_merges : (want : Want) (fuel : ℕ) (p q : Part) → p.stop ≡ None → fuel < p.cost + q.cost → Merges want fuel p q (Rescan p)
-rescan_merges want fuel p q none more =
-    let test : nat_lt fuel (p.cost + q.cost) ≡ true = grind (arith, nat_tests) in
-    (ap (λ o. is_none o && nat_lt fuel (p.cost + q.cost)) none ∙ test, refl)
 
 -- and of parts that are joined
 pub joined_merges : (want : Want) (fuel : ℕ) (p q : Part) → p.stop ≡ None → (p.stop ≡ None → q.first ≡ p.first + p.count) → p.cost + q.cost ≤ fuel → Merges want fuel p q (Whole (joined want p q))

@@ -359,10 +359,6 @@ or_second : (a b : Bool) → b ≡ true → (a || b) ≡ true
 or_second true b f = refl
 or_second false b f = f
 
-both_none : (a b : Bool) → (a || b) ≡ false → (a ≡ false) × (b ≡ false)
-both_none true b h = let c : true ≡ false = h in cc
-both_none false b h = (refl, h)
-
 cond_none : (b : Bool) (t : Term) (o : Option Term) → cond b (Some t) o ≡ None → (b ≡ false) × (o ≡ None)
 cond_none true t o h = let c : Some t ≡ None = h in cc
 cond_none false t o h = (refl, h)
@@ -390,16 +386,6 @@ supporting_turn users env M whole k p lt is =
 
 pub none_found : (users : ℕ → NumberRule) (env : ℕ → Outcome) (found : List Failing) → found ≡ [] → AreFailing users env found []
 none_found users env found e = subst (λ fs. AreFailing users env fs []) (sym e) (record { named = refl; failures = λ k f there. let c : None ≡ Some f = there in cc })
-
--- ---- the first among others
-pub any_more : (p : Test) (found : List Failing) (k : ℕ) (f : Failing) → k < length found → f ≡ get_or found k f → list_any p (map (λ (g : Failing). g.term.now) (take k found)) ≡ false → p f.term.now ≡ false →
-    list_any p (map (λ (g : Failing). g.term.now) (take (k + 1) found)) ≡ false
-any_more p [] k f lt is all one = absurd (omega (arith, lt))
-any_more p (g ∷ found) zero f lt is all one = or_none (p g.term.now) false (ap (λ (h : Failing). p h.term.now) (sym is) ∙ one) refl
-any_more p (g ∷ found) (suc k) f lt is all one =
-    let step : suc k + 1 ≡ suc (k + 1) = omega arith in
-    let parts = both_none (p g.term.now) (list_any p (map (λ (g : Failing). g.term.now) (take k found))) all in
-    rw step (or_none (p g.term.now) (list_any p (map (λ (g : Failing). g.term.now) (take (k + 1) found))) parts.0 (any_more p found k f (omega (arith, lt)) is parts.1 one))
 
 pub any_here : (p : Test) (found : List Failing) (k : ℕ) (f : Failing) → k < length found → f ≡ get_or found k f → p f.term.now ≡ true → list_any p (map (λ (g : Failing). g.term.now) found) ≡ true
 any_here p [] k f lt is one = absurd (omega (arith, lt))
@@ -451,10 +437,6 @@ pub first_there : (users : ℕ → NumberRule) (env : ℕ → Outcome) (failing 
 first_there users env [] ts f are there = let c : None ≡ Some f = there in cc
 first_there users env (g ∷ failing) ts f are there =
     ap (λ us. option_and_then (failure_of users env) (slice_get us 0)) (sym are.named) ∙ are.failures 0 g refl ∙ ap (λ (o : Option Failing). option_map (λ (h : Failing). h.failure) o) there
-
-pub first_not : (users : ℕ → NumberRule) (env : ℕ → Outcome) (failing : List Failing) (ts : List Term) → AreFailing users env failing ts → slice_get failing 0 ≡ None → option_and_then (failure_of users env) (slice_get ts 0) ≡ None
-first_not users env [] ts are there = ap (λ us. option_and_then (failure_of users env) (slice_get us 0)) (sym are.named)
-first_not users env (g ∷ failing) ts are there = let c : Some g ≡ None = there in cc
 
 -- ---- what supports a system or an objective, by the marks on the variables that are reached
 module _ (M : Model) (formed : IsWellFormed M) (whole : Whole) (marks : List Bool) (are : AreReached M (roots_in M whole M.posted.items) marks) (number : ℕ) (p : Posted) (posted : p ≡ Define number) where

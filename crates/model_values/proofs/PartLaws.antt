@@ -1,8 +1,7 @@
 -- The members of a system or an objective are well kinded numbers, and go to its parts one after another.
-use Rattle.std.proofs.Common.{◌≡◌, ℕ, ℤ, ◌+◌, ◌<◌, ◌≤◌, Bool, true, false, List, [], ◌∷◌, ◌++◌, Option, Some, None, IsSome, is_some, Result, Err, length, length-append, get_or, take, refl, sym, ap, ◌∙◌, subst, slice_get}
+use Rattle.std.proofs.Common.{◌≡◌, ℕ, ℤ, ◌+◌, ◌<◌, Bool, true, false, List, [], ◌∷◌, ◌++◌, Option, Some, None, IsSome, is_some, Result, Err, length, length-append, get_or, take, refl, sym, ap, ◌∙◌, subst, slice_get}
 use Rattle.std.specs.Prelude.{nat_eq, unwrap_or, if◌then◌else◌}
 use Rattle.std.specs.Option.{option_and_then}
-use Rattle.std.proofs.lemmas.List.{take_all}
 use Rattle.std.proofs.lemmas.List.Sums.{fold_more}
 use Rattle.cbl_base.specs.NumberRule.{NumberRule}
 use Rattle.cbl_base.specs.declared.place.Place.{Place}
@@ -64,10 +63,6 @@ pub parts_more : (users : ℕ → NumberRule) (env : ℕ → Outcome) (M : Model
 parts_more users env M whole k p so_far after lt is e h =
     h ∙ ap (λ s. add_posted users env M whole s p) e
     ∙ sym (fold_more (add_posted users env M whole) no_parts M.posted.items k p lt ∙ ap (add_posted users env M whole (parts_in users env M whole (take k M.posted.items))) (sym is))
-
-pub parts_all : (users : ℕ → NumberRule) (env : ℕ → Outcome) (M : Model) (whole : Whole) (k : ℕ) (so_far : Parts) → length M.posted.items ≤ k → so_far ≡ parts_in users env M whole (take k M.posted.items) →
-    so_far ≡ parts_in users env M whole M.posted.items
-parts_all users env M whole k so_far le e = e ∙ ap (parts_in users env M whole) (take_all k M.posted.items le)
 
 pub sum_from : (users : ℕ → NumberRule) (M : Model) (env : ℕ → Outcome) (whole : Whole) (place : Place) (numbers : Option (List ℤ)) (weights : List ℤ) →
     ◌≡◌ {A = Parts} (record { numbers = numbers; weights = weights }) (parts_in users env M whole M.posted.items) → sum_of place numbers weights ≡ sum_in users M env whole place

@@ -1,9 +1,9 @@
 -- The search for the variables on which others depend: what it marks, and that it ends with all of them.
-use Rattle.std.proofs.Common.{◌≡◌, ◌⊎◌, inl, inr, ℕ, zero, suc, ◌+◌, ◌<◌, ◌≤◌, Bool, true, false, ◌||◌, List, [], ◌∷◌, ◌++◌, Option, Some, None, IsSome, map, length, length-set, length-append, get_or, take, replicate, refl, sym, ap, ◌∙◌, subst, arith, slice_get, set, Contains, All}
+use Rattle.std.proofs.Common.{◌≡◌, ◌⊎◌, inl, inr, ℕ, zero, suc, ◌+◌, ◌<◌, Bool, true, false, ◌||◌, List, [], ◌∷◌, ◌++◌, Option, Some, None, IsSome, map, length, length-set, length-append, get_or, take, replicate, refl, sym, ap, ◌∙◌, subst, arith, slice_get, set, Contains, All}
 use Rattle.std.specs.Prelude.{nat_eq, unwrap_or, sum_by, if◌then◌else◌}
 use native.Mathlib.Decide.{ℕ_discrete}
 use Rattle.std.specs.List.{list_any}
-use Rattle.std.proofs.lemmas.List.{length-replicate, take_all, take_more}
+use Rattle.std.proofs.lemmas.List.{length-replicate, take_more}
 use Rattle.std.proofs.lemmas.List.Elements.{All-append, All-cons, All-head, All-nil, All-tail, All-weaker, All-contains, Contains-append_left, Contains-append_right, Contains-append_cases, Contains-push}
 use Rattle.std.proofs.lemmas.List.Sums.{sum_by-set}
 use Rattle.cbl_base.proofs.PlaceLemmas.{others_stay}
@@ -23,12 +23,6 @@ use Rattle.term_model.proofs.UsableLaws.{no_member}
 use Rattle.term_model.proofs.VarLaws.{set_same}
 use Rattle.model_values.proofs.PartLaws.{member_kinded}
 use Rattle.model_values.proofs.MarkLaws.{depends_more, depends_step}
-
--- ---- marks
-marked_there : (marks : List Bool) (i : ℕ) → marked marks i ≡ true → i < length marks
-marked_there [] i h = let c : false ≡ true = h in cc
-marked_there (m ∷ marks) zero h = omega arith
-marked_there (m ∷ marks) (suc i) h = omega (arith, marked_there marks i h)
 
 marked_set : (marks : List Bool) (i : ℕ) → i < length marks → marked (set marks i true) i ≡ true
 marked_set marks i lt = ap (λ o. unwrap_or o false) (set_same marks i true lt)
@@ -80,18 +74,6 @@ entered var mark marks marks' stack stack' lt read not next pushed = record {
         let long : length stack' ≡ length stack + 1 = ap length pushed ∙ length-append stack (var ∷ []) in
         omega (arith, sums, was, now, long)
 
--- ---- several variables
-pub spreads_none : (marks : List Bool) (stack : List ℕ) → Spreads [] marks stack marks stack
-spreads_none marks stack = record {
-  count = refl;
-  grows = λ i h. h;
-  here = λ i in' lt. absurd (no_member i in');
-  only = λ i h. inl h;
-  kept = λ i h. h;
-  stacked = λ i h. inl h;
-  left = refl;
-}
-
 pub spreads_more : (vars others : List ℕ) (marks marks1 marks2 : List Bool) (stack stack1 stack2 : List ℕ) → Spreads vars marks stack marks1 stack1 → Spreads others marks1 stack1 marks2 stack2 → Spreads (vars ++ others) marks stack marks2 stack2
 spreads_more vars others marks marks1 marks2 stack stack1 stack2 first second = record {
   count = second.count ∙ first.count;
@@ -127,9 +109,6 @@ pub spread_one : (vars : List ℕ) (k var : ℕ) (marks marks1 marks2 : List Boo
     Spreads (take (k + 1) vars) marks stack marks2 stack2
 spread_one vars k var marks marks1 marks2 stack stack1 stack2 lt is first second =
     subst (λ vs. Spreads vs marks stack marks2 stack2) (sym (take_more vars k 0 lt ∙ ap (λ v. take k vars ++ v ∷ []) (sym is))) (spreads_more (take k vars) (var ∷ []) marks marks1 marks2 stack stack1 stack2 first second)
-
-pub spread_all : (vars : List ℕ) (k : ℕ) (marks marks1 : List Bool) (stack stack1 : List ℕ) → length vars ≤ k → Spreads (take k vars) marks stack marks1 stack1 → Spreads vars marks stack marks1 stack1
-spread_all vars k marks marks1 stack stack1 le first = subst (λ vs. Spreads vs marks stack marks1 stack1) (take_all k vars le) first
 
 -- ---- dependence goes on
 eq_self : (k : ℕ) → nat_eq k k ≡ true

@@ -7,7 +7,7 @@ use Rattle.std.specs.Ordering.{int_eq, nat_cmp, is_eq}
 use Rattle.std.proofs.lemmas.Bool.{false≢true, false_from_ne_true, or_cases, or_left, or_right}
 use Rattle.std.proofs.lemmas.Bool.Decides.{nat_tests}
 use Rattle.std.proofs.lemmas.Int.{ints}
-use Rattle.std.proofs.lemmas.List.{length-map, map-append, take_more, append-nil}
+use Rattle.std.proofs.lemmas.List.{map-append, take_more, append-nil}
 use Rattle.std.proofs.lemmas.List.Elements.{filter_map-append}
 use Rattle.cbl_base.specs.declared.faults.RunFault.{RunFault}
 use Rattle.cbl_base.specs.declared.input.Change.{Change}
@@ -187,6 +187,3 @@ module _ (e : Extreme) (ys : List ℤ) (cs : List Change) (are : AreChanges (as_
   probed_keys keys found ds all is =
       let after = after_number_changes ys (map (turned_change e) (number_changes_of cs)) in
       ap (rule_of_keys keys (extreme_keys e keys)).value (sym held_after) ∙ kept_keys e keys after (Set found) (ap Set (is ∙ ap (λ t. least_keys keys (after_number_changes ys t)) all))
-
-pub length_turned : (e : Extreme) (xs ys : List ℤ) (n : ℕ) → ys ≡ map (turned e) xs → length xs ≡ n → length ys ≡ n
-length_turned e xs ys n is long = ap length is ∙ length-map xs (turned e) ∙ long

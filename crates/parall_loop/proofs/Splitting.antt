@@ -17,9 +17,6 @@ one_less rest i all some sum = omega arith
 pub some_left : (rest i all : ℕ) → i < 64 → 65 ≤ all → rest + i ≡ all → 0 < rest
 some_left rest i all few many sum = omega arith
 
-pub two_left : (seats i all : ℕ) → i < 64 → 66 ≤ all → seats + i ≡ all → 2 ≤ seats
-two_left seats i all few many sum = omega arith
-
 module _ {S Q R : Type 0} (turn : TableId × S) (count : Claims) where
   pub none_split : (seat : TableId × View S Q R) (claimer : ClaimSeat) → turns.IsSeatOf turn seat → seat.1 ≡ newcomer turn.1 [] 0 4294967296 → claims.IsSeatOf count claimer → claims.seats_from claimer ≡ claims.all_seats → claims.drawn_by claimer ≡ []
       → HasSplit turn count 0 seat claimer

@@ -48,12 +48,6 @@ abbrev pub primary_text : Option Grows → Grows
 primary_text None = misplaced
 primary_text (Some text) = text
 
-pub record IsPrimary (e : Writing) : Type 0 where
-  pub operand : IsOperand e
-  pub rest : Grows
-  pub some : e.primary_rest ≡ Some rest
-  pub alone : e.operand_rest ≡ closed suffixes rest
-
 abbrev pub IsMultiplying : ChainOperator → Type 0
 IsMultiplying o = (o ≡ chains.Multiply) ⊎ ((o ≡ chains.Divide) ⊎ (o ≡ chains.Remainder))
 

@@ -20,23 +20,11 @@ mixed_all [] (x ∷ xs) e = absurd (omega (arith, e))
 mixed_all (h ∷ hs) [] e = absurd (omega (arith, e))
 mixed_all (h ∷ hs) (x ∷ xs) e = ap (λ ys. x ∷ ys) (mixed_all hs xs (omega (arith, e)))
 
-pub mixed_length : (i : ℕ) (held list : List ℤ) → length list ≡ length held → length (mixed i held list) ≡ length held
-mixed_length zero held list e = refl
-mixed_length (suc i) [] list e = refl
-mixed_length (suc i) (h ∷ hs) [] e = absurd (omega (arith, e))
-mixed_length (suc i) (h ∷ hs) (x ∷ xs) e = let rest = mixed_length i hs xs (omega (arith, e)) in omega (arith, rest)
-
 pub mixed_same : (i : ℕ) (held list : List ℤ) (d : ℤ) → i < length held → length list ≡ length held → get_or held i d ≡ get_or list i d → mixed (suc i) held list ≡ mixed i held list
 mixed_same i [] list d lt e same = absurd (omega (arith, lt))
 mixed_same i (h ∷ hs) [] d lt e same = absurd (omega (arith, e))
 mixed_same zero (h ∷ hs) (x ∷ xs) d lt e same = ap (λ y. y ∷ hs) (sym same)
 mixed_same (suc i) (h ∷ hs) (x ∷ xs) d lt e same = ap (λ ys. x ∷ ys) (mixed_same i hs xs d (omega (arith, lt)) (omega (arith, e)) same)
-
-pub mixed_here : (i : ℕ) (held list : List ℤ) (d : ℤ) → i < length held → length list ≡ length held → get_or (mixed i held list) i d ≡ get_or held i d
-mixed_here i [] list d lt e = absurd (omega (arith, lt))
-mixed_here i (h ∷ hs) [] d lt e = absurd (omega (arith, e))
-mixed_here zero (h ∷ hs) (x ∷ xs) d lt e = refl
-mixed_here (suc i) (h ∷ hs) (x ∷ xs) d lt e = mixed_here i hs xs d (omega (arith, lt)) (omega (arith, e))
 
 pub mixed_set : (i : ℕ) (held list : List ℤ) (d : ℤ) → i < length held → length list ≡ length held → set (mixed i held list) i (get_or list i d) ≡ mixed (suc i) held list
 mixed_set i [] list d lt e = absurd (omega (arith, lt))
@@ -76,9 +64,6 @@ pub record LeadTo (held list : List ℤ) (i : ℕ) (ms : List (ℕ × ℤ)) : Ty
   pub below : AreBelow i ms
   pub are : AreMoves (length held) ms
   pub after : after_moves held ms ≡ mixed i held list
-
-pub moves_none : (held list : List ℤ) → LeadTo held list 0 []
-moves_none held list = record { below = tt; are = tt; after = refl }
 
 pub moves_skip : (held list : List ℤ) (i : ℕ) (ms : List (ℕ × ℤ)) (d : ℤ) → i < length held → length list ≡ length held → get_or held i d ≡ get_or list i d → LeadTo held list i ms → LeadTo held list (i + 1) ms
 moves_skip held list i ms d lt e same lead = record { below = below_more i ms lead.below; are = lead.are; after = lead.after ∙ sym (mixed_same i held list d lt e same) ∙ ap (λ k. mixed k held list) (next i) }

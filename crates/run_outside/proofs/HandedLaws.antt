@@ -48,14 +48,6 @@ known_at name (u ∷ users) (suc n) user is lt e = or_true (is_named name u) (kn
 abbrev pub AreOthers : List ℕ → List User → ℕ → Type 0
 AreOthers name users n = (k : ℕ) (d : User) → k < n → is_named name (get_or users k d) ≡ false
 
-pub others_more : (name : List ℕ) (users : List User) (n : ℕ) (user : User) → AreOthers name users n → user ≡ get_or users n user → n < length users → is_named name user ≡ false → AreOthers name users (n + 1)
-others_more name [] n user h is lt e k d less = absurd (omega (arith, lt))
-others_more name (u ∷ users) zero user h is lt e zero d less = ap (is_named name) (sym is) ∙ e
-others_more name (u ∷ users) zero user h is lt e (suc k) d less = absurd (omega (arith, less))
-others_more name (u ∷ users) (suc n) user h is lt e zero d less = h zero d (omega arith)
-others_more name (u ∷ users) (suc n) user h is lt e (suc k) d less =
-    others_more name users n user (λ i b l. h (suc i) b (omega (arith, l))) is (omega (arith, lt)) e k d (omega (arith, less))
-
 pub none_known : (name : List ℕ) (users : List User) → AreOthers name users (length users) → is_known name users ≡ false
 none_known name [] h = refl
 none_known name (u ∷ users) h =

@@ -171,11 +171,6 @@ module _ (S : solvers.SolverState) (names : List (List ℕ)) (w : Option (List (
 
 -- ---- numbers that wait
 
--- a list of numbers that wait is as long as the one before
-pub waiting_length : (ms : List (ℕ × ℤ)) (ws : List (Option ℤ)) → length (waiting_behind ms ws) ≡ length ws
-waiting_length [] ws = refl
-waiting_length (p ∷ ms) ws = waiting_length ms (set ws p.0 (Some p.1)) ∙ length-set ws p.0 (Some p.1)
-
 overlaid_behind : (a : List ℤ) (ms : List (ℕ × ℤ)) (ws : List (Option ℤ)) → length ws ≡ length a → overlaid a (waiting_behind ms ws) ≡ meant.after_moves ms (overlaid a ws)
 overlaid_behind a [] ws e = refl
 overlaid_behind a (p ∷ ms) ws e =

@@ -81,9 +81,6 @@ one_before P ts n t is p before k d lt below = by (ℕ_discrete k n) where
   by (yes e) = subst P (is ∙ ap (λ j. get_or ts j t) (sym e) ∙ same_at ts k t d lt) p
   by (no ne) = before k d lt (omega (arith, below, ne))
 
-pub all_before : (P : Term → Type 0) (ts : List Term) (n : ℕ) → length ts ≤ n → AllBefore P ts n → All P ts
-all_before P ts n le before k d lt = before k d lt (omega (arith, le, lt))
-
 -- ---- the post
 
 first_none : (a b : Option RunFault) → first_refusal a b ≡ None → a ≡ None

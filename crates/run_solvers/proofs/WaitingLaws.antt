@@ -12,11 +12,6 @@ pub overlaid_none : (a : List ℤ) → overlaid a (replicate (length a) None) �
 overlaid_none [] = refl
 overlaid_none (z ∷ a) = ap (λ zs. z ∷ zs) (overlaid_none a)
 
-pub overlaid_length : (a : List ℤ) (ws : List (Option ℤ)) → length (overlaid a ws) ≡ length a
-overlaid_length [] ws = refl
-overlaid_length (z ∷ a) [] = refl
-overlaid_length (z ∷ a) (w ∷ ws) = ap suc (overlaid_length a ws)
-
 -- one more number that waits
 pub overlaid_set : (a : List ℤ) (ws : List (Option ℤ)) (i : ℕ) (z : ℤ) → length ws ≡ length a → overlaid a (set ws i (Some z)) ≡ set (overlaid a ws) i z
 overlaid_set [] [] i z e = refl

@@ -98,9 +98,6 @@ count_whole xs i c m h = sym (ap (λ n. capped most_cells n) (ap (λ n. c * n) (
   times_one : (n : ℕ) → n * 1 ≡ n
   times_one n = omega arith
 
-pub count_ends : (xs : List Extent) (i c : ℕ) → CountLeft xs i c → length xs ≤ i → c ≤ most_cells → (nat_le (cell_count (map extent_seen xs)) most_cells ≡ true) × (c ≡ cell_count (map extent_seen xs))
-count_ends xs i c m h le = counted_all most_cells c _ (count_whole xs i c m h) le
-
 pub count_over : (xs : List Extent) (i c : ℕ) → CountLeft xs i c → length xs ≤ i → most_cells < c → nat_le (cell_count (map extent_seen xs)) most_cells ≡ false
 count_over xs i c m h lt = counted_more most_cells c _ (count_whole xs i c m h) m.small lt
 

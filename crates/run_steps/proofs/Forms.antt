@@ -1,6 +1,6 @@
 -- What forms do, step by step.
-use Rattle.std.proofs.Common.{◌≡◌, ◌∙◌, refl, sym, subst, ap, ℕ, zero, suc, ◌≤◌, arith, true, false, List, [], ◌∷◌, ◌++◌, map, get_or, length, Option, Some, Result, if◌then◌else◌}
-use Rattle.std.specs.Prelude.{slice_get, option_map}
+use Rattle.std.proofs.Common.{◌≡◌, ◌∙◌, refl, sym, subst, ap, ℕ, zero, suc, ◌≤◌, arith, true, false, List, [], ◌∷◌, ◌++◌, map, get_or, length, Option, Some, if◌then◌else◌}
+use Rattle.std.specs.Prelude.{slice_get}
 use Rattle.cbl_base.specs.declared.place.Place.{Place}
 use Rattle.comet_syntax.specs.declared.tree.expressions.ChainOperator.{ChainOperator}
 use Rattle.checked_tree.specs.declared.expressions.Link.{Link}
@@ -30,17 +30,12 @@ use Rattle.run_values.specs.Views.{value_seen}
 use Rattle.run_steps.specs.Views.{part, row}
 use Rattle.comet_meaning.proofs.GoingOn.{goes_give, goes_back_in}
 use Rattle.comet_meaning.proofs.Rows.{ValuesLeft, ArgumentsLeft}
-use Rattle.comet_meaning.specs.Parts.{read, read_place, value}
+use Rattle.comet_meaning.specs.Parts.{value}
 use Rattle.comet_meaning.specs.Operators.{decides, linked, link_form}
 use Rattle.run_values.specs.declared.stop.Stop.{Stop}
-use Rattle.run_steps.specs.Does.{Does, Ends}
+use Rattle.run_steps.specs.Does.{Ends}
 use Rattle.run_steps.specs.Parts.{value_as, is_handed_itself, plain_builtin}
-use Rattle.run_steps.proofs.Exits.{after, ends_passes}
-
--- the value of a part, which is read at its place
-pub value_does : {X : Type 0} (view : X → Value) (r : Result X Stop) (t : State) (l : Level) (e : Shape) {s u : State} {v : Value} (p : Place) → l.expr e s ≡ Went v u → p ≡ read_place e → Does view r t (read p v u) → Does view r t (value l e s)
-unfolding value
-value_does view r t l e {u = u} {v = v} p h is d = after view r t (read (read_place e)) h (subst (λ q. Does view r t (read q v u)) is d)
+use Rattle.run_steps.proofs.Exits.{ends_passes}
 
 -- an operator with its right operand
 pub link_is : (x : Link) → shape_of_link x ≡ shapes.link x.operator x.place (whole (seen x.operand))
@@ -52,10 +47,6 @@ pub generator_is : (x : Generator) → shape_of_generator x ≡ shapes.generator
 unfolding shape_of shape_of_generator
 generator_is x = fold_out-Generator Shape Shape Shape Seen form_layer generator_layer link_layer typed_layer x ∙ ap (λ t. shapes.generator x.place x.slot (whole t)) (fold_out-Typed Shape Shape Shape Seen form_layer generator_layer link_layer typed_layer x.domain)
 
-pub link_decides : (l : Level) (at : Place) (o : ChainOperator) (e : Shape) (v : Value) (s : State) → decides o v ≡ true → link_form l at o e v s ≡ Went v s
-unfolding link_form
-link_decides l at o e v s h = ap (λ b. (if b then give v else (value l e >>= linked at o v)) s) h
-
 pub link_goes_on : (l : Level) (at : Place) (o : ChainOperator) (e : Shape) (v : Value) (s : State) → decides o v ≡ false → link_form l at o e v s ≡ then_do (value l e s) (linked at o v)
 unfolding link_form
 link_goes_on l at o e v s h = ap (λ b. (if b then give v else (value l e >>= linked at o v)) s) h
@@ -64,12 +55,6 @@ link_goes_on l at o e v s h = ap (λ b. (if b then give v else (value l e >>= li
 pub map_push : {X Y : Type 0} (f : X → Y) (xs : List X) (x : X) → map f (xs ++ x ∷ []) ≡ map f xs ++ f x ∷ []
 map_push f [] x = refl
 map_push f (y ∷ ys) x = ap (λ zs. f y ∷ zs) (map_push f ys x)
-
--- an element of a list that is mapped
-pub found_mapped : {X Y : Type 0} (f : X → Y) (xs : List X) (i : ℕ) → option_map f (slice_get xs i) ≡ slice_get (map f xs) i
-found_mapped f [] i = refl
-found_mapped f (x ∷ xs) zero = refl
-found_mapped f (x ∷ xs) (suc i) = found_mapped f xs i
 
 -- an argument
 

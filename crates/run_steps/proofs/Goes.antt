@@ -1,16 +1,13 @@
 -- The parts that the code evaluates in functions of their own go onward.
-use Rattle.std.proofs.Common.{◌≡◌, sym, subst, is_some, ℕ, ℤ, Bool, true, false, List, [], Option, Some, None}
+use Rattle.std.proofs.Common.{◌≡◌, sym, subst, is_some, ℕ, ℤ, Bool, true, false, List, Option, Some, None}
 use Rattle.cbl_base.specs.declared.ids.VarId.{VarId}
 use Rattle.cbl_base.specs.declared.place.Place.{Place}
-use Rattle.checked_tree.specs.declared.kind.Kind.{Kind}
-use Rattle.checked_tree.specs.declared.expressions.Builtin.{Builtin}
 use Rattle.checked_tree.specs.declared.expressions.Slot.{Slot}
 use Rattle.checked_tree.specs.Actions.{Varying}
 use Rattle.checked_tree.specs.Tasks.{Work}
-use Rattle.checked_tree.specs.Shape.{Shape}
 use Rattle.term_model.specs.declared.model.VarDecl.{VarDecl}
 use Rattle.comet_meaning.specs.Values.{Value, Bounds}
-use Rattle.comet_meaning.specs.Levels.{Code, Level, Flow}
+use Rattle.comet_meaning.specs.Levels.{Level, Flow}
 use Rattle.comet_meaning.specs.Declarations.{Dimension}
 use Rattle.comet_meaning.specs.Variables.{Beginning}
 use Rattle.comet_meaning.specs.Onward.{GoesOn, IsOnward, left_by}
@@ -23,9 +20,7 @@ use Rattle.comet_meaning.specs.State.{State, left}
 use Rattle.cbl_base.specs.declared.faults.RunFault.TheVariants.{NotClosed}
 use Rattle.comet_meaning.proofs.GoingOn.{goes_then, goes_give, goes_if, goes_at, goes_unless, goes_charge, goes_extent, goes_cell_of, goes_found_at, goes_new_variables, goes_put}
 use Rattle.comet_meaning.proofs.GoingEvents.{goes_noticed, goes_run_queue}
-use Rattle.comet_meaning.proofs.GoingParts.{LevelGoesOn, goes_value, goes_values, goes_read_array, goes_taken_whole}
-use Rattle.comet_meaning.proofs.GoingExpressions.{goes_builtin_value, goes_form}
-use Rattle.comet_meaning.proofs.GoingTerms.{goes_standing}
+use Rattle.comet_meaning.proofs.GoingParts.{LevelGoesOn, goes_read_array, goes_taken_whole}
 use Rattle.comet_meaning.proofs.GoingStatements.{goes_element}
 use Rattle.comet_meaning.proofs.GoingVariables.{goes_variable_in, goes_next_variable, goes_listed_variable, goes_commit_waiting}
 use Rattle.run_objects.specs.OfRunState.Acts.{indexed, indexed_twice, index_written, cell_written, counted, numbers_read}
@@ -34,7 +29,6 @@ use Rattle.run_objects.specs.WithBlocks.{block}
 use Rattle.run_objects.proofs.WithLaws.{together_law}
 use Rattle.run_objects.specs.OfRunSolvers.Opening.{opened, opening}
 use Rattle.comet_meaning.proofs.GoingModels.{goes_put_solver}
-use Rattle.run_steps.specs.Parts.{value_as, plain_builtin, constant_form}
 
 pub goes_indexed : (at : Place) (v : Value) (z : ℤ) → GoesOn (indexed at v z)
 goes_indexed at v z = goes_then (goes_extent v) (λ b. goes_then (goes_found_at at _) (λ k. goes_cell_of v k))
@@ -50,15 +44,6 @@ goes_cell_written at v y z = goes_then (goes_extent v) (λ b. goes_then (goes_fo
 
 pub goes_counted : (at place : Place) (v : Value) (z : ℤ) → GoesOn (counted at place v z)
 goes_counted at place v z = goes_then (goes_charge 1 at) (λ _. goes_then (goes_taken_whole place v) (λ xs. goes_give))
-
-pub goes_value_as : (l : Level) → LevelGoesOn l → (k : Kind) (e : Shape) → GoesOn (value_as l k e)
-goes_value_as l h k e = goes_then (goes_value l h e) (λ v. goes_give)
-
-pub goes_plain : (l : Level) → LevelGoesOn l → (at : Place) (f : Builtin) (es : List Shape) → GoesOn (plain_builtin l at f es)
-goes_plain l h at f es = goes_then (goes_values l h es []) (λ vs. goes_then (goes_charge 1 at) (λ _. goes_builtin_value at f vs))
-
-pub goes_constant : (c : Code) (l : Level) → LevelGoesOn l → (at : Place) (kind : Kind) (form : Shape) → GoesOn (constant_form c l at kind form)
-goes_constant c l h at kind form = goes_then (goes_form c l h at kind form) (λ v. goes_standing v)
 
 -- declarations of variables
 

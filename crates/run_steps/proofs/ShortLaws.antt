@@ -46,9 +46,6 @@ use Rattle.run_steps.proofs.Trees.{work_of_task, act_action, act_block}
 
 -- fuel
 
-pub spent_none : (s : State) → IsSpent s s
-spent_none s = refl
-
 pub spent_more : (s t u : State) → IsSpent s t → IsSpent t u → IsSpent s u
 spent_more s t u e f = ap (λ (x : State). record x { fuel = s.fuel }) f ∙ e
 
@@ -134,10 +131,6 @@ pub spending_chain : (c : Code) (room : ℕ) (e : Typed) (a : Box Typed Global) 
 unfolding value_of_form
 spending_chain c room e a xs s t None h is m = record { spent = m.spent; gives = tt }
 spending_chain c room e a xs s t (Some z) h is m = record { spent = m.spent; gives = value_gone c room (part e) s t z (expr_of_form c room e (shapes.chain (part a.value) (rows (map shape_of_link xs.items))) s h (ap shape_of is ∙ form_chain a xs) ∙ m.gives) }
-
--- a part that is plain spends nothing
-pub spending_plain : (s : State) (found : Option ℤ) (o : Outcome Value) → GivesNumber found s o → Spends found s s o
-spending_plain s found o h = record { spent = refl; gives = h }
 
 -- where nothing is answered, nothing but the fuel is gone
 pub spending_lost : (s t : State) (found : Option ℤ) (o : Outcome Value) → found ≡ None → IsSpent s t → Spends found s t o

@@ -1,6 +1,5 @@
 -- Where a part ends the run, the whole ends it so.
-use Rattle.std.proofs.Common.{◌≡◌, sym, ap, ◌∙◌, ℕ, List, [], ◌++◌, append_assoc, Result, Ok, Err}
-use Rattle.std.proofs.lemmas.List.{append-nil}
+use Rattle.std.proofs.Common.{◌≡◌, sym, ap, ◌∙◌, ℕ, List, ◌++◌, append_assoc, Result, Ok, Err}
 use Rattle.comet_meaning.specs.State.{State}
 use Rattle.comet_meaning.specs.Outcome.{Outcome, Went, Halted, Act, then_do}
 use Rattle.comet_meaning.specs.Onward.{IsFront, left_by, GoesOn}
@@ -8,10 +7,6 @@ use Rattle.run_values.specs.declared.stop.Stop.{Stop}
 use Rattle.run_values.specs.declared.stop.Stop.TheVariants.{Fault, Spent, Cyclic, NoMemory, Output}
 use Rattle.run_values.specs.Did.{Did, Stopped}
 use Rattle.run_steps.specs.Does.{Does, Ends}
-
--- nothing more was printed
-pub same_front : (xs : List ℕ) → IsFront xs xs
-same_front xs = ([], sym (append-nil xs))
 
 front_then : {A B : Type 0} (printed : List ℕ) (o : Outcome A) (f : A → Act B) → ((x : A) → GoesOn (f x)) → IsFront printed (left_by o).printed → IsFront printed (left_by (then_do o f)).printed
 front_then printed (Went x t) f k e =

@@ -1,5 +1,5 @@
 -- The steps of the loop over tuples, on generators as the code keeps them.
-use Rattle.std.proofs.Common.{◌≡◌, inl, inr, refl, sym, subst, ap, ◌∙◌, arith, ℕ, zero, suc, ◌+◌, ◌-◌, ◌<◌, ◌≤◌, ℤ, Bool, List, [], ◌∷◌, ◌++◌, map, reverse, length, take, drop, get_or, Option, Some, None}
+use Rattle.std.proofs.Common.{◌≡◌, inl, inr, refl, sym, subst, ap, ◌∙◌, arith, ℕ, zero, suc, ◌+◌, ◌-◌, ◌<◌, ◌≤◌, ℤ, Bool, List, [], ◌∷◌, ◌++◌, map, reverse, length, take, drop, get_or, Some, None}
 use Rattle.std.proofs.lemmas.List.{map-append, reverse-append, length-reverse, length-map, take_at, length_push, take_all}
 use Rattle.cbl_base.specs.declared.place.Place.{Place}
 use Rattle.checked_tree.specs.declared.expressions.Slot.{Slot}
@@ -23,7 +23,7 @@ use Rattle.run_steps.specs.declared.tuples.Entered.{Entered}
 use Rattle.run_steps.specs.declared.tuples.Tuples.{Tuples}
 use Rattle.std.specs.Prelude.{IsErrAnd, Result, Ok, Err}
 use Rattle.run_steps.specs.Does.{Ends}
-use Rattle.run_steps.specs.OpenTuples.{SameLeft, Visits, Remains, Found, Entering, Advances, bound_seen, pending_seen, names_seen, rests_seen}
+use Rattle.run_steps.specs.OpenTuples.{SameLeft, Visits, Remains, Found, Entering, bound_seen, pending_seen, names_seen, rests_seen}
 use Rattle.run_steps.proofs.Exits.{ends_passes}
 use Rattle.run_steps.proofs.Forms.{generator_is}
 
@@ -52,9 +52,6 @@ module _ {A : Type 0} (l : Level) (at : Place) (more : A → Bool) (visit : ℤ 
 length_rests : (es : List Entered) → length (rests_seen es) ≡ length es
 length_rests es = length-reverse (map (λ e. pending_seen e.rest) es) ∙ length-map es (λ e. pending_seen e.rest)
 
-length_names : (es : List Entered) → length (names_seen es) ≡ length es
-length_names es = length-map es bound_seen
-
 names_push : (es : List Entered) (e : Entered) → names_seen (es ++ e ∷ []) ≡ names_seen es ++ bound_seen e ∷ []
 names_push es e = map-append bound_seen es (e ∷ [])
 
@@ -66,14 +63,6 @@ left_of m = record { rest = m.rest; known = m.known; inside = m.inside }
 
 remains_of : {l : Level} {at : Place} {V : Visits} {gs : List Generator} {bounds : List Bound} {ps : List Pending} {s : State} → TuplesLeft l at V.more V.visit shape_of_generator gs bounds ps V.so_far s V.whole → Remains l at V gs bounds ps s
 remains_of m = record { rest = m.rest; known = m.known; inside = m.inside }
-
--- the values of the last generator, said otherwise
-pub remains_same : {l : Level} {at : Place} {V : Visits} {gs : List Generator} {bounds : List Bound} {ps : List Pending} {s : State} (p q : Pending) → SameLeft p q → Remains l at V gs bounds (p ∷ ps) s → Remains l at V gs bounds (q ∷ ps) s
-remains_same {l} {at} {V} {gs} {bounds} {ps} {s} p q h m = record {
-  rest = sym (rest_same l at V.more V.visit (map shape_of_generator gs) bounds p q ps V.so_far s h) ∙ m.rest;
-  known = m.known;
-  inside = m.inside;
-}
 
 -- the last generator has no more values, and none is open below it
 pub all_close : {l : Level} {at : Place} {V : Visits} {gs : List Generator} {s : State} (below : List Entered) (p : Pending) → below ≡ [] → next_of p ≡ None → Remains l at V gs (names_seen below) (p ∷ rests_seen below) s → V.whole ≡ Went V.so_far s
@@ -161,10 +150,6 @@ entered_push {l} {at} {V} {gs} {s} below more entered d is m =
 pub entering_ends : (l : Level) (at : Place) (V : Visits) (gs : List Generator) (r : Result Bool Stop) (t : Tuples) (v : ℤ) (s : State) (stop : Stop) → IsErrAnd r (λ y. y ≡ stop) → Ends stop s V.whole → Entering l at V gs r t v s
 entering_ends l at V gs (Ok b) t v s stop h k = absurd h
 entering_ends l at V gs (Err y) t v s stop h k = subst (λ z. Ends z s V.whole) (sym h) k
-
-pub advances_ends : (l : Level) (at : Place) (V : Visits) (gs : List Generator) (r : Result (Option ℤ) Stop) (t : Tuples) (s : State) (stop : Stop) → IsErrAnd r (λ y. y ≡ stop) → Ends stop s V.whole → Advances l at V gs r t s
-advances_ends l at V gs (Ok x) t s stop h k = absurd h
-advances_ends l at V gs (Err y) t s stop h k = subst (λ z. Ends z s V.whole) (sym h) k
 
 -- a part that went on left no more fuel
 pub went_fuel : {A : Type 0} (m : Act A) {s t : State} {x : A} → GoesOn m → m s ≡ Went x t → t.fuel ≤ s.fuel

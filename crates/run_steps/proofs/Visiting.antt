@@ -8,14 +8,14 @@ use Rattle.checked_tree.specs.Shape as shapes
 use Rattle.checked_tree.specs.Shape.{Shape, Seen, seen, whole, shape_of, shape_of_generator, form_layer, generator_layer, link_layer, typed_layer, optional}
 use Rattle.checked_tree.specs.Tasks.{Work}
 use Rattle.comet_meaning.specs.Values.{Value}
-use Rattle.comet_meaning.specs.State.{State, left}
+use Rattle.comet_meaning.specs.State.{State}
 use Rattle.comet_meaning.specs.Outcome.{Outcome, Went, then_do}
 use Rattle.comet_meaning.specs.Levels.{Level, Flow, Next, Returned}
 use Rattle.comet_meaning.specs.Loops.{is_next, visited, for_all_form}
 use Rattle.comet_meaning.specs.Parts.{value}
 use Rattle.comet_meaning.specs.Generators.{Bound, each_tuple}
-use Rattle.comet_meaning.specs.Odometer.{Pending, opened, pending_of, rest_of, stack_of}
-use Rattle.comet_meaning.specs.Onward.{IsOnward, left_by}
+use Rattle.comet_meaning.specs.Odometer.{Pending, opened, pending_of, rest_of}
+use Rattle.comet_meaning.specs.Onward.{left_by}
 use Rattle.comet_meaning.proofs.GoingParts.{LevelGoesOn}
 use Rattle.comet_meaning.proofs.GoingStatements.{goes_visited}
 use Rattle.comet_meaning.proofs.Rows.{found_stands}
@@ -89,7 +89,3 @@ module _ (l : Level) (k : LevelGoesOn l) (c : Shape) (body : Work) {at : Place} 
 
   pub visiting_spends : (x : Flow) (t : State) → visited l c body v Next s ≡ Went x t → t.fuel ≤ s.fuel
   visiting_spends x t e = let on = (goes_visited l k c body v Next).from s in subst (λ (o : Outcome Flow). (left_by o).fuel ≤ s.fuel) e on.fuel
-
--- where there is no memory
-pub visiting_onward : {l : Level} {at : Place} {V : Visits} {gs : List Generator} {bounds : List Bound} {ps : List Pending} {s : State} → LevelGoesOn l → Remains l at V gs bounds ps s → IsOnward (left s) (left_by V.whole)
-visiting_onward {l} {at} {V} {gs} {bounds} {ps} {s} k m = subst (λ o. IsOnward (left s) (left_by o)) m.rest ((goes_rest l k at V.more V.visit (stack_of (map shape_of_generator gs) bounds ps) V.so_far V.goes).from s)

@@ -55,9 +55,6 @@ total_within s k own = lt_of k.index (length (totals_by s.model k.side)) (second
 pub member_within : (s : SolverState) (k : TotalId) (t : Term) (weight : ℤ) → early_member_refusal s k t weight ≡ None → k.index < length (totals_by s.model k.side)
 member_within s k t weight e = total_within s k (first_true (is_own_total s k) (names_only (is_own s) t) (early_parts s k t weight e).1)
 
-pub member_is_own : (s : SolverState) (k : TotalId) (t : Term) (weight : ℤ) → early_member_refusal s k t weight ≡ None → is_own_member s k t ≡ true
-member_is_own s k t weight e = (early_parts s k t weight e).1
-
 shallow_enough : (b : Bool) → not b ≡ false → b ≡ true
 shallow_enough true h = refl
 shallow_enough false h = absurd (true≢false h)

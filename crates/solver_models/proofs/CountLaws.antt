@@ -1,7 +1,6 @@
 -- The distinct subterms of what was posted, one posting after another.
-use Rattle.std.proofs.Common.{◌≡◌, ℕ, ◌+◌, ◌<◌, List, [], ◌∷◌, ◌++◌, Some, None, Result, Ok, Err, fold, map, take, length, get_or, sym, ap, ◌∙◌, subst}
+use Rattle.std.proofs.Common.{◌≡◌, ◌+◌, List, [], ◌∷◌, ◌++◌, Some, None, Result, Ok, Err, fold, map, sym, ap, ◌∙◌, subst}
 use Rattle.std.specs.Prelude.{OnOk}
-use Rattle.std.proofs.lemmas.List.{take_more}
 use Rattle.std.proofs.lemmas.List.Sums.{fold-append}
 use Rattle.cbl_base.specs.declared.faults.NoMemory.{NoMemory}
 use Rattle.solver_models.specs.Defining.{distinct_with}
@@ -30,8 +29,3 @@ pub posted_some : (result : Result (Unit {0}) NoMemory) (M : Model) (p : Posted)
 posted_some (Ok done) M p t old new some adds = λ ps h.
     subst (Counts new) (sym (posted_more M ps p ∙ ap (λ o. fold with_subterm (once (subterms_posted M ps)) (subterms_where o)) some)) (adds (once (subterms_posted M ps)) h)
 posted_some (Err stop) M p t old new some adds = tt
-
-pub posted_next : (M : Model) (ps : List Posted) (i : ℕ) (p : Posted) (old new : Subterms) → i < length ps → p ≡ get_or ps i p → Counts old (once (subterms_posted M (take i ps))) →
-    ((so_far : List Posted) → Counts old (once (subterms_posted M so_far)) → Counts new (once (subterms_posted M (so_far ++ p ∷ [])))) → Counts new (once (subterms_posted M (take (i + 1) ps)))
-posted_next M ps i p old new lt is counts adds =
-    subst (λ qs. Counts new (once (subterms_posted M qs))) (ap (λ q. take i ps ++ q ∷ []) is ∙ sym (take_more ps i p lt)) (adds (take i ps) counts)

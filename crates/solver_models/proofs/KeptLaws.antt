@@ -201,18 +201,6 @@ kept_user M N side k member rule a marks rules counted after values closed usabl
       fresh = λ h. open_ closed open' h;
     }
 
-pub kept_uncounted : (M : Model) (a : List ℤ) (marks : List Bool) (rules : List KeptRule) (counted : Option Subterms) (values : Fresh) (closed usable : Bool) → IsKept M a marks rules counted values closed usable → IsKept M a marks rules None values closed usable
-kept_uncounted M a marks rules counted values closed usable kept = record {
-  formed = kept.formed;
-  few = kept.few;
-  assigned = kept.assigned;
-  marked = kept.marked;
-  terms = tt;
-  posted = kept.posted;
-  closable = kept.closable;
-  fresh = kept.fresh;
-}
-
 -- ---- a solver that can't be used any more, one that was closed, and other numbers
 pub kept_unusable : (M : Model) (a after : List ℤ) (marks : List Bool) (rules : List KeptRule) (counted : Option Subterms) (values : Fresh) (closed usable : Bool) → length after ≡ length a → IsKept M a marks rules counted values closed usable → IsKept M after marks rules counted values closed false
 kept_unusable M a after marks rules counted values closed usable long kept = record {
