@@ -13,10 +13,10 @@ returns g c =
     let t = c.in_ok-tables.tables in
     let same = c.in_ok-tables.ensures.same in
     subst (λ answer. IsAnswer answer c.violations_by.result)
-        (ap (λ u. variable_violations_of (user_rules (g.U.UserValues.viol_of u) (g.U.UserValues.viol_at u)) t.model.now t.assignment.now c.args.system c.args.var) same.0
-        ∙ ap (λ M. variable_violations_of (user_rules (g.U.UserValues.viol_of c.args.users.now) (g.U.UserValues.viol_at c.args.users.now)) M t.assignment.now c.args.system c.args.var) same.1
-        ∙ ap (λ a. variable_violations_of (user_rules (g.U.UserValues.viol_of c.args.users.now) (g.U.UserValues.viol_at c.args.users.now)) c.args.model.now a c.args.system c.args.var) same.2)
-        c.violations_by.ensures
+    (ap (λ u. variable_violations_of (user_rules (g.U.UserValues.viol_of u) (g.U.UserValues.viol_at u)) t.model.now t.assignment.now c.args.system c.args.var) same.0
+    ∙ ap (λ M. variable_violations_of (user_rules (g.U.UserValues.viol_of c.args.users.now) (g.U.UserValues.viol_at c.args.users.now)) M t.assignment.now c.args.system c.args.var) same.1
+    ∙ ap (λ a. variable_violations_of (user_rules (g.U.UserValues.viol_of c.args.users.now) (g.U.UserValues.viol_at c.args.users.now)) c.args.model.now a c.args.system c.args.var) same.2)
+    c.violations_by.ensures
 
 pub violations_by-requires-clause-well_formed : goal.violations_by-requires-clause-well_formed
 violations_by-requires-clause-well_formed g c = subst IsWellFormed (sym c.in_ok-tables.ensures.same.1) c.requires.well_formed
