@@ -137,16 +137,13 @@ pub record Weighed : Type 0 where
   pub violations : Result (List ℤ) RunFault
   pub weights : List ℤ
 
-abbrev pub with_member : (ℕ → NumberRule) → (ℕ → Outcome) → (ℕ → Bool) → Weighed → Option Member → Weighed
-with_member users env depends weighed (Some member) = record {
-  violations = gather_violation weighed.violations (share_of users env depends member.term).violation;
-  weights = weighed.weights ++ member.weight ∷ [];
-}
-with_member users env depends weighed None = weighed
-
 -- what is weighed so far, and a member's violations with its weight
 abbrev pub with_weighed : Weighed → Result ℤ RunFault → ℤ → Weighed
 with_weighed weighed violation weight = record { violations = gather_violation weighed.violations violation; weights = weighed.weights ++ weight ∷ [] }
+
+abbrev pub with_member : (ℕ → NumberRule) → (ℕ → Outcome) → (ℕ → Bool) → Weighed → Option Member → Weighed
+with_member users env depends weighed (Some member) = with_weighed weighed (share_of users env depends member.term).violation member.weight
+with_member users env depends weighed None = weighed
 
 abbrev pub weigh_posted : (ℕ → NumberRule) → (ℕ → Outcome) → (ℕ → Bool) → Model → ℕ → Weighed → Posted → Weighed
 weigh_posted users env depends M s weighed posted = with_member users env depends weighed (member_in M (System s) posted)
