@@ -30,6 +30,9 @@ pub const MAX_CELLS: usize = 16_777_216;
 /// Iterations of a loop.
 pub const MAX_ITERATIONS: u32 = 1_024;
 
+/// Solutions that a pool keeps.
+pub const MAX_POOL_SOLUTIONS: u32 = 1_024;
+
 /// Journal units of a run.
 pub const MAX_JOURNAL_UNITS: u64 = 33_554_432;
 

@@ -9,7 +9,7 @@ use crate::faults::{NoMemory, NodeFault, RunFault};
 use crate::input::{Change, Input, NodeValue};
 
 /// A node: it holds a list of inputs, and answers with its rule's value of them.
-pub trait NodeRule: Send + Sync + Drop {
+pub trait NodeRule: Drop {
     /// What it computes: which inputs it takes, their value, and the violation at a place. No call changes it.
     ghost rule: { Self → Rule };
 

@@ -8,7 +8,7 @@ use cbl_base::{NoMemory, NodeFault, RunFault};
 
 /// A node over numbers alone: it holds a list of numbers, and answers with its rule's value of them.
 /// `OverNumbers` makes a node of it.
-pub trait NumberNode: Send + Sync + Drop {
+pub trait NumberNode: Drop {
     /// What it computes: how many numbers it takes, their value, and the violation at a place. No call changes it.
     ghost number_rule: { Self → NumberRule };
 
