@@ -56,7 +56,7 @@ fn planned(alloc: Global, lists: &[&[u32]]) -> Result<String, Fail> {
 }
 
 /// The list of each item, and what `plan` answers.
-const PLANS: &[(&[&[u32]], &str)] = &[
+static PLANS: [(&[&[u32]], &str); 10] = [
     (&[], "Layers { layers: [] }"),
     // Item 2 stands on two items, one of which stands on the other.
     (&[&[1], &[], &[0, 1]], "Layers { layers: [1, 0, 2] }"),
@@ -79,7 +79,7 @@ const PLANS: &[(&[&[u32]], &str)] = &[
 
 #[test]
 fn layers_and_cycles(rt: HostRuntime) -> Result<(), Fail> {
-    for (lists, want) in PLANS {
+    for (lists, want) in &PLANS {
         assert_eq!(rt; planned(rt.alloc(), lists)?.as_str(), *want);
     }
     Ok(())

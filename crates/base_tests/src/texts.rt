@@ -2,47 +2,49 @@
 use cbl_base::{Limit, Names, RunFault, Text};
 use std::test::Fail;
 
+/// Each fault, its code and its text.
+static FAULTS: [(RunFault, u8, &str); 22] = [
+    (RunFault::Overflow, 1, "overflow"),
+    (RunFault::DivideByZero, 2, "division by zero"),
+    (RunFault::OutOfRange, 3, "out of range"),
+    (RunFault::NotClosed, 4, "solver not closed"),
+    (RunFault::AlreadyClosed, 5, "solver already closed"),
+    (RunFault::DefinedVariable, 6, "variable has a definition"),
+    (RunFault::NoMove, 7, "no move"),
+    (RunFault::NoBest, 8, "no best"),
+    (RunFault::EmptyRange, 9, "empty range"),
+    (RunFault::NoData, 10, "no more data"),
+    (RunFault::BadData, 11, "bad data"),
+    (RunFault::Depth, 12, "depth exceeded"),
+    (
+        RunFault::TooMany(Limit::Variables),
+        13,
+        "too many variables",
+    ),
+    (RunFault::TooMany(Limit::TermNodes), 13, "too many terms"),
+    (
+        RunFault::TooMany(Limit::Candidates),
+        13,
+        "too many candidates",
+    ),
+    (RunFault::TooMany(Limit::Cells), 13, "too many cells"),
+    (
+        RunFault::TooMany(Limit::Iterations),
+        13,
+        "too many iterations",
+    ),
+    (RunFault::WrongSolver, 14, "wrong solver"),
+    (RunFault::JournalFull, 15, "journal full"),
+    (RunFault::OutputFull, 16, "output full"),
+    (RunFault::UnknownUser, 17, "unknown user constraint"),
+    (RunFault::UserSpent, 18, "user constraint already posted"),
+];
+
 #[test]
 fn faults_have_their_codes_and_texts(rt: HostRuntime) {
-    let rows = [
-        (RunFault::Overflow, 1, "overflow"),
-        (RunFault::DivideByZero, 2, "division by zero"),
-        (RunFault::OutOfRange, 3, "out of range"),
-        (RunFault::NotClosed, 4, "solver not closed"),
-        (RunFault::AlreadyClosed, 5, "solver already closed"),
-        (RunFault::DefinedVariable, 6, "variable has a definition"),
-        (RunFault::NoMove, 7, "no move"),
-        (RunFault::NoBest, 8, "no best"),
-        (RunFault::EmptyRange, 9, "empty range"),
-        (RunFault::NoData, 10, "no more data"),
-        (RunFault::BadData, 11, "bad data"),
-        (RunFault::Depth, 12, "depth exceeded"),
-        (
-            RunFault::TooMany(Limit::Variables),
-            13,
-            "too many variables",
-        ),
-        (RunFault::TooMany(Limit::TermNodes), 13, "too many terms"),
-        (
-            RunFault::TooMany(Limit::Candidates),
-            13,
-            "too many candidates",
-        ),
-        (RunFault::TooMany(Limit::Cells), 13, "too many cells"),
-        (
-            RunFault::TooMany(Limit::Iterations),
-            13,
-            "too many iterations",
-        ),
-        (RunFault::WrongSolver, 14, "wrong solver"),
-        (RunFault::JournalFull, 15, "journal full"),
-        (RunFault::OutputFull, 16, "output full"),
-        (RunFault::UnknownUser, 17, "unknown user constraint"),
-        (RunFault::UserSpent, 18, "user constraint already posted"),
-    ];
-    for (fault, code, text) in rows {
-        assert_eq!(rt; fault.code(), code);
-        assert_eq!(rt; fault.text(), text);
+    for (fault, code, text) in &FAULTS {
+        assert_eq!(rt; fault.code(), *code);
+        assert_eq!(rt; fault.text(), *text);
     }
     assert_eq!(rt; Limit::TermNodes.text(), "terms");
 }

@@ -15,7 +15,7 @@ const PROGRAM: Words<'static> = Words {
 };
 
 /// Words, and what they ask for.
-const ASKED: &[(&[&str], Words<'static>)] = &[
+static ASKED: [(&[&str], Words<'static>); 8] = [
     (&["p"], PROGRAM),
     (
         &["--fuel", "10", "p"],
@@ -72,7 +72,7 @@ const ASKED: &[(&[&str], Words<'static>)] = &[
 ];
 
 /// Words that aren't in form.
-const REFUSED: &[&[&str]] = &[
+static REFUSED: [&[&str]; 26] = [
     &[],
     &[""],
     &["-"],
@@ -111,7 +111,7 @@ fn owned(alloc: Global, words: &[&str]) -> Result<Vec<String>, AllocError> {
 
 #[test]
 fn words_ask_for_what_they_say(rt: HostRuntime) -> Result<(), Fail> {
-    for (words, expected) in ASKED {
+    for (words, expected) in &ASKED {
         let words = owned(rt.alloc(), words)?;
         assert!(rt; read_words(words.as_slice()) == Some(*expected));
         assert!(rt; words_form(words.as_slice()));
@@ -121,7 +121,7 @@ fn words_ask_for_what_they_say(rt: HostRuntime) -> Result<(), Fail> {
 
 #[test]
 fn other_words_are_refused(rt: HostRuntime) -> Result<(), Fail> {
-    for words in REFUSED {
+    for words in &REFUSED {
         let words = owned(rt.alloc(), words)?;
         assert!(rt; read_words(words.as_slice()) == None);
         assert!(rt; !words_form(words.as_slice()));

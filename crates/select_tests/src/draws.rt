@@ -11,7 +11,7 @@ struct Row {
     words: [u64; 3],
 }
 
-const ROWS: [Row; 7] = [
+static ROWS: [Row; 7] = [
     Row {
         seed: 42,
         stream: 54,

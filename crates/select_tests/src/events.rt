@@ -20,12 +20,12 @@ const Z: VarId = VarId {
     index: 3,
 };
 
-const HANDLERS: [(VarId, u32); 4] = [(X, 0), (Y, 1), (X, 2), (Z, 3)];
+static HANDLERS: [(VarId, u32); 4] = [(X, 0), (Y, 1), (X, 2), (Z, 3)];
 
 fn handlers(alloc: Global) -> Result<Handlers, Fail> {
     let mut handlers = Handlers::new(alloc);
-    for (var, closure) in HANDLERS {
-        if handlers.add(var, closure).is_err() {
+    for (var, closure) in &HANDLERS {
+        if handlers.add(*var, *closure).is_err() {
             return Err(Fail::from("no memory"));
         }
     }
@@ -45,6 +45,9 @@ const CHANGES: [VarChange; 2] = [
     },
 ];
 
+// The events that the test makes of them.
+static WANTED: [(u32, i64, i64); 5] = [(1, 1, -2), (0, 7, 8), (2, 7, 8), (0, 7, 8), (2, 7, 8)];
+
 // The next event, as its three numbers.
 fn next(queue: &mut Queue) -> Option<(u32, i64, i64)> {
     queue
@@ -63,9 +66,8 @@ fn events_leave_in_the_order_of_changes(rt: HostRuntime) -> Result<(), Fail> {
             return Err(Fail::from("no memory"));
         }
     }
-    let wanted = [(1, 1, -2), (0, 7, 8), (2, 7, 8), (0, 7, 8), (2, 7, 8)];
-    for event in wanted {
-        assert_eq!(rt; next(&mut queue), Some(event));
+    for event in &WANTED {
+        assert_eq!(rt; next(&mut queue), Some(*event));
     }
     assert!(rt; queue.is_empty());
     assert_eq!(rt; next(&mut queue), None);

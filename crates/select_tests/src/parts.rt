@@ -31,9 +31,7 @@ const FAULT: Scored = Scored {
     end: End::Stopped(Stop::Fault(PLACE, RunFault::Overflow)),
 };
 
-const SCORES: [Scored; 6] = [FOUR, SKIPPED, TWO, NINE, TWO, NINE];
-
-const WANTS: [Want; 3] = [Want::Any, Want::Least, Want::Greatest];
+static SCORES: [Scored; 6] = [FOUR, SKIPPED, TWO, NINE, TWO, NINE];
 
 fn no<T>(reason: &'static str) -> Result<T, Fail> {
     Err(Fail::from(reason))
@@ -102,11 +100,20 @@ fn shown_merged(alloc: Global, merged: &Merged) -> Result<String, Fail> {
     }
 }
 
-// The part of all scores, and that of two candidates of which the second meets a fault.
-const WHOLE: [&str; 3] = [
-    "6 from 0, cost 11, best None, ties [0, 2, 3, 4, 5], None",
-    "6 from 0, cost 11, best Some(2), ties [2, 4], None",
-    "6 from 0, cost 11, best Some(9), ties [3, 5], None",
+/// The part of all scores for each wish, and that of two candidates of which the second meets a fault.
+static WHOLE: [(Want, &str); 3] = [
+    (
+        Want::Any,
+        "6 from 0, cost 11, best None, ties [0, 2, 3, 4, 5], None",
+    ),
+    (
+        Want::Least,
+        "6 from 0, cost 11, best Some(2), ties [2, 4], None",
+    ),
+    (
+        Want::Greatest,
+        "6 from 0, cost 11, best Some(9), ties [3, 5], None",
+    ),
 ];
 
 const STOPPED: &str =
@@ -115,9 +122,9 @@ const STOPPED: &str =
 #[test]
 fn parts_are_added_up(rt: HostRuntime) -> Result<(), Fail> {
     let alloc = rt.alloc();
-    for (want, text) in WANTS.into_iter().zip(WHOLE) {
-        let part = part_of(alloc, want, 0, &SCORES)?;
-        assert_eq!(rt; shown(alloc, &part)?.as_str(), text);
+    for (want, text) in &WHOLE {
+        let part = part_of(alloc, *want, 0, &SCORES)?;
+        assert_eq!(rt; shown(alloc, &part)?.as_str(), *text);
     }
     let stopped = part_of(alloc, Want::Least, 7, &[FOUR, FAULT])?;
     assert_eq!(rt; shown(alloc, &stopped)?.as_str(), STOPPED);
@@ -129,12 +136,12 @@ fn parts_are_added_up(rt: HostRuntime) -> Result<(), Fail> {
 #[test]
 fn parts_are_merged(rt: HostRuntime) -> Result<(), Fail> {
     let alloc = rt.alloc();
-    for (want, text) in WANTS.into_iter().zip(WHOLE) {
+    for (want, text) in &WHOLE {
         for cut in 0..SCORES.len() {
-            let front = part_of(alloc, want, 0, &SCORES[..cut])?;
-            let back = part_of(alloc, want, cut as u64, &SCORES[cut..])?;
-            let whole = merged(front, back, want, 11)?;
-            assert_eq!(rt; shown_merged(alloc, &whole)?.as_str(), text);
+            let front = part_of(alloc, *want, 0, &SCORES[..cut])?;
+            let back = part_of(alloc, *want, cut as u64, &SCORES[cut..])?;
+            let whole = merged(front, back, *want, 11)?;
+            assert_eq!(rt; shown_merged(alloc, &whole)?.as_str(), *text);
         }
     }
     let front = part_of(alloc, Want::Least, 0, &SCORES[..1])?;

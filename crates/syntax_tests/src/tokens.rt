@@ -56,7 +56,7 @@ fn places(alloc: Global, tokens: &[Token]) -> Result<String, Fail> {
     Ok(out)
 }
 
-const TOKENS: [(&str, &str); 47] = [
+static TOKENS: [(&str, &str); 47] = [
     ("", ""),
     (" \t\r\n", ""),
     // the longest at each place
@@ -122,40 +122,42 @@ const TOKENS: [(&str, &str); 47] = [
 
 #[test]
 fn reads_tokens(rt: HostRuntime) -> Result<(), Fail> {
-    for (text, listed) in TOKENS {
+    for (text, listed) in &TOKENS {
         let Ok(tokens) = lex(rt.alloc(), text.as_bytes()) else {
             assert!(rt; false, "refused: {text}");
             continue;
         };
         let found = kinds(rt.alloc(), tokens.as_slice())?;
-        assert_eq!(rt; found.as_str(), listed, "at {text}");
+        assert_eq!(rt; found.as_str(), *listed, "at {text}");
     }
     Ok(())
 }
 
+/// Texts, and the place and the bytes of each token.
+static PLACES: [(&str, &str); 5] = [
+    ("a", "1:1 0-1"),
+    ("ab := 12;", "1:1 0-2 1:4 3-5 1:7 6-8 1:9 8-9"),
+    // a carriage return is a column, a tab one too
+    ("a\n\r b\t\"x\"", "1:1 0-1 2:3 4-5 2:5 6-9"),
+    ("\n\n//\n  x", "4:3 7-8"),
+    // a comment of several lines, and bytes past ASCII
+    ("/*\n\u{e9} */ y", "2:7 9-10"),
+];
+
 #[test]
 fn tells_places(rt: HostRuntime) -> Result<(), Fail> {
-    let rows = [
-        ("a", "1:1 0-1"),
-        ("ab := 12;", "1:1 0-2 1:4 3-5 1:7 6-8 1:9 8-9"),
-        // a carriage return is a column, a tab one too
-        ("a\n\r b\t\"x\"", "1:1 0-1 2:3 4-5 2:5 6-9"),
-        ("\n\n//\n  x", "4:3 7-8"),
-        // a comment of several lines, and bytes past ASCII
-        ("/*\n\u{e9} */ y", "2:7 9-10"),
-    ];
-    for (text, listed) in rows {
+    for (text, listed) in &PLACES {
         let Ok(tokens) = lex(rt.alloc(), text.as_bytes()) else {
             assert!(rt; false, "refused: {text}");
             continue;
         };
         let found = places(rt.alloc(), tokens.as_slice())?;
-        assert_eq!(rt; found.as_str(), listed, "at {text}");
+        assert_eq!(rt; found.as_str(), *listed, "at {text}");
     }
     Ok(())
 }
 
-const REFUSED: [(&[u8], u32, u32, FormCause); 31] = [
+static REFUSED: [(&[u8], u32, u32, FormCause); 31] = [
     // a comment or a string that isn't closed, at its beginning
     (b"/*/", 1, 1, FormCause::BadToken),
     (b"x /* y", 1, 3, FormCause::BadToken),
@@ -199,13 +201,13 @@ const REFUSED: [(&[u8], u32, u32, FormCause); 31] = [
 
 #[test]
 fn refuses_texts_without_tokens(rt: HostRuntime) {
-    for (text, line, col, cause) in REFUSED {
+    for (text, line, col, cause) in &REFUSED {
+        let place = Place {
+            line: *line,
+            col: *col,
+        };
         let stop = lex(rt.alloc(), text).err();
-        assert_eq!(rt;
-            stop,
-            Some(LexStop::Fault(Place { line, col }, cause)),
-            "at {line}:{col}"
-        );
+        assert_eq!(rt; stop, Some(LexStop::Fault(place, *cause)), "at {line}:{col}");
     }
 }
 
