@@ -1,1 +1,2 @@
+mod PartGraphs
 mod Pushed

@@ -1,16 +1,20 @@
 //! Benchmarks, by the first word: `nodes SIZE..` times one probe and one apply of one change for each kind of
-//! node, `plan ITEMS EACH KIND` plans made-up dependencies, `parse BYTES` lexes and parses a text of real
-//! statements, `parse NAME` parses a deep or a long text, and `types NAMES` checks a text of many names. Without
-//! words it does nothing.
+//! node, `plan ITEMS EACH KIND` plans made-up dependencies, `store QUEENS..` times probes and commits of a store,
+//! and `journal ENTRIES..` the printing and the reading of journals. Without words it does nothing.
 #![tactic(auto)]
 
 mod draws;
+mod journal;
 mod nodes;
 mod planning;
+mod stop;
+mod store;
 
+use crate::journal::time_journals;
 use crate::nodes::time_nodes;
 use crate::planning::time_plan;
-use bench_texts::{Stop, time_parse, time_types};
+use crate::stop::Stop;
+use crate::store::time_stores;
 use std::env;
 use std::process::ExitCode;
 
@@ -22,8 +26,8 @@ fn run(rt: &HostRuntime, words: &[String]) -> Result<(), Stop> {
     match name.as_str() {
         "nodes" => time_nodes(rt, &words[1..]),
         "plan" => time_plan(rt, &words[1..]),
-        "parse" => time_parse(rt, &words[1..]),
-        "types" => time_types(rt, &words[1..]),
+        "store" => time_stores(rt, &words[1..]),
+        "journal" => time_journals(rt, &words[1..]),
         _ => Err(Stop::Words),
     }
 }

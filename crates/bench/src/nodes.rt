@@ -6,7 +6,7 @@ mod timing;
 
 use crate::nodes::kinds::{KINDS, Shape, time_kind};
 use crate::nodes::timing::Times;
-use bench_texts::Stop;
+use crate::stop::Stop;
 use std::alloc::Global;
 use std::time::CpuClock;
 
@@ -18,11 +18,11 @@ pub(crate) fn time_nodes<R: CpuClock + Print + AllocGlobal>(
 ) -> Result<(), Stop> {
     let sizes = sizes_of(rt.alloc(), words)?;
     print_heads(rt, sizes.as_slice())?;
-    for (name, operation, shape) in KINDS {
+    for (name, operation, shape) in &KINDS {
         print!(rt; "{name:<16}")?;
         for (column, size) in sizes.iter().enumerate() {
             if column == 0 || !matches!(shape, Shape::Pair) {
-                let times = time_kind(rt, rt.alloc(), operation, shape, *size)?;
+                let times = time_kind(rt, rt.alloc(), operation, *shape, *size)?;
                 print!(rt; "{:>11}{:>11}", times.probe, times.apply)?;
             }
         }

@@ -5,7 +5,7 @@ ghost use Rattle.std.specs.List.{All};
 ghost use Rattle.layer_plan.specs.Dependencies.{AreItems};
 
 use crate::draws::Draws;
-use bench_texts::Stop;
+use crate::stop::Stop;
 use cbl_base::NoMemory;
 use layer_plan::{Layers, PlanStop, plan};
 use std::alloc::Global;

@@ -1,7 +1,7 @@
 //! The kinds of nodes, and what inputs each is timed with.
 use crate::nodes::sample::Sample;
 use crate::nodes::timing::{Times, time_node};
-use bench_texts::Stop;
+use crate::stop::Stop;
 use cbl_base::{IntSet, NoMemory, Numbers};
 use cbl_operations::{KeyedOp, Op};
 use cbl_violations::Constraint;
@@ -39,7 +39,7 @@ pub(crate) enum Shape {
 }
 
 /// How a line names a kind, its operation's name in the code, and its inputs.
-pub(crate) const KINDS: [(&str, &str, Shape); 33] = [
+pub(crate) static KINDS: [(&str, &str, Shape); 33] = [
     ("sum", "Sum", Shape::Numbers),
     ("least", "Least", Shape::Numbers),
     ("greatest", "Greatest", Shape::Numbers),

@@ -5,7 +5,7 @@ ghost use Rattle.bench.specs.RoundTrips.{IsRoundTrip};
 
 use crate::draws::Draws;
 use crate::nodes::kinds::Shape;
-use bench_texts::Stop;
+use crate::stop::Stop;
 use cbl_base::{Change, Input, NoMemory};
 use node_states::{Places, changes_between};
 use std::alloc::Global;

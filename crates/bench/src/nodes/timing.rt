@@ -5,7 +5,7 @@ ghost use Rattle.cbl_base.specs.Inputs.{kinds_of};
 ghost use Rattle.bench.specs.RoundTrips.{IsRoundTrip};
 
 use crate::nodes::sample::{RoundTrip, Sample};
-use bench_texts::Stop;
+use crate::stop::Stop;
 use cbl_base::{Input, NoMemory, NodeFault, NodeRule, NodeValue};
 use std::time::{CpuClock, Duration};
 

@@ -1,0 +1,94 @@
+//! How long the printing and the reading of journals take.
+
+use crate::stop::Stop;
+use best_monitor::{Entries, Journal, LoopHistory, Reply, Request};
+use best_turn::Entry;
+use cbl_base::{NoMemory, Numbers};
+use journal_text::{JournalStop, print, read};
+use std::alloc::Global;
+use std::time::CpuClock;
+
+/// An entry of one of a thousand iterations: a report, a value or a list.
+fn entry_of(alloc: Global, number: u32) -> Result<Entry<Request, Reply>, NoMemory> {
+    let iteration = number % 1000;
+    let list = Numbers::from_slice(alloc, &[i64::from(number), -1, 0])?;
+    let (request, reply) = match number % 3 {
+        0 => (
+            Request::Report {
+                monitor: 0,
+                value: i64::from(number),
+                list,
+            },
+            Reply::Truth(false),
+        ),
+        1 => (
+            Request::Value { monitor: 0 },
+            Reply::Number(i64::from(number)),
+        ),
+        _ => (
+            Request::Copy {
+                monitor: 0,
+                room: 3,
+            },
+            Reply::List(list),
+        ),
+    };
+    Ok(Entry {
+        iteration,
+        request,
+        reply,
+    })
+}
+
+/// A journal of one loop with so many entries.
+fn journal_of(alloc: Global, count: u32) -> Result<Journal, NoMemory> {
+    let mut entries = Vec::new(alloc);
+    for number in 0..count {
+        entries.push(entry_of(alloc, number)?)?;
+    }
+    let mut journal = Journal::new(alloc);
+    journal.push(LoopHistory {
+        iterations: 1000,
+        entries: Entries::from_vec(entries),
+    })?;
+    Ok(journal)
+}
+
+/// How many loops are read from a text.
+fn count_loops(alloc: Global, text: &[u8]) -> Result<usize, Stop> {
+    match read(alloc, text) {
+        Ok(journal) => Ok(journal.len()),
+        Err(JournalStop::NoMemory) => Err(Stop::NoMemory),
+        Err(JournalStop::Fault { line: _ }) => Err(Stop::Answers),
+    }
+}
+
+/// Prints a journal of so many entries, reads it again, and says how much of the processor's time both took.
+fn time_journal<R: CpuClock + Print + AllocGlobal>(rt: &R, count: u32) -> Result<(), Stop> {
+    let alloc = rt.alloc();
+    let journal = journal_of(alloc, count)?;
+    let start = rt.process_cpu_time()?;
+    let text = print(alloc, &journal)?;
+    let middle = rt.process_cpu_time()?;
+    let loops = count_loops(alloc, text.as_slice())?;
+    let end = rt.process_cpu_time()?;
+    println!(rt;
+        "{count} entries, {} bytes, {loops} loop: printed in {} milliseconds, read in {}",
+        text.len(),
+        middle.saturating_sub(start).as_millis(),
+        end.saturating_sub(middle).as_millis()
+    )?;
+    Ok(())
+}
+
+/// Prints and reads a journal of as many entries as each word says.
+pub(crate) fn time_journals<R: CpuClock + Print + AllocGlobal>(
+    rt: &R,
+    words: &[String],
+) -> Result<(), Stop> {
+    for word in words {
+        let count = word.parse::<u32>().map_err(|_| Stop::Words)?;
+        time_journal(rt, count)?;
+    }
+    Ok(())
+}

@@ -1,6 +1,0 @@
-use Rattle.std.proofs.Common.{◌≡◌, map, take}
-use Rattle.bench_store.specs.Parts.{rule_of_node, rule_of_part}
-use Rattle.bench_store.proofs.parts.nodes_of.Given as goal
-
-abbrev pub invariant-loop-part : goal.invariant-loop-part
-invariant-loop-part l = map rule_of_node l.nodes.items ≡ map rule_of_part (take l.part-index l.parts)
