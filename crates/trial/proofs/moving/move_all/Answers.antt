@@ -27,7 +27,7 @@ loop-var-preserved-then-not-has g c =
     record { course = subst (λ (rest : List (VarId × ℤ)). InProbe g.query.part.rules g.query.part.frame g.query.part.cells g.query.ask c.loop-var.overlay (LaterThanMoves g.query.part.frame rest) (c.loop-var.steps + 2 * length rest + 4)) eq c.loop-var.invariant.course }
 
 pub read-old-requires-clause-within : goal.read-old-requires-clause-within
-read-old-requires-clause-within g c κs within =
+read-old-requires-clause-within g c =
     let lt : c.loop-var.var-index < length c.args.moves.now = omega arith in
     let t : has c.args.members.now (get_or c.args.moves.now c.loop-var.var-index (record { solver = 0; index = 0 }, pos 0)).0.index ≡ true = sym c.has.ensures ∙ c.if-not-has.false in
     let eq = left_with (has c.args.members.now) c.args.moves.now c.loop-var.var-index (record { solver = 0; index = 0 }, pos 0) lt t in

@@ -11,22 +11,22 @@ use Rattle.trial.proofs.PartTurns.{small, large, passing, one_part, changes_part
 use Rattle.trial.proofs.turning.turn.Goals as goal
 
 pub read-old-requires-clause-within : goal.read-old-requires-clause-within
-read-old-requires-clause-within g c κs within =
+read-old-requires-clause-within g c =
     small (map g.N.NodeRule.rule c.args.store.now.nodes.items) c.args.store.now.frame c.args.store.now.cells (has c.args.members.now) g.query.part c.requires.1.1.1.0 c.in-Some.turn.id (key g.query.part.rules g.query.part.helds g.query.part.frame g.query.part.cells c.requires.1.1.1.0.kept g.query.ask c.args.overlay.now c.args.front (c.args.steps.now + 4) c.requires.1.1.1.1.0 c.requires.1.1.1.1.1 c.in-Some.turn.layer c.in-Some.turn.id (taken_of c.pop.new.self) (waits c.pop.new.self) c.in-Some.ensures.taken.taken c.in-Some.ensures.taken.least c.in-Some.ensures.taken.here c.in-Some.ensures.taken.elsewhere).1
 
 pub came_to-requires-clause-within : goal.came_to-requires-clause-within
-came_to-requires-clause-within g c κs within =
+came_to-requires-clause-within g c =
     small (map g.N.NodeRule.rule c.args.store.now.nodes.items) c.args.store.now.frame c.args.store.now.cells (has c.args.members.now) g.query.part c.requires.1.1.1.0 c.in-Some.turn.id (key g.query.part.rules g.query.part.helds g.query.part.frame g.query.part.cells c.requires.1.1.1.0.kept g.query.ask c.args.overlay.now c.args.front (c.args.steps.now + 4) c.requires.1.1.1.1.0 c.requires.1.1.1.1.1 c.in-Some.turn.layer c.in-Some.turn.id (taken_of c.pop.new.self) (waits c.pop.new.self) c.in-Some.ensures.taken.taken c.in-Some.ensures.taken.least c.in-Some.ensures.taken.here c.in-Some.ensures.taken.elsewhere).1
 
 pub came_to-requires-clause-one : goal.came_to-requires-clause-one
-came_to-requires-clause-one g c κs within =
+came_to-requires-clause-one g c =
     let here = key g.query.part.rules g.query.part.helds g.query.part.frame g.query.part.cells c.requires.1.1.1.0.kept g.query.ask c.args.overlay.now c.args.front (c.args.steps.now + 4) c.requires.1.1.1.1.0 c.requires.1.1.1.1.1 c.in-Some.turn.layer c.in-Some.turn.id (taken_of c.pop.new.self) (waits c.pop.new.self) c.in-Some.ensures.taken.taken c.in-Some.ensures.taken.least c.in-Some.ensures.taken.here c.in-Some.ensures.taken.elsewhere in
     let lt = small (map g.N.NodeRule.rule c.args.store.now.nodes.items) c.args.store.now.frame c.args.store.now.cells (has c.args.members.now) g.query.part c.requires.1.1.1.0 c.in-Some.turn.id here.1 in
     let t = passing (map g.N.NodeRule.rule c.args.store.now.nodes.items) c.args.store.now.frame c.args.store.now.cells (has c.args.members.now) g.query.part c.requires.1.1.1.0 c.in-Some.turn.id here.2 in
     one_part (map g.N.NodeRule.rule c.args.store.now.nodes.items) c.args.store.now.frame c.args.store.now.cells (has c.args.members.now) g.query.part c.requires.1.1.1.0 c.in-Some.turn.id lt t (one_asked g.query.part.rules g.query.part.helds g.query.part.frame g.query.part.cells c.requires.1.1.1.0.kept g.query.ask c.args.overlay.now c.args.front (c.args.steps.now + 4) c.requires.1.1.1.1.0 c.requires.1.1.1.1.1 c.in-Some.turn.layer c.in-Some.turn.id (taken_of c.pop.new.self) (waits c.pop.new.self) c.in-Some.ensures.taken.taken c.in-Some.ensures.taken.least c.in-Some.ensures.taken.here c.in-Some.ensures.taken.elsewhere)
 
 pub came_to-requires-clause-changes : goal.came_to-requires-clause-changes
-came_to-requires-clause-changes g c κs within =
+came_to-requires-clause-changes g c =
     let here = key g.query.part.rules g.query.part.helds g.query.part.frame g.query.part.cells c.requires.1.1.1.0.kept g.query.ask c.args.overlay.now c.args.front (c.args.steps.now + 4) c.requires.1.1.1.1.0 c.requires.1.1.1.1.1 c.in-Some.turn.layer c.in-Some.turn.id (taken_of c.pop.new.self) (waits c.pop.new.self) c.in-Some.ensures.taken.taken c.in-Some.ensures.taken.least c.in-Some.ensures.taken.here c.in-Some.ensures.taken.elsewhere in
     let lt = small (map g.N.NodeRule.rule c.args.store.now.nodes.items) c.args.store.now.frame c.args.store.now.cells (has c.args.members.now) g.query.part c.requires.1.1.1.0 c.in-Some.turn.id here.1 in
     let t = passing (map g.N.NodeRule.rule c.args.store.now.nodes.items) c.args.store.now.frame c.args.store.now.cells (has c.args.members.now) g.query.part c.requires.1.1.1.0 c.in-Some.turn.id here.2 in
