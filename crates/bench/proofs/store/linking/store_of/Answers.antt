@@ -8,11 +8,11 @@ pub plan-requires-clause-items : goal.plan-requires-clause-items
 plan-requires-clause-items c = are_items _ _ _ (c.if-not-are_lists.ensures refl)
 
 pub build-requires-clause-linked : goal.build-requires-clause-linked
-build-requires-clause-linked c κs =
+build-requires-clause-linked c =
     linked _ _ _ (c.if-not-are_lists.ensures refl) _ _ _ c.in_ok-nodes.ensures refl c.in_ok-inputs.ensures _ c.in_ok-layers.ensures.count c.in_ok-layers.ensures.longest
 
 pub build-requires-clause-takes : goal.build-requires-clause-takes
-build-requires-clause-takes c κs =
+build-requires-clause-takes c =
     takes _ _ _ (c.if-not-are_lists.ensures refl) _ _ _ c.in_ok-nodes.ensures refl c.in_ok-inputs.ensures _ c.in_ok-layers.ensures.count c.in_ok-layers.ensures.longest c.args.start.now
 
 pub returns-clause-free : goal.returns-clause-free
