@@ -1,15 +1,16 @@
 //! Whether two requests are the same.
-ghost use Rattle.std.specs.Prelude.{◌≡◌, ◌≢◌, true, false};
+ghost use Rattle.std.specs.Prelude.{◌≡◌};
+ghost use Rattle.std.specs.Bool.{Decides};
 ghost use Rattle.best_monitor.specs.declared.request.Request.TheVariants.{Report, Copy};
 ghost use Rattle.pool_monitor.specs.declared.request.PoolRequest.TheVariants.{Add, Rank, Take};
 
 use best_monitor::Request;
+use cbl_base::Numbers;
 use pool_monitor::{DeskRequest, PoolRequest};
 
 /// Whether these are the same request.
 pub(crate) fn is_same(one: &DeskRequest, other: &DeskRequest) -> bool
-    ensures same { result ≡ true → one.now ≡ other.now }
-    ensures unlike { result ≡ false → one.now ≢ other.now }
+    ensures { Decides result (one.now ≡ other.now) }
 {
     match (one, other) {
         (DeskRequest::Best(one), DeskRequest::Best(other)) => is_same_request(one, other),
@@ -19,8 +20,7 @@ pub(crate) fn is_same(one: &DeskRequest, other: &DeskRequest) -> bool
 }
 
 fn is_same_request(one: &Request, other: &Request) -> bool
-    ensures same { result ≡ true → one.now ≡ other.now }
-    ensures unlike { result ≡ false → one.now ≢ other.now }
+    ensures { Decides result (one.now ≡ other.now) }
 {
     match one {
         Request::Report {
@@ -49,8 +49,7 @@ fn is_same_request(one: &Request, other: &Request) -> bool
 }
 
 fn is_report(request: &Request, of: u32, first: i64, second: i64, numbers: &[i64]) -> bool
-    ensures same { result ≡ true → request.now ≡ Report of first second numbers.now }
-    ensures unlike { result ≡ false → request.now ≢ Report of first second numbers.now }
+    ensures { Decides result (request.now ≡ Report of first second numbers.now) }
 {
     match request {
         Request::Report {
@@ -58,14 +57,15 @@ fn is_report(request: &Request, of: u32, first: i64, second: i64, numbers: &[i64
             value,
             second: other,
             list,
-        } => *monitor == of && *value == first && *other == second && list.as_slice() == numbers,
+        } => {
+            *monitor == of && *value == first && *other == second && is_same_list(list, numbers)
+        }
         _ => false,
     }
 }
 
 fn is_copy(request: &Request, of: u32, wanted: u64) -> bool
-    ensures same { result ≡ true → request.now ≡ Copy of wanted }
-    ensures unlike { result ≡ false → request.now ≢ Copy of wanted }
+    ensures { Decides result (request.now ≡ Copy of wanted) }
 {
     match request {
         Request::Copy { monitor, room } => *monitor == of && *room == wanted,
@@ -74,8 +74,7 @@ fn is_copy(request: &Request, of: u32, wanted: u64) -> bool
 }
 
 fn is_same_pool_request(one: &PoolRequest, other: &PoolRequest) -> bool
-    ensures same { result ≡ true → one.now ≡ other.now }
-    ensures unlike { result ≡ false → one.now ≢ other.now }
+    ensures { Decides result (one.now ≡ other.now) }
 {
     match one {
         PoolRequest::Add { pool, value, list } => is_add(other, *pool, *value, list.as_slice()),
@@ -88,20 +87,18 @@ fn is_same_pool_request(one: &PoolRequest, other: &PoolRequest) -> bool
 }
 
 fn is_add(request: &PoolRequest, of: u32, reached: i64, numbers: &[i64]) -> bool
-    ensures same { result ≡ true → request.now ≡ Add of reached numbers.now }
-    ensures unlike { result ≡ false → request.now ≢ Add of reached numbers.now }
+    ensures { Decides result (request.now ≡ Add of reached numbers.now) }
 {
     match request {
         PoolRequest::Add { pool, value, list } => {
-            *pool == of && *value == reached && list.as_slice() == numbers
+            *pool == of && *value == reached && is_same_list(list, numbers)
         }
         _ => false,
     }
 }
 
 fn is_rank(request: &PoolRequest, of: u32, wanted: i64) -> bool
-    ensures same { result ≡ true → request.now ≡ Rank of wanted }
-    ensures unlike { result ≡ false → request.now ≢ Rank of wanted }
+    ensures { Decides result (request.now ≡ Rank of wanted) }
 {
     match request {
         PoolRequest::Rank { pool, rank } => *pool == of && *rank == wanted,
@@ -110,8 +107,7 @@ fn is_rank(request: &PoolRequest, of: u32, wanted: i64) -> bool
 }
 
 fn is_take(request: &PoolRequest, of: u32, wanted: i64, most: u64) -> bool
-    ensures same { result ≡ true → request.now ≡ Take of wanted most }
-    ensures unlike { result ≡ false → request.now ≢ Take of wanted most }
+    ensures { Decides result (request.now ≡ Take of wanted most) }
 {
     match request {
         PoolRequest::Take { pool, rank, room } => {
@@ -119,4 +115,10 @@ fn is_take(request: &PoolRequest, of: u32, wanted: i64, most: u64) -> bool
         }
         _ => false,
     }
+}
+
+fn is_same_list(one: &Numbers, other: &[i64]) -> bool
+    ensures { Decides result (one.now ≡ other.now) }
+{
+    one.as_slice() == other
 }
