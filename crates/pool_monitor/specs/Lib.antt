@@ -1,1 +1,4 @@
 pub mod Replies
+pub mod Pool
+pub mod Desk
+pub mod DeskLaws

@@ -24,15 +24,23 @@ abbrev pub CanHave : DeskRequest → Reply → Type 0
 CanHave (Best request) reply = board.CanHave request reply
 CanHave (Pool request) reply = PoolCanHave request reply
 
+-- a pool copies a list for the reply
+abbrev pub PoolCopiesOut : PoolRequest → Type 0
+PoolCopiesOut (Take p rank room) = Unit {0}
+PoolCopiesOut _ = ⊥
+
 -- a list is copied for the reply
 abbrev pub CopiesOut : DeskRequest → Type 0
 CopiesOut (Best request) = board.CopiesOut request
-CopiesOut (Pool (Take p rank room)) = Unit {0}
-CopiesOut (Pool _) = ⊥
+CopiesOut (Pool request) = PoolCopiesOut request
+
+-- a pool copies a list for itself or for the reply
+abbrev pub PoolTakesMemory : PoolRequest → Type 0
+PoolTakesMemory (Add p value list) = Unit {0}
+PoolTakesMemory (Take p rank room) = Unit {0}
+PoolTakesMemory _ = ⊥
 
 -- a list is copied for the desk or for the reply
 abbrev pub TakesMemory : DeskRequest → Type 0
 TakesMemory (Best request) = board.TakesMemory request
-TakesMemory (Pool (Add p value list)) = Unit {0}
-TakesMemory (Pool (Take p rank room)) = Unit {0}
-TakesMemory (Pool _) = ⊥
+TakesMemory (Pool request) = PoolTakesMemory request

@@ -1,4 +1,7 @@
 //! What is asked of a desk.
+ghost use Rattle.std.specs.Prelude.{◌≡◌};
+ghost use Rattle.pool_monitor.specs.Pool.{pool_of};
+
 use best_monitor::Request;
 use cbl_base::Numbers;
 
@@ -33,4 +36,18 @@ pub enum PoolRequest {
 pub enum DeskRequest {
     Best(Request),
     Pool(PoolRequest),
+}
+
+impl PoolRequest {
+    /// The number of the pool that is asked.
+    pub fn pool(&self) -> u32
+        ensures { result ≡ pool_of self.now }
+    {
+        match self {
+            PoolRequest::Add { pool, .. } => *pool,
+            PoolRequest::Size { pool } => *pool,
+            PoolRequest::Rank { pool, .. } => *pool,
+            PoolRequest::Take { pool, .. } => *pool,
+        }
+    }
 }
