@@ -7,7 +7,6 @@
 mod lines;
 mod port;
 mod same;
-mod stub;
 mod texts;
 
 pub use lines::EntryLine;

@@ -6,14 +6,14 @@ ghost use Rattle.best_monitor.specs.declared.request.Reply.{Reply};
 ghost use Rattle.pool_monitor.specs.Replies.{CanHave};
 ghost use Rattle.replay_port.specs.Lines.{lines_of, pairs_of};
 ghost use Rattle.replay_port.specs.Odds.{odds_of};
+ghost use Rattle.replay_port.specs.LineLaws.{had_prop};
 
 use crate::lines::EntryLine;
 use crate::same::is_same;
-use crate::stub::Desk;
 use crate::texts::{print_asked, print_nothing};
 use best_monitor::{MonitorPort, PortStop, Reply};
 use cbl_base::{NoMemory, Numbers, Text};
-use pool_monitor::DeskRequest;
+use pool_monitor::{Desk, DeskRequest};
 use std::alloc::Global;
 
 /// Replays the entries of one iteration. It replies as they do while it is asked what they ask, in order. It takes
@@ -26,7 +26,7 @@ pub struct ReplayPort<'a> {
     entries: &'a [EntryLine<'a>],
     // How many of the entries were replayed.
     replayed: usize,
-    ghost had: { HoldsAll CanHave (Some (pairs_of (lines_of entries.now))) },
+    ghost had: { HoldsAll CanHave (Some (pairs_of (lines_of entries.now))) } by { had_prop (Some (pairs_of (lines_of entries.now))) },
 }
 
 impl<'a> ReplayPort<'a> {
@@ -41,7 +41,7 @@ impl<'a> ReplayPort<'a> {
         requires had { HoldsAll CanHave (Some (pairs_of (lines_of entries.now))) }
         ensures line { result.loop_line ≡ loop_line }
         ensures iteration { result.iteration ≡ iteration }
-        ensures entries { result.entries ≡ entries }
+        ensures entries { result.entries.now ≡ entries.now }
         ensures fresh { result.replayed ≡ 0 }
     {
         ReplayPort {
@@ -51,6 +51,13 @@ impl<'a> ReplayPort<'a> {
             entries,
             replayed: 0,
         }
+    }
+
+    /// The entries that are left.
+    pub fn left(&self) -> &'a [EntryLine<'a>]
+        ensures { result.now ≡ drop self.now.replayed self.now.entries.now }
+    {
+        self.entries.get(self.replayed..).unwrap_or(&[])
     }
 
     // By what a request differs from what is left.
