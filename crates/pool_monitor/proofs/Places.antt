@@ -1,10 +1,10 @@
 -- Where a new solution stands, found from the back.
-use Rattle.std.proofs.Common.{◌≡◌, ℕ, zero, suc, ◌+◌, ◌-◌, ◌<◌, ◌≤◌, ℤ, Bool, true, false, not, ◌||◌, cond, nat_lt, List, [], ◌∷◌, ◌++◌, length, take, drop, insert, get_or, set, refl, ap, sym, subst, ◌∙◌, arith, ◌⊎◌, inl, inr}
+use Rattle.std.proofs.Common.{◌≡◌, ℕ, zero, suc, ◌+◌, ◌-◌, ◌<◌, ◌≤◌, ℤ, Bool, true, false, not, ◌||◌, cond, nat_lt, List, [], ◌∷◌, ◌++◌, length, take, insert, get_or, set, refl, ap, sym, ◌∙◌, arith, ◌⊎◌, inl, inr}
 use Rattle.std.specs.Prelude.{int_lt}
 use Rattle.std.proofs.lemmas.List.{take_more, length-take-le, take_all}
 use Rattle.std.proofs.lemmas.Bool.{lt-ltb, le-ltb, cases_lt}
 use Rattle.pool_monitor.specs.declared.pool.Solution.{Solution}
-use Rattle.pool_monitor.specs.Pool.{PoolState, place_for, with_solution, without_excess, added, is_kept, add_step}
+use Rattle.pool_monitor.specs.Pool.{PoolState, place_for, without_excess, added, is_kept, add_step}
 use Rattle.best_monitor.specs.declared.request.Reply.TheVariants as reply
 
 -- a greater one at the end changes no place

@@ -1,6 +1,6 @@
 -- The step of a desk: that of its board on a request to a monitor, and that of the named pool on one to a pool.
 -- A rule of this project.
-use Rattle.std.specs.Prelude.{ℕ, ◌<◌, Option, Some, None, List, length, slice_get, slice_set}
+use Rattle.std.specs.Prelude.{◌<◌, Option, List, length, slice_get, slice_set}
 use Rattle.std.specs.Option.{option_map, option_map_or}
 use Rattle.best_monitor.specs.declared.monitor.Monitor.{Monitor}
 use Rattle.best_monitor.specs.declared.request.Reply.{Reply}

@@ -1,6 +1,6 @@
 -- The two laws of a desk: a request changes no number of monitors or pools, and its reply is one that it can
 -- have.
-use Rattle.std.specs.Prelude.{◌≡◌, ◌↔◌, ℕ, ◌<◌, Bool, true, false, cond, nat_lt, Option, None, Some, List, [], ◌∷◌, length, slice_get, slice_set, slice_index_or, refl}
+use Rattle.std.specs.Prelude.{◌≡◌, ◌↔◌, ℕ, ◌<◌, Bool, true, false, cond, nat_lt, Option, None, Some, List, length, slice_get, slice_set, slice_index_or, refl}
 use Rattle.std.specs.Option.{option_map, option_map_or}
 use Rattle.std.proofs.Common.{ap, sym, subst, ◌∙◌}
 use Rattle.std.proofs.lemmas.Bool.{ltb-false}
@@ -19,7 +19,7 @@ use Rattle.pool_monitor.specs.declared.request.PoolRequest.TheVariants.{Add, Siz
 use Rattle.pool_monitor.specs.declared.request.DeskRequest.{DeskRequest}
 use Rattle.pool_monitor.specs.declared.request.DeskRequest.TheVariants.{Best, Pool}
 use Rattle.pool_monitor.specs.Pool.{PoolState, empty_pool, pool_of, ranked, value_reply, list_reply, pool_step}
-use Rattle.pool_monitor.specs.Desk.{DeskState, pools_step, desk_after, desk_answer, IsDeclared}
+use Rattle.pool_monitor.specs.Desk.{DeskState, desk_after, desk_answer, IsDeclared}
 use Rattle.pool_monitor.specs.Replies.{PoolCanHave, CanHave}
 
 -- a desk after its board's step

@@ -1,6 +1,6 @@
 -- The step of a pool: its solutions after a request, and the reply. A new solution is put behind the last one
 -- whose value isn't greater, and then the last is dropped where there are too many. A rule of this project.
-use Rattle.std.specs.Prelude.{ℕ, ◌-◌, ℤ, pos, Bool, true, false, not, ◌||◌, if◌then◌else◌, nat_lt, nat_abs, int_lt, int_le, Option, None, Some, List, [], ◌∷◌, length, take, insert, slice_get, suc}
+use Rattle.std.specs.Prelude.{ℕ, ◌-◌, ℤ, pos, Bool, not, ◌||◌, if◌then◌else◌, nat_lt, nat_abs, int_lt, int_le, Option, None, Some, List, [], ◌∷◌, length, take, insert, slice_get, suc}
 use Rattle.best_monitor.specs.declared.request.Reply.{Reply}
 use Rattle.best_monitor.specs.declared.request.Reply.TheVariants as reply
 use Rattle.pool_monitor.specs.declared.pool.Solution.{Solution}

@@ -3,6 +3,7 @@
 
 mod desk;
 mod journal;
+pub mod laws;
 mod pool;
 mod request;
 

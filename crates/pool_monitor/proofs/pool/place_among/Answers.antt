@@ -1,7 +1,6 @@
-use Rattle.std.proofs.Common.{◌≡◌, ℕ, ◌+◌, ◌-◌, ◌<◌, ◌≤◌, ℤ, true, false, length, take, get_or, ap, sym, subst, ◌∙◌, arith, rules, FitsSigned, to_z, of_z, w64}
+use Rattle.std.proofs.Common.{◌≡◌, ℕ, ◌+◌, ◌-◌, ℤ, true, false, take, get_or, ap, sym, subst, ◌∙◌, arith, rules, FitsSigned, to_z, of_z, w64}
 use Rattle.std.specs.Prelude.{int_lt}
 use Rattle.std.proofs.lemmas.Int.{to_z-of_z}
-use Rattle.pool_monitor.specs.declared.pool.Solution.{Solution}
 use Rattle.pool_monitor.specs.Pool.{place_for}
 use Rattle.pool_monitor.proofs.Places.{place_before, place_here}
 use Rattle.pool_monitor.proofs.pool.place_among.Goals as goal

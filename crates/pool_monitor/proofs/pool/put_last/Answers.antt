@@ -1,4 +1,4 @@
-use Rattle.std.proofs.Common.{◌≡◌, ◌-◌, ◌+◌, length, take, set, arith}
+use Rattle.std.proofs.Common.{◌-◌, arith}
 use Rattle.pool_monitor.proofs.Places.{set_last}
 use Rattle.pool_monitor.proofs.pool.put_last.Goals as goal
 

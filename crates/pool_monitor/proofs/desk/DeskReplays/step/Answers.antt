@@ -1,8 +1,7 @@
-use Rattle.std.proofs.Common.{◌≡◌, ◌<◌, length, set, refl, ap, sym, subst, ◌∙◌, arith, Some, MatchResult}
+use Rattle.std.proofs.Common.{◌≡◌, ◌<◌, length, set, refl, ap, sym, subst, arith, Some, MatchResult}
 use Rattle.std.proofs.lemmas.Option.{slice_get_read}
 use Rattle.pool_monitor.specs.declared.request.DeskRequest.{DeskRequest}
 use Rattle.pool_monitor.specs.declared.request.DeskRequest.TheVariants.{Pool}
-use Rattle.pool_monitor.specs.Pool.{pool_of}
 use Rattle.pool_monitor.specs.Desk.{DeskState, desk_step, IsDeclared}
 use Rattle.pool_monitor.proofs.Steps.{steps}
 use Rattle.pool_monitor.proofs.desk.DeskReplays.step.Goals as goal

@@ -1,7 +1,6 @@
-use Rattle.std.proofs.Common.{◌≡◌, ◌-◌, ◌<◌, ◌≤◌, ℤ, true, false, length, take, insert, ap, sym, subst, ◌∙◌, arith, rules, FitsSigned, to_z, of_z, w64}
+use Rattle.std.proofs.Common.{◌≡◌, ◌-◌, ◌<◌, ◌≤◌, true, false, length, take, insert, ap, sym, subst, ◌∙◌, rules, FitsSigned, to_z, of_z, w64}
 use Rattle.std.proofs.lemmas.Int.{to_z-of_z}
-use Rattle.pool_monitor.specs.declared.pool.Solution.{Solution}
-use Rattle.pool_monitor.specs.Pool.{PoolState, place_for, add_step}
+use Rattle.pool_monitor.specs.Pool.{place_for, add_step}
 use Rattle.pool_monitor.proofs.Places.{step_out, step_kept, place_within}
 use Rattle.best_monitor.specs.declared.request.Reply.TheVariants as reply
 use Rattle.pool_monitor.proofs.pool.Pool.add.Goals as goal
@@ -32,7 +31,7 @@ returns c =
     let list_is : c.in_ok-list.list ≡ c.args.list.now = c.in_ok-list.ensures ∙ c.as_slice-2.ensures in
     let kept = take (c.self.inside.most - 1) ss in
     let after_is : c.put_at.new.solutions.items ≡ insert kept (place_for c.args.value ss) (record { value = c.args.value; list = c.args.list.now }) = c.in_ok-put_at.ensures
-      ∙ (ap (λ p. insert kept p (record { value = to_z w64 (of_z w64 c.args.value); list = c.in_ok-list.list })) place
-        ∙ (ap (λ v. insert kept (place_for c.args.value ss) (record { value = v; list = c.in_ok-list.list })) value_is ∙ ap (λ l. insert kept (place_for c.args.value ss) (record { value = c.args.value; list = l })) list_is)) in
+    ∙ (ap (λ p. insert kept p (record { value = to_z w64 (of_z w64 c.args.value); list = c.in_ok-list.list })) place
+    ∙ (ap (λ v. insert kept (place_for c.args.value ss) (record { value = v; list = c.in_ok-list.list })) value_is ∙ ap (λ l. insert kept (place_for c.args.value ss) (record { value = c.args.value; list = l })) list_is)) in
     subst (λ pool. add_step pool (record { value = c.args.value; list = c.args.list.now }) ≡ (record { most = c.self.inside.most; solutions = c.put_at.new.solutions.items }, reply.Truth true)) c.self.view_is
     (step_kept (record { most = c.self.inside.most; solutions = ss }) (record { value = c.args.value; list = c.args.list.now }) c.put_at.new.solutions.items c.self.invariant.2 (subst (λ p. p < c.self.inside.most) place below) after_is)

@@ -1,6 +1,6 @@
-use Rattle.std.proofs.Common.{◌≡◌, ℤ, List, ap, sym, subst, ◌∙◌, nat_lt, rules, FitsSigned, to_z, of_z, w64}
+use Rattle.std.proofs.Common.{◌≡◌, ap, sym, subst, ◌∙◌, nat_lt, rules, FitsSigned, w64}
 use Rattle.std.proofs.lemmas.Int.{to_z-of_z}
-use Rattle.pool_monitor.specs.Pool.{PoolState, place_for, is_kept}
+use Rattle.pool_monitor.specs.Pool.{place_for, is_kept}
 use Rattle.pool_monitor.proofs.Places.{kept_by_place}
 use Rattle.pool_monitor.proofs.pool.Pool.keeps.Goals as goal
 
