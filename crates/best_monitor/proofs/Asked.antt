@@ -7,7 +7,7 @@ use Rattle.best_turn.specs.Calls.{entry}
 use Rattle.best_turn.specs.Seated.{TableId}
 use Rattle.best_turn.specs.declared.view.View.{View}
 use Rattle.best_turn.specs.Seats.{IsSeatOf}
-use Rattle.best_monitor.specs.Port.{Base, entries_for, with_all, own_entries, asked_since, base_of, MadeSince}
+use Rattle.best_monitor.specs.Port.{SeatBase, Base, OverSeat, OverJournal, entries_for, with_all, own_entries, asked_since, base_of, MadeSince}
 
 module _ {Q R : Type 0} where
   abbrev pair_of : Entry Q R → Q × R
@@ -78,17 +78,18 @@ module _ {Q R : Type 0} where
     }
 
     -- What the base of a port tells of its seat: it is of the turn of the seat that the port was opened over, and made behind that seat's entries what was asked
-    pub seat_of_base : (turn : TableId × S) (j k : ℕ) (seat before next : TableId × View S Q R) → ◌≡◌ {A = Option (Base S Q R)} (Some (base_of before j)) (Some (base_of seat k)) → MadeSince j before next → IsSeatOf turn seat
+    pub seat_of_base : (turn : TableId × S) (j k : ℕ) (seat before next : TableId × View S Q R) → ◌≡◌ {A = Option (Base S Q R)} (Some (OverSeat (base_of before j))) (Some (OverSeat (base_of seat k))) → MadeSince j before next → IsSeatOf turn seat
         → IsSeatOf turn next × (next.1.rest ≡ seat.1.rest) × (length next.1.made ≡ length seat.1.made) × (next.1.made ≡ with_all (entries_for k (asked_since before.1.made next.1.made)) seat.1.made)
     seat_of_base turn j k seat before next same m own =
         let base : base_of before j ≡ base_of seat k = ap (base_or (base_of before j)) same in
-        let made : next.1.made ≡ with_all (entries_for k (asked_since before.1.made next.1.made)) seat.1.made = m.made ∙ ap (λ (b : Base S Q R). with_all (entries_for b.iteration (asked_since before.1.made next.1.made)) b.made) base in (
+        let made : next.1.made ≡ with_all (entries_for k (asked_since before.1.made next.1.made)) seat.1.made = m.made ∙ ap (λ (b : SeatBase S Q R). with_all (entries_for b.iteration (asked_since before.1.made next.1.made)) b.made) base in (
           (m.turn ∙ (ap (λ b. b.turn) base ∙ own.0), m.start ∙ (ap (λ b. b.start) base ∙ own.1)),
           m.rest ∙ ap (λ b. b.rest) base,
           ap (λ (l : List (ℕ × List (Entry Q R))). length l) made ∙ with_all-length (entries_for k (asked_since before.1.made next.1.made)) seat.1.made,
           made,
         )
       where
-        base_or : Base S Q R → Option (Base S Q R) → Base S Q R
+        base_or : SeatBase S Q R → Option (Base S Q R) → SeatBase S Q R
         base_or d None = d
-        base_or d (Some b) = b
+        base_or d (Some (OverSeat b)) = b
+        base_or d (Some (OverJournal b)) = d

@@ -8,10 +8,10 @@ use Rattle.std.proofs.lemmas.Option.{slice_get-get_or}
 use Rattle.best_monitor.specs.declared.monitor.Best.{Best}
 use Rattle.best_monitor.specs.declared.monitor.Monitor.{Monitor}
 use Rattle.best_monitor.specs.declared.request.Request.{Request}
-use Rattle.best_monitor.specs.declared.request.Request.TheVariants.{Report, Value, Has, Copy, Stop, Stopped}
+use Rattle.best_monitor.specs.declared.request.Request.TheVariants.{Report, Value, Second, Has, Copy, Stop, Stopped}
 use Rattle.best_monitor.specs.declared.request.Reply.{Reply}
 use Rattle.best_monitor.specs.declared.request.Reply.TheVariants as reply
-use Rattle.best_monitor.specs.Board.{monitor_of, fresh_monitor, improves, value_reply, copy_reply, monitor_step, board_after, board_answer, IsDeclared}
+use Rattle.best_monitor.specs.Board.{monitor_of, fresh_monitor, improves, value_reply, second_reply, copy_reply, monitor_step, board_after, board_answer, IsDeclared}
 use Rattle.best_turn.specs.declared.replays.Entry.{Entry}
 use Rattle.best_monitor.specs.History.{fold}
 use Rattle.best_monitor.specs.Replies.{IsTruth, IsValue, IsCopy, CanHave}
@@ -49,6 +49,10 @@ value_had : (best : Option Best) → IsValue (value_reply best)
 value_had None = tt
 value_had (Some best) = tt
 
+second_had : (best : Option Best) → IsValue (second_reply best)
+second_had None = tt
+second_had (Some best) = tt
+
 copy_had : (room : ℕ) (best : Option Best) → IsCopy room (copy_reply room best)
 copy_had room None = tt
 copy_had room (Some best) = cases (nat_lt room (length best.list)) refl
@@ -58,8 +62,9 @@ copy_had room (Some best) = cases (nat_lt room (length best.list)) refl
     cases false is = ltb-false room (length best.list) is
 
 step_had : (monitor : Monitor) (request : Request) → CanHave request (monitor_step monitor request).1
-step_had monitor (Report m value list) = truth_had (improves value monitor.best) (record { best = Some (record { value = value; list = list }); stopped = monitor.stopped }, reply.Truth true) (monitor, reply.Truth false) tt tt
+step_had monitor (Report m value second list) = truth_had (improves value second monitor.best) (record { best = Some (record { value = value; second = second; list = list }); stopped = monitor.stopped }, reply.Truth true) (monitor, reply.Truth false) tt tt
 step_had monitor (Value m) = value_had monitor.best
+step_had monitor (Second m) = second_had monitor.best
 step_had monitor (Has m) = tt
 step_had monitor (Copy m room) = copy_had room monitor.best
 step_had monitor (Stop m) = tt

@@ -10,12 +10,24 @@ use Rattle.best_monitor.specs.declared.port.PortStop.TheVariants.{NoMemory, Diff
 -- What a port over a seat keeps, whatever is asked through it: the seat's turn, the state that it began with,
 -- the iteration, the numbers that the seat may still give, and those that it held when the port was opened, with
 -- what had been made under each.
-pub record Base (S Q R : Type 0) : Type 0 where
+pub record SeatBase (S Q R : Type 0) : Type 0 where
   pub turn : TableId
   pub start : Option S
   pub iteration : ℕ
   pub rest : ℕ
   pub made : List (ℕ × List (Entry Q R))
+
+-- What a port over an iteration's entries in a journal keeps: the line of the loop, the iteration, and the entries,
+-- each with its line.
+pub record JournalBase (Q R : Type 0) : Type 0 where
+  pub line : ℕ
+  pub iteration : ℕ
+  pub whole : List (ℕ × Entry Q R)
+
+-- what a port keeps, whatever is asked through it
+pub data Base (S Q R : Type 0) : Type 0 where
+  OverSeat : SeatBase S Q R → Base S Q R
+  OverJournal : JournalBase Q R → Base S Q R
 
 -- a line of a journal, and two texts
 abbrev pub Odds : Type 0
@@ -63,7 +75,7 @@ module _ {Q R : Type 0} where
   asked_since before now = map (λ e. (e.request, e.reply)) (drop (length (own_entries before)) (own_entries now))
 
   -- what a port keeps that was opened over this seat, for this iteration
-  abbrev pub base_of : {S : Type 0} → TableId × View S Q R → ℕ → Base S Q R
+  abbrev pub base_of : {S : Type 0} → TableId × View S Q R → ℕ → SeatBase S Q R
   base_of seat k = record { turn = seat.0; start = seat.1.start; iteration = k; rest = seat.1.rest; made = seat.1.made }
 
   -- The seat was this one, and then was asked only in the name of iteration k: it made its entries under its own

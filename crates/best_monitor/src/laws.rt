@@ -8,8 +8,8 @@ ghost use Rattle.best_monitor.specs.History.{fold, IsLegal};
 ghost use Rattle.best_monitor.specs.Least.{best_of, offers_of, IsLeastOf};
 
 /// After a legal history a monitor has a best exactly where it had one or a report stands in the history.
-/// Its value is the least of all these. Its list is the one that it had where that has this value, else
-/// that of the first report with it.
+/// Its pair of value and second value is the least of all these. Its list is the one that it had where
+/// that has this pair, else that of the first report with it.
 pub fn least()
     ensures { (board : List Monitor) (entries : List (Entry Request Reply)) (m : ℕ) →
         m < length board → IsLegal board entries →

@@ -1,16 +1,17 @@
 //! One monitor of a board.
 ghost use Rattle.std.specs.Prelude.{◌≡◌, IfOk, OnErr, MatchResult, false};
-ghost use Rattle.best_monitor.specs.Board.{improves, value_reply, copy_reply, report_step, monitor_step};
+ghost use Rattle.best_monitor.specs.Board.{improves, value_reply, second_reply, copy_reply, report_step, monitor_step};
 ghost use Rattle.best_monitor.specs.Replies.{TakesMemory, CopiesOut};
 
 use crate::request::{Reply, Request};
 use cbl_base::{NoMemory, Numbers};
 use std::alloc::Global;
 
-/// A value that was reported, with its list.
+/// A value that was reported, with its second value and its list.
 #[derive(Drop, Debug)]
 pub struct Best {
     pub value: i64,
+    pub second: i64,
     pub list: Numbers,
 }
 
@@ -38,8 +39,11 @@ impl Monitor {
         ensures memory { OnErr result (CopiesOut request.now) }
     {
         match request {
-            Request::Report { value, .. } => Ok(Reply::Truth(self.is_improved_by(*value))),
+            Request::Report { value, second, .. } => {
+                Ok(Reply::Truth(self.is_improved_by(*value, *second)))
+            }
             Request::Value { .. } => Ok(self.best_value()),
+            Request::Second { .. } => Ok(self.best_second()),
             Request::Has { .. } => Ok(Reply::Truth(self.best.is_some())),
             Request::Copy { room, .. } => self.best_list(alloc, *room),
             Request::Stop { .. } => Ok(Reply::Done),
@@ -54,25 +58,31 @@ impl Monitor {
         ensures memory { OnErr result (TakesMemory request.now) }
     {
         match request {
-            Request::Report { value, list, .. } => self.report(alloc, *value, list),
+            Request::Report {
+                value,
+                second,
+                list,
+                ..
+            } => self.report(alloc, *value, *second, list),
             Request::Stop { .. } => {
                 self.stopped = true;
                 Ok(Reply::Done)
             }
             Request::Value { .. } => self.reply(alloc, request),
+            Request::Second { .. } => self.reply(alloc, request),
             Request::Has { .. } => self.reply(alloc, request),
             Request::Copy { .. } => self.reply(alloc, request),
             Request::Stopped { .. } => self.reply(alloc, request),
         }
     }
 
-    // Whether a report of this value replaces the best.
-    fn is_improved_by(&self, value: i64) -> bool
-        ensures { result ≡ improves value self.now.best }
+    // Whether a report of this pair replaces the best.
+    fn is_improved_by(&self, value: i64, second: i64) -> bool
+        ensures { result ≡ improves value second self.now.best }
     {
         match &self.best {
             None => true,
-            Some(best) => value < best.value,
+            Some(best) => value < best.value || (value == best.value && second < best.second),
         }
     }
 
@@ -82,6 +92,15 @@ impl Monitor {
         match &self.best {
             None => Reply::Missing,
             Some(best) => Reply::Number(best.value),
+        }
+    }
+
+    fn best_second(&self) -> Reply
+        ensures { result ≡ second_reply self.now.best }
+    {
+        match &self.best {
+            None => Reply::Missing,
+            Some(best) => Reply::Number(best.second),
         }
     }
 
@@ -99,14 +118,24 @@ impl Monitor {
     }
 
     // Takes a report in. The list is copied before anything changes.
-    fn report(&mut self, alloc: Global, value: i64, list: &Numbers) -> Result<Reply, NoMemory>
-        ensures { MatchResult result (λ r. report_step self.old value list.now ≡ (self.new, r))
-            (λ _. self.new ≡ self.old) }
+    fn report(
+        &mut self,
+        alloc: Global,
+        value: i64,
+        second: i64,
+        list: &Numbers,
+    ) -> Result<Reply, NoMemory>
+        ensures { MatchResult result (λ r.
+            report_step self.old value second list.now ≡ (self.new, r)) (λ _. self.new ≡ self.old) }
     {
-        let better = self.is_improved_by(value);
+        let better = self.is_improved_by(value, second);
         if better {
             let list = Numbers::from_slice(alloc, list.as_slice())?;
-            self.best = Some(Best { value, list });
+            self.best = Some(Best {
+                value,
+                second,
+                list,
+            });
         }
         Ok(Reply::Truth(better))
     }

@@ -19,7 +19,8 @@ pub enum PortStop {
 /// Its meanings are `asked` (the requests and replies so far), `rest` (where a journal is replayed, the
 /// requests and replies that are still to come), `odds` (with which line and texts a request that the
 /// rest doesn't begin with is answered; it is looked at only where a rest is told), `takes` (which
-/// requests it takes) and `base` (where it stands on a seat, what no request changes of that).
+/// requests it takes) and `base` (where it stands on a seat or on a journal, what no request changes of
+/// that).
 pub trait MonitorPort<S: Replays> {
     ghost asked: { Self → List (S.Request × S.Reply) };
 
@@ -31,8 +32,8 @@ pub trait MonitorPort<S: Replays> {
 
     ghost base: { Self → Option (Base S S.Request S.Reply) };
 
-    /// The reply to a request. After every answer but `Ok` what was asked and what is still to come are as
-    /// before. `Differs` comes exactly where a rest is told and doesn't begin with the request.
+    /// The reply to a request. After every answer but `Ok` what was asked, what is still to come and the odds
+    /// are as before. `Differs` comes exactly where a rest is told and doesn't begin with the request.
     fn ask(&mut self, request: S::Request) -> Result<S::Reply, PortStop>
         requires { takes self.old request }
         ensures asked { MatchResult result (λ r.
@@ -42,6 +43,7 @@ pub trait MonitorPort<S: Replays> {
             (λ _. rest self.new ≡ rest self.old) }
         ensures stop { IfErr result (λ stop.
             StopsAsTold (rest self.old) request (odds self.old request) stop) }
+        ensures odds { IfErr result (λ _. (q : S.Request) → odds self.new q ≡ odds self.old q) }
         ensures had { IfOk result (λ r. S.can_have request r) }
         ensures base { base self.new ≡ base self.old }
         ensures takes { (q : S.Request) → (takes self.new q ↔ takes self.old q) };

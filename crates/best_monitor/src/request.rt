@@ -7,14 +7,19 @@ use cbl_base::Numbers;
 /// What is asked of a board. Monitors are numbered from 0 in the order in which they were declared.
 #[derive(Drop, Debug)]
 pub enum Request {
-    /// A value was reached, by this list.
+    /// A value and a second value were reached, by this list.
     Report {
         monitor: u32,
         value: i64,
+        second: i64,
         list: Numbers,
     },
     /// Which value is the best?
     Value {
+        monitor: u32,
+    },
+    /// Which second value has the best?
+    Second {
         monitor: u32,
     },
     /// Is there a best?
@@ -41,7 +46,7 @@ pub enum Request {
 pub enum Reply {
     /// To a report whether the best was replaced; to `Has` and `Stopped` the answer.
     Truth(bool),
-    /// The best value.
+    /// The best's value or second value.
     Number(i64),
     /// The best's list.
     List(Numbers),
@@ -61,6 +66,7 @@ impl Request {
         match self {
             Request::Report { monitor, .. } => *monitor,
             Request::Value { monitor } => *monitor,
+            Request::Second { monitor } => *monitor,
             Request::Has { monitor } => *monitor,
             Request::Copy { monitor, .. } => *monitor,
             Request::Stop { monitor } => *monitor,

@@ -1,7 +1,7 @@
 //! A port over a seat of a turn.
 ghost use Rattle.std.specs.Prelude.{◌≡◌, [], None, Some};
 ghost use Rattle.best_turn.specs.Seats.{start_of, IsSeatOf, view_of};
-ghost use Rattle.best_monitor.specs.Port.{asked_since, base_of, MadeSince};
+ghost use Rattle.best_monitor.specs.Port.{OverSeat, asked_since, base_of, MadeSince};
 
 use crate::port::{MonitorPort, PortStop};
 use best_turn::{Replays, Seat, Turn};
@@ -70,7 +70,7 @@ impl<'a, S: Replays, R: Wait> MonitorPort<S> for SeatPort<'a, S, R> {
 
     ghost takes = { λ p q. S.takes (start_of p.turn.now) q };
 
-    ghost base = { λ p. Some (base_of p.opened.value p.iteration) };
+    ghost base = { λ p. Some (OverSeat (base_of p.opened.value p.iteration)) };
 
     fn ask(&mut self, request: S::Request) -> Result<S::Reply, PortStop> {
         match self.seat.call(self.rt, self.turn, self.iteration, request) {

@@ -1,6 +1,2 @@
-pub mod Cuts
-pub mod HeaderLaws
-pub mod LineLaws
-pub mod NumberLaws
+pub mod Joins
 pub mod PrintLaws
-pub mod WordLaws

@@ -1,6 +1,4 @@
+pub mod Versions
 pub mod Texts
 pub mod Grammar
-pub mod Refusal
-pub mod Headers
-pub mod Reading
-pub mod Steps
+pub mod Printed

@@ -5,15 +5,7 @@
 //! the first line through which no journal begins so, and that `tail` gives where the last header begins.
 #![tactic(auto)]
 
-mod cutting;
-mod header;
-mod numbers;
 mod printing;
-mod reader;
-mod stop;
-mod words;
+mod version;
 
-pub use header::tail;
 pub use printing::{loop_line, print, print_reply, print_request};
-pub use reader::read;
-pub use stop::JournalStop;

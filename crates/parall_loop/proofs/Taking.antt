@@ -6,6 +6,7 @@ use Rattle.best_turn.specs.declared.replays.Entry.{Entry}
 use Rattle.best_turn.specs.declared.view.View.{View}
 use Rattle.best_turn.specs.Rule.{both}
 use Rattle.best_turn.specs.Seats as turns
+use Rattle.best_monitor.specs.declared.port.PortStop.{PortStop}
 use Rattle.iter_claim.specs.declared.claims.Claims.{Claims}
 use Rattle.iter_claim.specs.declared.claims.ClaimSeat.{ClaimSeat}
 use Rattle.iter_claim.specs.Seats as claims
@@ -29,10 +30,10 @@ module _ {Q R T : Type 0} where
   runs_push : (ws : List (ℕ × List (Run Q R T))) (w : ℕ × List (Run Q R T)) → all_runs (ws ++ w ∷ []) ≡ all_runs ws ++ w.1
   runs_push ws w = all_runs_append ws (w ∷ []) ∙ ap (λ l. all_runs ws ++ l) (append-nil w.1)
 
-  module _ {S : Type 0} (turn : TableId × S) (count : Claims) (asks : ℕ → List R → Next Q T) (is_cut : T → Bool) where
+  module _ {S : Type 0} (turn : TableId × S) (count : Claims) (asks : ℕ → List R → Next Q T) (stop_of : T → Option PortStop) where
     -- all workers are out
     pub none_taken : (workers : ℕ) (seat : TableId × View S Q R) (claimer : ClaimSeat) (places : List (Option T)) → HasSplit turn count workers seat claimer → length places ≡ claims.count_of count
-        → HasTakenIn turn count asks is_cut workers workers seat claimer places
+        → HasTakenIn turn count asks stop_of workers workers seat claimer places
     none_taken workers seat claimer places has room = record {
       number = has.number;
       done = [];
@@ -51,18 +52,18 @@ module _ {Q R T : Type 0} where
     }
 
     pub taken_in : (workers out : ℕ) (seat other seat' : TableId × View S Q R) (claimer claims_of claimer' : ClaimSeat) (places places' : List (Option T)) (outcomes : List (ℕ × T))
-        → HasTakenIn turn count asks is_cut workers (suc out) seat claimer places → HasEnded turn count asks is_cut other claims_of outcomes
+        → HasTakenIn turn count asks stop_of workers (suc out) seat claimer places → HasEnded turn count asks stop_of other claims_of outcomes
         → turns.IsSeatOf turn seat' → seat'.1 ≡ both seat.1 other.1
         → claims.IsSeatOf count claimer' → claims.seats_from claimer' ≡ claims.seats_from claimer + claims.seats_from claims_of → claims.drawn_by claimer' ≡ claims.drawn_by claimer ++ claims.drawn_by claims_of
         → claims.is_done claimer' ≡ (claims.is_done claimer || claims.is_done claims_of) → places' ≡ put_into places outcomes
-        → HasTakenIn turn count asks is_cut workers out seat' claimer' places'
+        → HasTakenIn turn count asks stop_of workers out seat' claimer' places'
     taken_in workers out seat other seat' claimer claims_of claimer' places places' outcomes has end own view own' seats drawn done placed =
         let w : ℕ × List (Run Q R T) = (end.0.number, end.0.runs) in
         record {
           number = has.number;
           done = has.done ++ w ∷ [];
           empty = has.empty;
-          each = all_append (λ (x : ℕ × List (Run Q R T)). AreRuns asks is_cut (claims.count_of count) x.1) has.done (w ∷ []) has.each (end.0.are, tt);
+          each = all_append (λ (x : ℕ × List (Run Q R T)). AreRuns asks stop_of (claims.count_of count) x.1) has.done (w ∷ []) has.each (end.0.are, tt);
           own = own;
           made = ap (λ (v : View S Q R). v.made) view ∙ (ap₂ (λ (x y : List (ℕ × List (Entry Q R))). x ++ y) has.made end.0.made ∙ ap (λ l. (has.number, []) ∷ l) (sym (map_append (λ (x : ℕ × List (Run Q R T)). (x.0, entries_of x.1)) has.done (w ∷ []))));
           rest = ap (λ (v : View S Q R). v.rest + workers) view ∙ (ap (λ r. max seat.1.rest r + workers) end.0.rest ∙ (ap (λ r. r + workers) (max_zero seat.1.rest) ∙ has.rest));

@@ -1,9 +1,13 @@
 -- What an iteration does: after each list of replies it asks a request or ends with an outcome. A rule of this
 -- project.
-use Rattle.std.specs.Prelude.{◌≡◌, ℕ, zero, suc, ◌<◌, Bool, false, List, [], ◌∷◌, ◌++◌, map}
+use Rattle.std.specs.Prelude.{◌≡◌, ℕ, zero, suc, ◌<◌, Option, None, Some, List, [], ◌∷◌, ◌++◌, map}
+use Rattle.std.specs.Option.{option_map}
 use Rattle.std.specs.List.{AllByRecursion}
 use Rattle.best_turn.specs.declared.replays.Entry.{Entry}
 use Rattle.best_turn.specs.History.{of_iteration, IsLegal}
+use Rattle.best_monitor.specs.declared.port.PortStop.{PortStop}
+use Rattle.best_monitor.specs.declared.port.PortStop.TheVariants.{NoMemory, Differs}
+use Rattle.best_monitor.specs.Port.{Odds, StopsAsTold}
 
 -- what comes next
 pub data Next (Q T : Type 0) : Type 0 where
@@ -17,6 +21,10 @@ module _ {Q R : Type 0} where
 
   abbrev pub replies_of : List (Q × R) → List R
   replies_of asked = map (λ x. x.1) asked
+
+  -- where a rest is told, it was what was asked, and then what is left of it
+  abbrev pub with_asked : List (Q × R) → Option (List (Q × R)) → Option (List (Q × R))
+  with_asked asked rest = option_map (λ left. asked ++ left) rest
 
   -- what the entries of a history say that this iteration asked, in order
   abbrev pub asked_by : ℕ → List (Entry Q R) → List (Q × R)
@@ -48,6 +56,23 @@ module _ {Q R : Type 0} where
 
 module _ {Q R T : Type 0} where
   -- Just these requests were asked, replied to so. If the iteration wasn't cut, it then ended with this outcome.
-  pub record Runs (asks : List R → Next Q T) (is_cut : Bool) (asked : List (Q × R)) (outcome : T) : Type 0 where
+  pub record Runs (asks : List R → Next Q T) (stop : Option PortStop) (asked : List (Q × R)) (outcome : T) : Type 0 where
     pub follows : Follows asks [] asked
-    pub ends : is_cut ≡ false → then_comes asks asked ≡ Ends outcome
+    pub ends : stop ≡ None → then_comes asks asked ≡ Ends outcome
+
+  -- An iteration that was cut broke off for want of memory, or where it asked a request with which the rest that was
+  -- left to replay doesn't begin, and then by the odds of that request.
+  abbrev pub CutAsTold : Next Q T → Option (List (Q × R)) → (Q → Odds) → Option PortStop → Type 0
+  CutAsTold next rest odds None = Unit {0}
+  CutAsTold (Asks q) rest odds (Some stop) = StopsAsTold rest q (odds q) stop
+  CutAsTold (Ends outcome) rest odds (Some stop) = stop ≡ NoMemory
+
+-- an iteration that was cut broke off for want of memory
+abbrev pub CutForMemory : Option PortStop → Type 0
+CutForMemory None = Unit {0}
+CutForMemory (Some NoMemory) = Unit {0}
+CutForMemory (Some (Differs line asked had)) = ⊥
+
+-- The same of an iteration over a seat. Such a port never differs, so that one is cut for want of memory alone.
+abbrev pub RunsOnSeat : {Q R T : Type 0} → (List R → Next Q T) → Option PortStop → List (Q × R) → T → Type 0
+RunsOnSeat asks stop asked outcome = Runs asks stop asked outcome × CutForMemory stop

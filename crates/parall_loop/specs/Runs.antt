@@ -1,16 +1,17 @@
 -- What the workers of a loop did: the runs of iterations, in the order in which a worker made them.
-use Rattle.std.specs.Prelude.{◌≡◌, ℕ, ◌+◌, ◌<◌, Bool, true, Option, None, Some, List, [], ◌∷◌, ◌++◌, map, length, set}
+use Rattle.std.specs.Prelude.{◌≡◌, ℕ, ◌+◌, ◌<◌, true, Option, None, Some, List, [], ◌∷◌, ◌++◌, map, length, set}
 use Rattle.std.specs.List.{AllByRecursion}
 use Rattle.best_turn.specs.Seated.{TableId}
 use Rattle.best_turn.specs.declared.replays.Entry.{Entry}
 use Rattle.best_turn.specs.declared.view.View.{View}
 use Rattle.best_turn.specs.Seats as turns
+use Rattle.best_monitor.specs.declared.port.PortStop.{PortStop}
 use Rattle.best_monitor.specs.Port.{entries_for}
 use Rattle.iter_claim.specs.declared.claims.Claims.{Claims}
 use Rattle.iter_claim.specs.declared.claims.ClaimSeat.{ClaimSeat}
 use Rattle.iter_claim.specs.Numbers.{AllLess}
 use Rattle.iter_claim.specs.Seats as drawing
-use Rattle.parall_loop.specs.Iteration.{Next, Runs}
+use Rattle.parall_loop.specs.Iteration.{Next, RunsOnSeat}
 
 -- one iteration that was run: what it asked, with the replies, and its outcome
 pub record Run (Q R T : Type 0) : Type 0 where
@@ -78,17 +79,17 @@ module _ {Q R T : Type 0} where
   all_runs (w ∷ ws) = w.1 ++ all_runs ws
 
   -- a worker's runs: of iterations below n, in rising order, each of which asked what its iteration asks
-  pub record AreRuns (asks : ℕ → List R → Next Q T) (is_cut : T → Bool) (n : ℕ) (runs : List (Run Q R T)) : Type 0 where
+  pub record AreRuns (asks : ℕ → List R → Next Q T) (stop_of : T → Option PortStop) (n : ℕ) (runs : List (Run Q R T)) : Type 0 where
     pub rising : IsRising (numbers_of runs)
     pub below : AllLess n (numbers_of runs)
-    pub ran : AllByRecursion (λ r. Runs (asks r.number) (is_cut r.outcome) r.asked r.outcome) runs
+    pub ran : AllByRecursion (λ r. RunsOnSeat (asks r.number) (stop_of r.outcome) r.asked r.outcome) runs
 
   module _ {S : Type 0} where
     -- a worker made these runs so far: it drew their numbers, its seat made their entries, and it has their outcomes
-    pub record HasRun (turn : TableId × S) (count : Claims) (asks : ℕ → List R → Next Q T) (is_cut : T → Bool) (seat : TableId × View S Q R) (claimer : ClaimSeat) (outcomes : List (ℕ × T)) : Type 0 where
+    pub record HasRun (turn : TableId × S) (count : Claims) (asks : ℕ → List R → Next Q T) (stop_of : T → Option PortStop) (seat : TableId × View S Q R) (claimer : ClaimSeat) (outcomes : List (ℕ × T)) : Type 0 where
       pub number : ℕ
       pub runs : List (Run Q R T)
-      pub are : AreRuns asks is_cut (drawing.count_of count) runs
+      pub are : AreRuns asks stop_of (drawing.count_of count) runs
       pub own : turns.IsSeatOf turn seat
       pub made : seat.1.made ≡ (number, entries_of runs) ∷ []
       pub rest : seat.1.rest ≡ 0
@@ -98,15 +99,15 @@ module _ {Q R T : Type 0} where
       pub outcomes_are : outcomes ≡ outcomes_of runs
 
     -- it made all its runs: no number is left
-    abbrev pub HasEnded : TableId × S → Claims → (ℕ → List R → Next Q T) → (T → Bool) → TableId × View S Q R → ClaimSeat → List (ℕ × T) → Type 0
-    HasEnded turn count asks is_cut seat claimer outcomes = HasRun turn count asks is_cut seat claimer outcomes × (drawing.is_done claimer ≡ true)
+    abbrev pub HasEnded : TableId × S → Claims → (ℕ → List R → Next Q T) → (T → Option PortStop) → TableId × View S Q R → ClaimSeat → List (ℕ × T) → Type 0
+    HasEnded turn count asks stop_of seat claimer outcomes = HasRun turn count asks stop_of seat claimer outcomes × (drawing.is_done claimer ≡ true)
 
     -- the seats of a loop of so many workers, of which all but so many were taken in again, with the places of outcomes
-    pub record HasTakenIn (turn : TableId × S) (count : Claims) (asks : ℕ → List R → Next Q T) (is_cut : T → Bool) (workers out : ℕ) (seat : TableId × View S Q R) (claimer : ClaimSeat) (places : List (Option T)) : Type 0 where
+    pub record HasTakenIn (turn : TableId × S) (count : Claims) (asks : ℕ → List R → Next Q T) (stop_of : T → Option PortStop) (workers out : ℕ) (seat : TableId × View S Q R) (claimer : ClaimSeat) (places : List (Option T)) : Type 0 where
       pub number : ℕ
       pub done : List (ℕ × List (Run Q R T))
       pub empty : List (Option T)
-      pub each : AllByRecursion (λ w. AreRuns asks is_cut (drawing.count_of count) w.1) done
+      pub each : AllByRecursion (λ w. AreRuns asks stop_of (drawing.count_of count) w.1) done
       pub own : turns.IsSeatOf turn seat
       pub made : seat.1.made ≡ (number, []) ∷ made_by_workers done
       pub rest : seat.1.rest + workers ≡ 4294967296

@@ -1,12 +1,12 @@
 //! A whole loop: workers run its iterations beside each other, and what they asked is one history.
-ghost use Rattle.std.specs.Prelude.{◌≡◌, ℕ, ◌<◌, ◌≤◌, ◌+◌, List, false, length, map, slice_get, slice_index_or, IfOk, IfSome, vec_len, ◌++◌, ◌||◌};
+ghost use Rattle.std.specs.Prelude.{◌≡◌, ℕ, ◌<◌, ◌≤◌, ◌+◌, List, None, length, map, slice_get, slice_index_or, IfOk, IfSome, vec_len, ◌++◌, ◌||◌};
 ghost use Rattle.std.specs.List.{All, AllByRecursion};
 ghost use Rattle.best_turn.specs.History.{fold_of, IsLegal};
 ghost use Rattle.best_turn.specs.Rule.{both};
 ghost use Rattle.best_turn.specs.Seats.{start_of, view_of, IsSeatOf};
 ghost use Rattle.iter_claim.specs.Numbers.{AllLess};
 ghost use Rattle.iter_claim.specs.Seats.{count_of, drawn_by, seats_from, is_done, IsSeatOf as IsClaimerOf};
-ghost use Rattle.parall_loop.specs.Iteration.{Next, Asks, Runs, Fits, asked_by, one_by_one};
+ghost use Rattle.parall_loop.specs.Iteration.{Next, Asks, RunsOnSeat, Fits, asked_by, one_by_one};
 ghost use Rattle.parall_loop.specs.Runs.{IsFresh, HasSplit, HasTakenIn, put_into};
 
 use crate::body::IterBody;
@@ -33,8 +33,9 @@ pub struct LoopResult<S: Replays, T> {
 /// the body over a seat of its own, and leaves the gate. It may wait.
 ///
 /// The history is legal from the state that was handed in, and its fold is the state that is given back. What an
-/// outcome's iteration asked stands in it, in order, and is what the body says; where no outcome is cut the history
-/// fits the loop. With one worker it is one iteration after the other. `NoMemory` where there is none for the turn,
+/// outcome's iteration asked stands in it, in order, and is what the body says; an outcome is cut for want of memory
+/// alone, and where none is cut the history fits the loop. With one worker it is one iteration after the other.
+/// `NoMemory` where there is none for the turn,
 /// the claims, a seat or an outcome.
 pub fn run_loop<S, B, G, R>(
     rt: &R,
@@ -62,9 +63,9 @@ where
     ensures outcomes { IfOk result (λ r. length r.outcomes.items ≡ n) }
     ensures ran { IfOk result (λ r. (k : ℕ) (t : B.Outcome) →
         slice_get r.outcomes.items k ≡ Some t →
-        Runs (B.asks body.now k) (B.is_cut t) (asked_by k r.history.items) t) }
+        RunsOnSeat (B.asks body.now k) (B.stop t) (asked_by k r.history.items) t) }
     ensures fits { IfOk result (λ r. (d : B.Outcome) →
-        AllByRecursion (λ t. B.is_cut t ≡ false) r.outcomes.items →
+        AllByRecursion (λ t. B.stop t ≡ None) r.outcomes.items →
         Fits S.takes S.after S.answer state (B.asks body.now) n (λ k.
         slice_index_or r.outcomes.items k d) r.history.items) }
     ensures order { IfOk result (λ r. workers ≡ 1 →
@@ -114,7 +115,7 @@ where
     requires takes { (k : ℕ) (replies : List S.Reply) (q : S.Request) → k < count_of claims.now →
         B.asks body.now k replies ≡ Asks q → S.takes (start_of turn.now) q }
     ensures { IfOk result (λ places. HasTakenIn turn.now claims.now
-        (B.asks body.now) B.is_cut workers 0 first.new.seat first.new.claimer places.items) }
+        (B.asks body.now) B.stop workers 0 first.new.seat first.new.claimer places.items) }
 {
     let seated = seat_workers(alloc, turn, claims, workers, first)?;
     let worked = work_beside(rt, alloc, turn, claims, body, gate, seated)?;

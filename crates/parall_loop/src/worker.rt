@@ -45,7 +45,7 @@ fn work<S: Replays, B: IterBody<S>, G: Gate, R: Wait>(
     requires takes { (k : ℕ) (replies : List S.Reply) (q : S.Request) → k < count_of claims.now →
         B.asks body.now k replies ≡ Asks q → S.takes (start_of turn.now) q }
     ensures { IfSome result (λ w. HasEnded turn.now claims.now
-        (B.asks body.now) B.is_cut w.seat w.claimer w.outcomes.items) }
+        (B.asks body.now) B.stop w.seat w.claimer w.outcomes.items) }
 {
     let Worker {
         mut seat,
@@ -94,14 +94,14 @@ where
     requires takes { (k : ℕ) (replies : List S.Reply) (q : S.Request) → k < count_of claims.now →
         B.asks body.now k replies ≡ Asks q → S.takes (start_of turn.now) q }
     ensures count { IfOk result (λ all. vec_len all ≡ vec_len workers) }
-    ensures ended { IfOk result (λ all. AllByRecursion (λ one. IfSome one (λ w. HasEnded turn.now claims.now (B.asks body.now) B.is_cut w.seat w.claimer w.outcomes.items)) all.items) }
+    ensures ended { IfOk result (λ all. AllByRecursion (λ one. IfSome one (λ w. HasEnded turn.now claims.now (B.asks body.now) B.stop w.seat w.claimer w.outcomes.items)) all.items) }
 {
     let run = |worker: Worker<S>| -> Option<Worked<S, B::Outcome>>
         requires { IsFresh turn.now claims.now worker.seat worker.claimer ×
             ((k : ℕ) (replies : List S.Reply) (q : S.Request) → k < count_of claims.now →
             B.asks body.now k replies ≡ Asks q → S.takes (start_of turn.now) q) }
         ensures { IfSome result (λ w. HasEnded turn.entry.now claims.entry.now
-            (B.asks body.entry.now) B.is_cut w.seat w.claimer w.outcomes.items) }
+            (B.asks body.entry.now) B.stop w.seat w.claimer w.outcomes.items) }
     { work(rt, alloc, turn, claims, body, gate, worker) };
     let Ok(all) = thread::map_vec(rt, workers, &run) else {
         return Err(NoMemory);

@@ -1,4 +1,3 @@
-use Rattle.std.proofs.Common.{sym, ◌∙◌}
 use Rattle.best_turn.specs.Seats.{view_of}
 use Rattle.best_monitor.proofs.Asked.{asked_more}
 use Rattle.best_monitor.proofs.seat_port.SeatPortMonitorPort.ask.Goals as goal
