@@ -1,15 +1,16 @@
 //! How long the printing and the reading of journals take.
 
 use crate::stop::Stop;
-use best_monitor::{Entries, Journal, LoopHistory, Reply, Request};
+use best_monitor::{Reply, Request};
 use best_turn::Entry;
 use cbl_base::{NoMemory, Numbers};
 use journal_text::{JournalStop, print, read};
+use pool_monitor::{DeskRequest, Entries, Journal, LoopHistory};
 use std::alloc::Global;
 use std::time::CpuClock;
 
 /// An entry of one of a thousand iterations: a report, a value or a list.
-fn entry_of(alloc: Global, number: u32) -> Result<Entry<Request, Reply>, NoMemory> {
+fn entry_of(alloc: Global, number: u32) -> Result<Entry<DeskRequest, Reply>, NoMemory> {
     let iteration = number % 1000;
     let list = Numbers::from_slice(alloc, &[i64::from(number), -1, 0])?;
     let (request, reply) = match number % 3 {
@@ -17,6 +18,7 @@ fn entry_of(alloc: Global, number: u32) -> Result<Entry<Request, Reply>, NoMemor
             Request::Report {
                 monitor: 0,
                 value: i64::from(number),
+                second: 0,
                 list,
             },
             Reply::Truth(false),
@@ -35,7 +37,7 @@ fn entry_of(alloc: Global, number: u32) -> Result<Entry<Request, Reply>, NoMemor
     };
     Ok(Entry {
         iteration,
-        request,
+        request: DeskRequest::Best(request),
         reply,
     })
 }

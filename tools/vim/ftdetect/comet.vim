@@ -1,0 +1,2 @@
+" Programs in Comet are files named *.comet.
+autocmd BufNewFile,BufRead *.comet setfiletype comet
