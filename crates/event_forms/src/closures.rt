@@ -7,7 +7,7 @@ ghost use Rattle.run_steps.specs.OfRunSearch.Searches.{closure_seen};
 ghost use Rattle.run_steps.specs.OfRunState.Views.{state_seen};
 ghost use Rattle.run_steps.specs.Does.{Does};
 ghost use Rattle.run_steps.specs.OfRunOutside.Told.{Told};
-ghost use Rattle.run_steps.specs.OfRunValues.Did.{Did};
+ghost use Rattle.run_values.specs.Did.{Did};
 
 use checked_tree::EventSlots;
 use run_steps::inside::Within;

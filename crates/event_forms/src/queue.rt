@@ -14,7 +14,7 @@ ghost use Rattle.run_steps.specs.OfRunState.Views.{state_seen};
 ghost use Rattle.run_steps.specs.Does.{Does};
 ghost use Rattle.run_steps.specs.Following.{Follows};
 ghost use Rattle.run_steps.specs.Views.{flow_seen};
-ghost use Rattle.run_steps.specs.OfRunValues.Views.{value_seen};
+ghost use Rattle.run_values.specs.Views.{value_seen};
 
 use crate::closures::{Binding, run_closure};
 use cbl_base::Place;

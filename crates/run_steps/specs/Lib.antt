@@ -4,7 +4,6 @@ pub mod OpenTuples
 pub mod Parts
 pub mod Returns
 pub mod Copies
-pub mod Extents
 pub mod Following
 pub mod Operands
 pub mod Plainly

@@ -1,8 +1,8 @@
 use Rattle.std.proofs.Common.{refl}
 use Rattle.comet_meaning.proofs.GoingOn.{goes_put}
 use Rattle.comet_meaning.specs.Declarations.{scalar_form}
-use Rattle.expression_forms.proofs.OfRunSteps.Steps.{scalar_as}
-use Rattle.expression_forms.proofs.OfRunSteps.Stops.{does}
+use Rattle.run_steps.proofs.Steps.{scalar_as}
+use Rattle.run_steps.proofs.Stops.{does}
 use Rattle.declaration_forms.proofs.declarations.declare.Goals as goal
 
 pub returns-in-None : goal.returns-in-None

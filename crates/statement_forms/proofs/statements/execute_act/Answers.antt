@@ -1,7 +1,7 @@
 use Rattle.std.proofs.Common.{refl}
 use Rattle.comet_meaning.proofs.Rows.{tasks_row}
 use Rattle.comet_meaning.specs.Statements.{meaning_of_form}
-use Rattle.search_forms.proofs.OfRunSteps.Trees.{act_action, act_block, act_for, act_for_all, act_if, act_if_else, act_neighbor, act_parall, act_select, act_select_by, act_whenever, act_while, act_with}
+use Rattle.run_steps.proofs.Trees.{act_action, act_block, act_for, act_for_all, act_if, act_if_else, act_neighbor, act_parall, act_select, act_select_by, act_whenever, act_while, act_with}
 use Rattle.statement_forms.proofs.statements.execute_act.Goals as goal
 
 pub returns-in-Action : goal.returns-in-Action
