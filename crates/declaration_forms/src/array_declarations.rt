@@ -28,12 +28,12 @@ pub fn declare_array<O: Outside, W: Within<O>>(
     at: Place,
     slot: Slot,
     dimensions: &[Dimension],
-    start: &Option<Start>,
+    start: &Option<Box<Start>>,
 ) -> Result<(), Stop>
     requires ready { W.is_ready inside.now }
     ensures did { Does (λ _. tt) result (state_seen s.new (O.told out.new))
         (array_form (level (W.code inside.now) (W.depth inside.now)) at slot
-        (map dimension_of dimensions.now) (option_map start_of start.now)
+        (map dimension_of dimensions.now) (option_map (λ x. start_of x.value) start.now)
         (state_seen s.old (O.told out.old))) }
 {
     let extents = extents_of(s, out, inside, dimensions)?;
@@ -76,22 +76,25 @@ fn first_numbers<O: Outside, W: Within<O>>(
     at: Place,
     count: u128,
     extents: &[Extent],
-    start: &Option<Start>,
+    start: &Option<Box<Start>>,
 ) -> Result<Vec<i64>, Stop>
     requires ready { W.is_ready inside.now }
     requires known { count ≡ meaning.cell_count (map extent_seen extents.now) }
     ensures did { Does (λ numbers. numbers.items) result (state_seen s.new (O.told out.new))
         (numbers_form (level (W.code inside.now) (W.depth inside.now)) at
-        (map extent_seen extents.now) (option_map start_of start.now)
+        (map extent_seen extents.now) (option_map (λ x. start_of x.value) start.now)
         (state_seen s.old (O.told out.old))) }
 {
     match start {
         None => fill_all(s, out, inside, at, count, None, extents),
-        Some(start) => match start.way {
-            Way::List => listed_numbers(s, out, inside, at, count, &start.value),
-            Way::Each => fill_all(s, out, inside, at, count, Some(&start.value), extents),
-            Way::Define => fill_all(s, out, inside, at, count, Some(&start.value), extents),
-        },
+        Some(start) => {
+            let start: &Start = start;
+            match start.way {
+                Way::List => listed_numbers(s, out, inside, at, count, &start.value),
+                Way::Each => fill_all(s, out, inside, at, count, Some(&start.value), extents),
+                Way::Define => fill_all(s, out, inside, at, count, Some(&start.value), extents),
+            }
+        }
     }
 }
 

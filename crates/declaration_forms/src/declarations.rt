@@ -34,16 +34,17 @@ pub fn declare<O: Outside, W: Within<O>>(
     at: Place,
     slot: Slot,
     kind: Kind,
-    start: &Option<Typed>,
+    start: &Option<Box<Typed>>,
 ) -> Result<(), Stop>
     requires ready { W.is_ready inside.now }
     ensures did { Does (λ _. tt) result (state_seen s.new (O.told out.new))
         (scalar_form (level (W.code inside.now) (W.depth inside.now)) at slot kind
-        (option_map seen start.now) (state_seen s.old (O.told out.old))) }
+        (option_map (λ x. seen x.value) start.now) (state_seen s.old (O.told out.old))) }
 {
     match start {
         None => s.put(slot, first_value(s.alloc, kind)),
         Some(value) => {
+            let value: &Typed = value;
             let place = value.place;
             let value = value_of(s, out, inside, value);
             declare_value(s, out, at, place, slot, kind, value)

@@ -22,7 +22,7 @@ use checked_tree::EventSlots;
 use run_steps::code::Flow;
 use run_steps::inside::Within;
 use run_steps::state_of_runs::{Event, Outside, State, Target};
-use run_steps::values_of_runs::{Stop, Value};
+use run_values::{Stop, Value};
 
 /// Runs the queue, where no commit does: the events in order, and those that come while their handlers run.
 pub fn run_queue<O: Outside, W: Within<O>>(

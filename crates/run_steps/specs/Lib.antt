@@ -14,4 +14,3 @@ pub mod OfRunOutside
 pub mod OfRunSearch
 pub mod OfRunSolvers
 pub mod OfRunState
-pub mod OfRunValues

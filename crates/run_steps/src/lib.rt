@@ -15,4 +15,3 @@ pub mod short_calls;
 pub mod solvers_of_runs;
 pub mod state_of_runs;
 pub mod tuples;
-pub mod values_of_runs;

@@ -14,7 +14,7 @@ use crate::for_all::execute_for_all;
 use crate::loops::{execute_for, execute_while};
 use cbl_base::Place;
 use cbl_base::limits::MAX_RUNNING_DEPTH;
-use checked_tree::{Act, Action, Task, Typed};
+use checked_tree::{Act, Action, Choice, Head, Task, Typed};
 use declaration_forms::array_declarations::declare_array;
 use declaration_forms::declarations::{declare, declare_variable};
 use declaration_forms::objects::declare_object;
@@ -60,31 +60,62 @@ pub fn execute_act<O: Outside, W: Around<O>>(
             otherwise,
         } => execute_if_else(s, out, inside, test, then, otherwise),
         Act::While { test, body } => execute_while(s, out, inside, at, test, body),
-        Act::For {
-            counter,
-            test,
-            step,
-            body,
-        } => execute_for(s, out, inside, at, counter, test, step, body),
-        Act::ForAll {
-            generators,
-            condition,
-            body,
-        } => execute_for_all(s, out, inside, at, generators, condition, body),
-        Act::Select {
-            generators,
-            condition,
-            body,
-        } => execute_select(s, out, inside, at, generators, condition, body),
+        Act::For { head, body } => {
+            let head: &Head = head;
+            execute_for(
+                s,
+                out,
+                inside,
+                at,
+                &head.counter,
+                &head.test,
+                &head.step,
+                body,
+            )
+        }
+        Act::ForAll { choice, body } => {
+            let choice: &Choice = choice;
+            execute_for_all(
+                s,
+                out,
+                inside,
+                at,
+                &choice.generators,
+                &choice.condition,
+                body,
+            )
+        }
+        Act::Select { choice, body } => {
+            let choice: &Choice = choice;
+            execute_select(
+                s,
+                out,
+                inside,
+                at,
+                &choice.generators,
+                &choice.condition,
+                body,
+            )
+        }
         Act::SelectBy {
             extreme,
-            generators,
-            condition,
+            choice,
             key,
             body,
-        } => execute_select_by(
-            s, out, inside, at, *extreme, generators, condition, key, body,
-        ),
+        } => {
+            let choice: &Choice = choice;
+            execute_select_by(
+                s,
+                out,
+                inside,
+                at,
+                *extreme,
+                &choice.generators,
+                &choice.condition,
+                key,
+                body,
+            )
+        }
         Act::Neighbor {
             key,
             selector,
