@@ -9,5 +9,5 @@ let s:run = expand('<sfile>:p:h:h:h') . '/comet-here'
 if !executable(s:run)
   let s:run = 'comet-here'
 endif
-execute 'CompilerSet makeprg=' . escape(s:run . ' ' . get(g:, 'comet_options', '') . ' %', ' |\"')
+execute 'CompilerSet makeprg=' . escape(shellescape(s:run) . ' ' . get(g:, 'comet_options', '') . ' %:S', ' |\"')
 CompilerSet errorformat=%f:%l:%c:\ %m
