@@ -1,10 +1,11 @@
 //! Times the printing and the reading of journals: each word says of how many entries. Without words it does nothing.
 #![tactic(auto)]
 
-use best_monitor::{Entries, Journal, LoopHistory, Reply, Request};
+use best_monitor::{Reply, Request};
 use best_turn::Entry;
 use cbl_base::{NoMemory, Numbers};
 use journal_text::{JournalStop, print, read};
+use pool_monitor::{DeskRequest, Entries, Journal, LoopHistory};
 use std::alloc::{AllocError, AllocFailed, Global};
 use std::process::ExitCode;
 use std::time::CpuClock;
@@ -44,7 +45,7 @@ impl From<io::Error> for Stop {
 }
 
 /// An entry of one of a thousand iterations: a report, a value or a list.
-fn entry_of(alloc: Global, number: u32) -> Result<Entry<Request, Reply>, NoMemory> {
+fn entry_of(alloc: Global, number: u32) -> Result<Entry<DeskRequest, Reply>, NoMemory> {
     let iteration = number % 1000;
     let list = Numbers::from_slice(alloc, &[i64::from(number), -1, 0])?;
     let (request, reply) = match number % 3 {
@@ -52,6 +53,7 @@ fn entry_of(alloc: Global, number: u32) -> Result<Entry<Request, Reply>, NoMemor
             Request::Report {
                 monitor: 0,
                 value: i64::from(number),
+                second: 0,
                 list,
             },
             Reply::Truth(false),
@@ -70,7 +72,7 @@ fn entry_of(alloc: Global, number: u32) -> Result<Entry<Request, Reply>, NoMemor
     };
     Ok(Entry {
         iteration,
-        request,
+        request: DeskRequest::Best(request),
         reply,
     })
 }

@@ -1,32 +1,23 @@
 -- The replies that are read are those that are spelled.
-use Rattle.std.proofs.Common.{◌≡◌, inl, ℕ, suc, ◌<◌, ◌≤◌, Bool, true, false, ◌&&◌, cond, eqb, leb, List, [], ◌∷◌, ◌++◌, length, Option, Some, None, refl, ap, ap₂, sym, subst, ◌∙◌, arith, append_assoc}
-use Rattle.std.specs.Prelude.{ℤ, pos, negsuc, nat_lt, nat_abs, codes}
+use Rattle.std.proofs.Common.{◌≡◌, ℕ, suc, ◌<◌, Bool, true, false, cond, eqb, List, [], ◌∷◌, length, Some, None, refl, ap, ap₂, sym, subst, ◌∙◌, arith}
+use Rattle.std.specs.Prelude.{ℤ, pos, negsuc, codes}
 use Rattle.std.specs.Int.{w64}
 use Rattle.std.specs.Int.RustNames.{FitsSigned}
 use Rattle.std.specs.Char.{is_ascii_digit}
 use Rattle.std.specs.Str.{bytes_eq}
 use Rattle.std.specs.Fmt.{decimal, signed_decimal}
-use Rattle.std.proofs.lemmas.Bool.{leb-true, ltb-true, lt-ltb}
 use Rattle.std.proofs.lemmas.Option.{cond_some}
 use Rattle.std.proofs.lemmas.Slice.Eq.{bytes_eq-Decides}
-use Rattle.best_turn.specs.declared.replays.Entry.{Entry}
-use Rattle.best_monitor.specs.declared.request.Request.{Request}
-use Rattle.best_monitor.specs.declared.request.Request.TheVariants.{Report, Value, Second, Has, Copy, Stop, Stopped}
 use Rattle.best_monitor.specs.declared.request.Reply.{Reply}
 use Rattle.best_monitor.specs.declared.request.Reply.TheVariants.{Truth, Number, Missing, Long, Done}
 use Rattle.best_monitor.specs.declared.request.Reply.TheVariants.{List as Listed}
-use Rattle.pool_monitor.specs.declared.request.PoolRequest.{PoolRequest}
-use Rattle.pool_monitor.specs.declared.request.PoolRequest.TheVariants.{Add, Size, Rank, Take}
-use Rattle.pool_monitor.specs.declared.request.DeskRequest.{DeskRequest}
-use Rattle.pool_monitor.specs.declared.request.DeskRequest.TheVariants.{Best, Pool}
-use Rattle.journal_text.specs.declared.version.Version.{Version}
-use Rattle.journal_text.specs.Texts.{joined, list_text, second_words, best_words, request_words, reply_words, loop_text}
-use Rattle.journal_text.specs.Grammar.{most_iterations, has_request, may_have, FitsList, FitsRequest, FitsReply, FitsEntry, entry_words, entry_line}
+use Rattle.journal_text.specs.Texts.{reply_words}
+use Rattle.journal_text.specs.Grammar.{FitsReply}
 use Rattle.journal_text.specs.Refusal.{split}
-use Rattle.journal_text.specs.Reading.{◌>>=◌, next, only, number_of, number_up_to, signed_of, list_of, field, index_of, second_of, report_of, copy_of, add_of, rank_of, take_of, plain_of, pool_of, named_of, request_of, begins_number, number_reply, list_reply, word_reply, short_reply, long_reply, reply_of, is_entry, entry_of, loop_of}
-use Rattle.journal_text.proofs.Cuts.{is_free, AllFree, AllFree-append, free_byte, both, and_true, free_joined, split_joined, split_some, text_of_parts, next_is, only_is, next_cons, one_word}
+use Rattle.journal_text.specs.Reading.{◌>>=◌, next, only, number_of, signed_of, list_of, begins_number, number_reply, list_reply, word_reply, short_reply, long_reply, reply_of}
+use Rattle.journal_text.proofs.Cuts.{split_some, next_is, only_is, one_word}
 use Rattle.journal_text.proofs.Choices.{some_is, bind_some, chosen}
-use Rattle.journal_text.proofs.NumberLaws.{number_takes, number_again, up_to_takes, up_to_again, signed_takes, signed_again, list_takes, list_again, free_decimal, free_signed, free_list, first_digit}
+use Rattle.journal_text.proofs.NumberLaws.{number_takes, number_again, signed_takes, signed_again, list_takes, list_again, first_digit}
 
 abbrev Told : List (List ℕ) → Reply → Type 0
 Told ws r = (ws ≡ reply_words r) × FitsReply r

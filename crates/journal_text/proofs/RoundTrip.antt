@@ -1,5 +1,5 @@
 -- What is printed is read as the journal that it was printed of.
-use Rattle.std.proofs.Common.{◌≡◌, inr, inl, ℕ, ◌+◌, Bool, true, false, true≢false, cond, List, [], ◌∷◌, ◌++◌, Result, Ok, Err, refl, sym, subst, ◌∙◌}
+use Rattle.std.proofs.Common.{◌≡◌, inr, inl, ℕ, Bool, true, false, true≢false, cond, List, [], ◌∷◌, ◌++◌, Result, Ok, Err, refl, sym, subst, ◌∙◌}
 use Rattle.std.specs.Prelude.{◌↔◌}
 use Rattle.std.specs.List.{AllByRecursion}
 use Rattle.best_turn.specs.declared.replays.Entry.{Entry}
@@ -8,9 +8,9 @@ use Rattle.best_monitor.specs.declared.request.Reply.{Reply}
 use Rattle.pool_monitor.specs.declared.request.DeskRequest.{DeskRequest}
 use Rattle.pool_monitor.specs.declared.request.DeskRequest.TheVariants.{Best, Pool}
 use Rattle.journal_text.specs.Versions.{version_2, version_3, IsVersion}
-use Rattle.journal_text.specs.Grammar.{has_request, FitsEntry, FitsLoop, IsJournal, journal_lines, Spells}
+use Rattle.journal_text.specs.Grammar.{has_request, FitsEntry, IsJournal, journal_lines, Spells}
 use Rattle.journal_text.specs.Printed.{asks_pool, entries_ask_pool, loops_ask_pool, version_for, printed}
-use Rattle.journal_text.specs.Refusal.{split, Begins, IsFirstFault, IsReading}
+use Rattle.journal_text.specs.Refusal.{IsFirstFault, IsReading}
 use Rattle.journal_text.proofs.LineLaws.{Loops, Lines}
 use Rattle.journal_text.proofs.TextLaws.{front_of, spelled_parts, spelled}
 

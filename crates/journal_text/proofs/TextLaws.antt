@@ -1,5 +1,5 @@
 -- What is read of a whole text is what the grammar spells, in whatever version.
-use Rattle.std.proofs.Common.{◌≡◌, ◌≢◌, inl, ℕ, ◌+◌, ◌<◌, List, [], ◌∷◌, ◌++◌, length, Option, Some, None, Result, Ok, Err, refl, ap, sym, subst, ◌∙◌, arith, append_assoc}
+use Rattle.std.proofs.Common.{◌≡◌, inl, ℕ, ◌+◌, ◌<◌, List, [], ◌∷◌, ◌++◌, length, Option, Some, None, Result, Ok, Err, refl, ap, sym, subst, ◌∙◌, arith, append_assoc}
 use Rattle.std.specs.Prelude.{codes}
 use Rattle.std.proofs.lemmas.List.{append-nil}
 use Rattle.journal_text.specs.declared.reader.Reader.{Reader}
@@ -8,7 +8,7 @@ use Rattle.journal_text.specs.declared.stop.JournalStop as stop
 use Rattle.journal_text.specs.declared.stop.JournalStop.TheVariants as stops
 use Rattle.journal_text.specs.declared.version.Version.{Version}
 use Rattle.journal_text.specs.Versions.{version_1, IsVersion, version_of}
-use Rattle.journal_text.specs.Grammar.{IsJournal, journal_lines, journal_text, Spells}
+use Rattle.journal_text.specs.Grammar.{IsJournal, journal_lines, Spells}
 use Rattle.journal_text.specs.Refusal.{split, Begins, IsFirstFault, IsReading, Told}
 use Rattle.journal_text.specs.Reading.{◌>>=◌, next}
 use Rattle.journal_text.specs.Steps.{step, finished, then_or, pieces_of, journal_of, Reads}

@@ -1,5 +1,5 @@
 -- A header says one version, and each version's is found.
-use Rattle.std.proofs.Common.{◌≡◌, ◌⊎◌, inl, inr, ⊎_elim, ℕ, true, List, Some, refl, ap, sym, subst, ◌∙◌}
+use Rattle.std.proofs.Common.{◌≡◌, inl, inr, ⊎_elim, ℕ, true, List, Some, refl, ap, sym, subst, ◌∙◌}
 use Rattle.journal_text.specs.declared.version.Version.{Version}
 use Rattle.journal_text.specs.Versions.{version_1, version_2, version_3, IsVersion, version_of}
 use Rattle.journal_text.proofs.Cuts.{is_free}

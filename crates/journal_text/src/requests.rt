@@ -186,11 +186,7 @@ fn size_of(words: &[u8]) -> Result<(DeskRequest, &[u8]), Stop>
 }
 
 // The request to a pool of this name.
-fn pool_of<'a>(
-    alloc: Global,
-    name: &[u8],
-    words: &'a [u8],
-) -> Result<(DeskRequest, &'a [u8]), Stop>
+fn pool_of<'a>(alloc: Global, name: &[u8], words: &'a [u8]) -> Result<(DeskRequest, &'a [u8]), Stop>
     ensures { Gives (λ r. (r.0, split 32 r.1.now)) result (pool_of name.now (split 32 words.now)) }
 {
     if is_text(name, "add") {
