@@ -56,55 +56,55 @@ static POOLS: [&str; 9] = [
 // The line at fault in each version, if one is, where the first line of its example is another.
 struct Header {
     text: &'static str,
-    faults: [Option<u64>; 3],
+    faults: &'static [Option<u64>],
 }
 
 static HEADERS: [Header; 7] = [
     Header {
         text: "comet journal 1",
-        faults: [None, Some(3), Some(3)],
+        faults: &[None, Some(3), Some(3)],
     },
     Header {
         text: "comet journal 2",
-        faults: [Some(3), None, None],
+        faults: &[Some(3), None, None],
     },
     Header {
         text: "comet journal 3",
-        faults: [Some(3), None, None],
+        faults: &[Some(3), None, None],
     },
     Header {
         text: "comet journal 4",
-        faults: [Some(1), Some(1), Some(1)],
+        faults: &[Some(1), Some(1), Some(1)],
     },
     Header {
         text: "comet journal 1 ",
-        faults: [Some(1), Some(1), Some(1)],
+        faults: &[Some(1), Some(1), Some(1)],
     },
     Header {
         text: "comet journal",
-        faults: [Some(1), Some(1), Some(1)],
+        faults: &[Some(1), Some(1), Some(1)],
     },
     Header {
         text: "",
-        faults: [Some(1), Some(1), Some(1)],
+        faults: &[Some(1), Some(1), Some(1)],
     },
 ];
 
 // The line at fault, if one is, where each line of an example in turn is written so often.
 struct Repeated {
     times: u32,
-    faults: [Option<u64>; 7],
+    faults: &'static [Option<u64>],
 }
 
 static REPEATED: [Repeated; 2] = [
     Repeated {
         times: 0,
-        faults: [Some(1), Some(2), None, None, None, None, Some(7)],
+        faults: &[Some(1), Some(2), None, None, None, None, Some(7)],
     },
     // A loop without entries may stand before the other.
     Repeated {
         times: 2,
-        faults: [Some(2), None, None, None, None, None, Some(8)],
+        faults: &[Some(2), None, None, None, None, None, Some(8)],
     },
 ];
 
@@ -380,7 +380,7 @@ fn each_version_has_its_entries(rt: HostRuntime) -> Result<(), Fail> {
 #[test]
 fn a_header_says_the_version(rt: HostRuntime) -> Result<(), Fail> {
     for row in &HEADERS {
-        for (lines, fault) in EXAMPLES.iter().zip(&row.faults) {
+        for (lines, fault) in EXAMPLES.iter().zip(row.faults) {
             let text = with_changed(rt.alloc(), lines, 1, row.text)?;
             let want = fault.map_or(Verdict::Journal, Verdict::Fault);
             assert_eq!(rt; read_as(rt.alloc(), text.as_bytes()), want);
