@@ -1,2 +1,13 @@
+pub mod Choices
+pub mod Cuts
+pub mod EntryLaws
+pub mod HeaderLaws
 pub mod Joins
+pub mod LineLaws
+pub mod NumberLaws
 pub mod PrintLaws
+pub mod ReplyLaws
+pub mod RequestLaws
+pub mod RoundTrip
+pub mod TextLaws
+pub mod VersionLaws

@@ -15,7 +15,7 @@ use Rattle.pool_monitor.specs.declared.request.PoolRequest.TheVariants.{Add, Siz
 use Rattle.pool_monitor.specs.declared.request.DeskRequest.{DeskRequest}
 use Rattle.pool_monitor.specs.declared.request.DeskRequest.TheVariants.{Best, Pool}
 use Rattle.journal_text.specs.declared.version.Version.{Version}
-use Rattle.journal_text.specs.Texts.{joined, list_text, second_words, request_words, reply_words, reply_text, loop_text}
+use Rattle.journal_text.specs.Texts.{joined, second_words, request_words, reply_words, reply_text, loop_text}
 use Rattle.journal_text.specs.Grammar.{entry_line, loop_lines, ended, journal_text}
 use Rattle.journal_text.proofs.Joins.{joined_cons, joined_append}
 

@@ -1,6 +1,6 @@
 -- The versions of a journal's text. Each is a record of what it has: its first line, whether a report is written with
 -- its second value, which is 0 where it isn't, and one is asked for, and whether pools are asked. A rule of this project.
-use Rattle.std.specs.Prelude.{◌≡◌, ◌⊎◌, ℕ, Bool, true, false, Option, Some, None, List, codes, if◌then◌else◌}
+use Rattle.std.specs.Prelude.{◌≡◌, ◌⊎◌, ℕ, true, false, Option, Some, None, List, codes, if◌then◌else◌}
 use Rattle.std.specs.Str.{bytes_eq}
 use Rattle.journal_text.specs.declared.version.Version.{Version}
 
