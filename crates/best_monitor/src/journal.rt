@@ -1,65 +1,8 @@
-//! The journal of a run: the history of each loop that it ran.
-ghost use Rattle.std.specs.Prelude.{◌≡◌, ◌==◌, List, [], ◌∷◌, ◌++◌, length, is_ok, if◌then◌else◌, slice_get, option_copied};
+//! The journal of a run whose loops ask monitors alone: the history of each loop.
 
 use crate::request::{Reply, Request};
 use best_turn::Entry;
-use cbl_base::NoMemory;
-use std::alloc::Global;
 use std::marker::Model;
-
-/// The entries of a history, and seen as their list.
-#[derive(Drop)]
-pub struct Entries {
-    entries: Vec<Entry<Request, Reply>>,
-}
-
-impl Model for Entries {
-    ghost use Rattle.std.specs.Prelude.{List};
-    ghost use Rattle.best_turn.specs.declared.replays.Entry.{Entry};
-    ghost use Rattle.best_monitor.specs.declared.request.Request.{Request};
-    ghost use Rattle.best_monitor.specs.declared.request.Reply.{Reply};
-
-    ghost Value = { List (Entry Request Reply) };
-
-    ghost view = { λ a. a.entries.items };
-}
-
-impl Entries {
-    /// These entries. It takes no memory.
-    pub fn from_vec(entries: Vec<Entry<Request, Reply>>) -> Entries
-        ensures { result ≡ entries.items }
-    {
-        Entries { entries }
-    }
-
-    /// The entries themselves. It takes no memory.
-    pub fn into_vec(self) -> Vec<Entry<Request, Reply>>
-        ensures { result.items ≡ self }
-    {
-        self.entries
-    }
-
-    /// How many entries there are.
-    pub fn len(&self) -> usize
-        ensures { result ≡ length self.now }
-    {
-        self.entries.len()
-    }
-
-    /// Whether there is no entry.
-    pub fn is_empty(&self) -> bool
-        ensures { result ≡ (length self.now == 0) }
-    {
-        self.entries.is_empty()
-    }
-
-    /// The entries.
-    pub fn as_slice(&self) -> &[Entry<Request, Reply>]
-        ensures { result.now ≡ self.now }
-    {
-        self.entries.as_slice()
-    }
-}
 
 /// What the monitors were asked in one loop.
 #[derive(Drop)]
@@ -67,13 +10,13 @@ pub struct LoopHistory {
     /// How many iterations the loop had. They are numbered from 0.
     pub iterations: u32,
     /// The calls on monitors, in the order in which they took effect.
-    pub entries: Entries,
+    pub entries: Vec<Entry<Request, Reply>>,
 }
 
 /// The history of each loop that a run executed, in order, and seen as their list.
 #[derive(Drop)]
 pub struct Journal {
-    loops: Vec<LoopHistory>,
+    pub loops: Vec<LoopHistory>,
 }
 
 impl Model for Journal {
@@ -83,51 +26,4 @@ impl Model for Journal {
     ghost Value = { List LoopHistory };
 
     ghost view = { λ a. a.loops.items };
-}
-
-impl Journal {
-    /// A journal of no loop.
-    pub fn new(alloc: Global) -> Journal
-        ensures { result ≡ [] }
-    {
-        Journal {
-            loops: Vec::new(alloc),
-        }
-    }
-
-    /// How many loops there are.
-    pub fn len(&self) -> usize
-        ensures { result ≡ length self.now }
-    {
-        self.loops.len()
-    }
-
-    /// Whether there is no loop.
-    pub fn is_empty(&self) -> bool
-        ensures { result ≡ (length self.now == 0) }
-    {
-        self.loops.is_empty()
-    }
-
-    /// The history of the loop at an index from 0. `None` exactly at an index that isn't below the length.
-    pub fn get(&self, index: usize) -> Option<&LoopHistory>
-        ensures { option_copied result ≡ slice_get self.now index }
-    {
-        self.loops.get(index)
-    }
-
-    /// Adds the history of a loop at the end. With `NoMemory` the journal stays as it was.
-    pub fn push(&mut self, history: LoopHistory) -> Result<(), NoMemory>
-        ensures { self.new ≡ (if is_ok result then self.old ++ history ∷ [] else self.old) }
-    {
-        self.loops.push(history)?;
-        Ok(())
-    }
-
-    /// The histories of all loops.
-    pub fn as_slice(&self) -> &[LoopHistory]
-        ensures { result.now ≡ self.now }
-    {
-        self.loops.as_slice()
-    }
 }

@@ -106,6 +106,8 @@ impl Replays for Desk {
         requires { IsDeclared self.old request.now }
         ensures step { MatchResult result (λ r.
             desk_step self.old request.now ≡ Some (self.new, r)) (λ _. self.new ≡ self.old) }
+        ensures numbers { (length self.new.board ≡ length self.old.board) ×
+            (length self.new.pools ≡ length self.old.pools) }
         ensures memory { OnErr result (TakesMemory request.now) }
     {
         match request {
