@@ -6,3 +6,4 @@ pub mod Taking
 pub mod Fitting
 pub mod Ending
 pub mod Splitting
+pub mod Asking
