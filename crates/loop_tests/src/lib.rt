@@ -4,6 +4,8 @@
 #![tactic(auto)]
 
 #[cfg(test)]
+mod answers;
+#[cfg(test)]
 mod claims;
 #[cfg(test)]
 mod journals;
@@ -11,6 +13,8 @@ mod journals;
 mod loops;
 #[cfg(test)]
 mod monitors;
+#[cfg(test)]
+mod pools;
 #[cfg(test)]
 mod sleepers;
 #[cfg(test)]

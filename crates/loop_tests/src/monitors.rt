@@ -1,4 +1,4 @@
-//! What a board of monitors answers, by itself, through seats and ports, and in a journal.
+//! What a board of monitors answers, by itself, and through seats and ports.
 ghost use Rattle.std.specs.Prelude.{◌≡◌, ◌<◌, ℕ, List, [], ◌∷◌, ◌++◌, Option, None, Some, length, IfOk, IfSome};
 ghost use Rattle.best_monitor.specs.declared.request.Reply.{Reply};
 ghost use Rattle.best_turn.specs.Seats.{start_of, IsSeatOf, view_of};
@@ -6,9 +6,8 @@ ghost use Rattle.best_monitor.specs.Board.{monitor_of};
 ghost use Rattle.best_monitor.specs.declared.request.Request.{Request};
 ghost use Rattle.best_monitor.specs.Port.{StopsAsTold, GoesAstray, with_all, entries_for};
 
-use best_monitor::{
-    Board, Entries, Journal, LoopHistory, MonitorPort, PortStop, Reply, Request, SeatPort,
-};
+use crate::answers::{Answer, answer_of};
+use best_monitor::{Board, MonitorPort, PortStop, Reply, Request, SeatPort};
 use best_turn::{Front, Replays, Seat, Turn};
 use cbl_base::{NoMemory, Numbers, Text};
 use std::alloc::Global;
@@ -29,9 +28,16 @@ fn board_of_one(alloc: Global) -> Result<Board, NoMemory>
 fn report(alloc: Global, value: i64, list: &[i64]) -> Result<Request, NoMemory>
     ensures { IfOk result (λ q. monitor_of q ≡ 0) }
 {
+    report_pair(alloc, value, 0, list)
+}
+
+fn report_pair(alloc: Global, value: i64, second: i64, list: &[i64]) -> Result<Request, NoMemory>
+    ensures { IfOk result (λ q. monitor_of q ≡ 0) }
+{
     Ok(Request::Report {
         monitor: 0,
         value,
+        second,
         list: Numbers::from_slice(alloc, list)?,
     })
 }
@@ -46,6 +52,93 @@ fn an_equal_report_does_not_replace(rt: HostRuntime) -> Result<(), Fail> {
     let (reply, front) = seat.call(&rt, &turn, 0, report(rt.alloc(), 5, &[2])?)?;
     assert!(rt; matches!(reply, Reply::Truth(false)));
     assert_eq!(rt; front, Front(2));
+    Ok(())
+}
+
+// A report of a pair, whether it replaces the best, and the best pair after it.
+struct PairRow {
+    value: i64,
+    second: i64,
+    replaces: bool,
+    best_value: i64,
+    best_second: i64,
+}
+
+// Values decide, and second values between equal values. An equal pair isn't replaced.
+static PAIRS: [PairRow; 7] = [
+    PairRow {
+        value: 5,
+        second: 7,
+        replaces: true,
+        best_value: 5,
+        best_second: 7,
+    },
+    PairRow {
+        value: 5,
+        second: 7,
+        replaces: false,
+        best_value: 5,
+        best_second: 7,
+    },
+    PairRow {
+        value: 5,
+        second: 8,
+        replaces: false,
+        best_value: 5,
+        best_second: 7,
+    },
+    PairRow {
+        value: 5,
+        second: 6,
+        replaces: true,
+        best_value: 5,
+        best_second: 6,
+    },
+    PairRow {
+        value: 6,
+        second: -9,
+        replaces: false,
+        best_value: 5,
+        best_second: 6,
+    },
+    PairRow {
+        value: 4,
+        second: 9,
+        replaces: true,
+        best_value: 4,
+        best_second: 9,
+    },
+    PairRow {
+        value: i64::MIN,
+        second: i64::MAX,
+        replaces: true,
+        best_value: i64::MIN,
+        best_second: i64::MAX,
+    },
+];
+
+#[test]
+fn the_least_pair_stays(rt: HostRuntime) -> Result<(), Fail> {
+    let mut board = board_of_one(rt.alloc())?;
+    assert_eq!(rt;
+        answer_of(board.reply(&Request::Second { monitor: 0 })?),
+        Answer::Missing
+    );
+    for row in &PAIRS {
+        let report = report_pair(rt.alloc(), row.value, row.second, &[])?;
+        assert_eq!(rt;
+            answer_of(board.reply(&report)?),
+            Answer::Truth(row.replaces)
+        );
+        assert_eq!(rt;
+            answer_of(board.step(&report)?),
+            Answer::Truth(row.replaces)
+        );
+        let value = board.reply(&Request::Value { monitor: 0 })?;
+        assert_eq!(rt; answer_of(value), Answer::Number(row.best_value));
+        let second = board.reply(&Request::Second { monitor: 0 })?;
+        assert_eq!(rt; answer_of(second), Answer::Number(row.best_second));
+    }
     Ok(())
 }
 
@@ -187,29 +280,6 @@ fn a_seat_keeps_the_order_of_its_iterations(rt: HostRuntime) -> Result<(), Fail>
     for (entry, iteration) in history.iter().zip(iterations) {
         assert_eq!(rt; entry.iteration, iteration);
     }
-    Ok(())
-}
-
-#[test]
-fn a_journal_keeps_its_loops(rt: HostRuntime) -> Result<(), Fail> {
-    let mut journal = Journal::new(rt.alloc());
-    assert!(rt; journal.is_empty());
-    let mut entries = Vec::new(rt.alloc());
-    entries.push(best_turn::Entry {
-        iteration: 3,
-        request: Request::Has { monitor: 0 },
-        reply: Reply::Truth(false),
-    })?;
-    journal.push(LoopHistory {
-        iterations: 4,
-        entries: Entries::from_vec(entries),
-    })?;
-    assert_eq!(rt; journal.len(), 1);
-    let Some(history) = journal.get(0) else {
-        return Err(Fail::new("no loop"));
-    };
-    assert_eq!(rt; (history.iterations, history.entries.len()), (4, 1));
-    assert!(rt; journal.get(1).is_none());
     Ok(())
 }
 
