@@ -26,12 +26,7 @@ fn take(room: u64) -> DeskRequest {
 }
 
 // Whether a port stopped on this line, and said this.
-fn differs(
-    answer: &Result<Reply, PortStop>,
-    line: u64,
-    expected: &str,
-    found: &str,
-) -> bool {
+fn differs(answer: &Result<Reply, PortStop>, line: u64, expected: &str, found: &str) -> bool {
     match answer {
         Err(PortStop::Differs(on, asked, had)) => {
             *on == line && is_text(asked, expected) && is_text(had, found)
