@@ -1,4 +1,4 @@
-//! What seats and threads do with turns, claims, monitors, loops and journals.
+//! What seats and threads do with turns, claims, monitors, desks, loops and journals.
 //!
 //! It has tests alone, so that the crates that they speak of are proved once and not twice.
 #![tactic(auto)]
@@ -8,6 +8,8 @@ mod answers;
 #[cfg(test)]
 mod claims;
 #[cfg(test)]
+mod desk_loops;
+#[cfg(test)]
 mod journals;
 #[cfg(test)]
 mod loops;
@@ -15,6 +17,8 @@ mod loops;
 mod monitors;
 #[cfg(test)]
 mod pools;
+#[cfg(test)]
+mod replays;
 #[cfg(test)]
 mod sleepers;
 #[cfg(test)]

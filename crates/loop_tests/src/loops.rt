@@ -1,8 +1,8 @@
 //! The loop of four reports over one monitor, and a gate that shows that iterations run beside each other.
-ghost use Rattle.std.specs.Prelude.{◌≡◌, ◌<◌, ◌≤◌, length, IfOk, IfSome, is_none};
-ghost use Rattle.loop_tests.specs.Asking.{asks_of, report_of, truth_of};
+ghost use Rattle.std.specs.Prelude.{◌≡◌, ◌<◌, ◌≤◌, length, IfOk};
+ghost use Rattle.loop_tests.specs.Asking.{asks_of, report_of, is_yes, stop_of};
 
-use best_monitor::{Board, MonitorPort, Reply, Request};
+use best_monitor::{Board, MonitorPort, PortStop, Reply, Request};
 use best_turn::Replays;
 use cbl_base::{NoMemory, Numbers};
 use parall_loop::{Gate, IterBody, LoopResult, OpenGate, run_loop};
@@ -14,7 +14,7 @@ use std::thread;
 use std::thread::Threads;
 
 // Each iteration reports its value, with the number behind its own as its list, and ends with whether the best was
-// replaced. Without memory it ends with `None`.
+// replaced.
 #[derive(Drop)]
 struct Reports {
     alloc: Global,
@@ -22,47 +22,48 @@ struct Reports {
 }
 
 impl IterBody<Board> for Reports {
-    type Outcome = Option<bool>;
+    type Outcome = Result<bool, PortStop>;
 
     ghost asks = { λ b k replies. asks_of b.values.items k replies };
 
-    ghost is_cut = { λ outcome. is_none outcome };
+    ghost stop = { λ outcome. stop_of outcome };
 
-    fn run<P: MonitorPort<Board>>(&self, iteration: u32, port: &mut P) -> Option<bool> {
-        let Some(request) = self.report(iteration) else {
-            return None;
+    fn run<P: MonitorPort<Board>>(
+        &self,
+        iteration: u32,
+        mut port: P,
+    ) -> (P, Result<bool, PortStop>) {
+        let Ok(request) = self.report(iteration) else {
+            return (port, Err(PortStop::NoMemory));
         };
-        let Ok(reply) = port.ask(request) else {
-            return None;
-        };
-        truth(&reply)
+        match port.ask(request) {
+            Ok(reply) => (port, Ok(says_yes(&reply))),
+            Err(stop) => (port, Err(stop)),
+        }
     }
 }
 
 impl Reports {
-    fn report(&self, iteration: u32) -> Option<Request>
-        ensures { IfSome result (λ q. q ≡ report_of self.now.values.items iteration) }
+    fn report(&self, iteration: u32) -> Result<Request, NoMemory>
+        ensures { IfOk result (λ q. q ≡ report_of self.now.values.items iteration) }
     {
         let value = self.values.get(iteration as usize).copied().unwrap_or(0);
         let list = [i64::from(iteration) + 1];
-        let Ok(list) = Numbers::from_slice(self.alloc, &list) else {
-            return None;
-        };
-        Some(Request::Report {
+        let list = Numbers::from_slice(self.alloc, &list)?;
+        Ok(Request::Report {
             monitor: 0,
             value,
+            second: 0,
             list,
         })
     }
 }
 
-fn truth(reply: &Reply) -> Option<bool>
-    ensures { result ≡ truth_of reply.now }
+/// Whether a reply says yes.
+pub(crate) fn says_yes(reply: &Reply) -> bool
+    ensures { result ≡ is_yes reply.now }
 {
-    match reply {
-        Reply::Truth(holds) => Some(*holds),
-        _ => None,
-    }
+    matches!(reply, Reply::Truth(true))
 }
 
 fn board_of_one(alloc: Global) -> Result<Board, NoMemory>
@@ -80,7 +81,7 @@ pub(crate) fn report_all<G: Gate + Sync, R: Threads + Wait + Sync>(
     gate: &G,
     n: u32,
     workers: u32,
-) -> Result<LoopResult<Board, Option<bool>>, NoMemory>
+) -> Result<LoopResult<Board, Result<bool, PortStop>>, NoMemory>
     requires { (1 ≤ workers) × (workers ≤ 64) }
 {
     let mut values = Vec::new(alloc);
@@ -94,7 +95,7 @@ pub(crate) fn report_all<G: Gate + Sync, R: Threads + Wait + Sync>(
 // the least value is the best at the end, with the list of its report.
 fn is_told_as_asked(
     alloc: Global,
-    left: &LoopResult<Board, Option<bool>>,
+    left: &LoopResult<Board, Result<bool, PortStop>>,
 ) -> Result<bool, NoMemory> {
     let mut board = board_of_one(alloc)?;
     let mut seen = [false; 4];
@@ -110,8 +111,8 @@ fn is_told_as_asked(
             return Ok(false);
         }
         seen[k] = true;
-        let reply = truth(&board.step(&entry.request)?);
-        if truth(&entry.reply) != reply || left.outcomes.get(k).copied() != Some(reply) {
+        let reply = says_yes(&board.step(&entry.request)?);
+        if says_yes(&entry.reply) != reply || !ended_with(left.outcomes.get(k), reply) {
             return Ok(false);
         }
     }
@@ -119,6 +120,13 @@ fn is_told_as_asked(
         return Ok(false);
     }
     has_best(&board, 0, 3)
+}
+
+fn ended_with(outcome: Option<&Result<bool, PortStop>>, reply: bool) -> bool {
+    match outcome {
+        Some(Ok(said)) => *said == reply,
+        _ => false,
+    }
 }
 
 // Whether the one monitor's best is this value, with a list of just this number.
@@ -139,7 +147,7 @@ fn has_best(board: &Board, value: i64, number: i64) -> Result<bool, NoMemory>
 }
 
 // Whether the entries of the iterations stand one iteration after the other.
-fn is_in_order(left: &LoopResult<Board, Option<bool>>) -> bool {
+fn is_in_order(left: &LoopResult<Board, Result<bool, PortStop>>) -> bool {
     let mut latest = 0;
     for entry in left.history.iter() {
         if entry.iteration < latest {
@@ -156,8 +164,8 @@ fn one_worker_reports_in_order(rt: HostRuntime) -> Result<(), Fail> {
     assert!(rt; is_told_as_asked(rt.alloc(), &left)?);
     assert!(rt; is_in_order(&left));
     assert_eq!(rt; left.outcomes.len(), 4);
-    assert_eq!(rt; left.outcomes[2], Some(true));
-    assert_eq!(rt; left.outcomes[3], Some(false));
+    assert!(rt; matches!(left.outcomes[2], Ok(true)));
+    assert!(rt; matches!(left.outcomes[3], Ok(false)));
     Ok(())
 }
 
