@@ -207,7 +207,11 @@ fn refuses_texts_without_tokens(rt: HostRuntime) {
             col: *col,
         };
         let stop = lex(rt.alloc(), text).err();
-        assert_eq!(rt; stop, Some(LexStop::Fault(place, *cause)), "at {line}:{col}");
+        assert_eq!(rt;
+            stop,
+            Some(LexStop::Fault(place, *cause)),
+            "at {line}:{col}"
+        );
     }
 }
 

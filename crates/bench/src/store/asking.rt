@@ -6,12 +6,12 @@ ghost use Rattle.bench.specs.Lists.{moves_in};
 ghost use Rattle.inc_store.specs.Views.{IsUsable, graph_in, value_at, count_of};
 
 use crate::draws::Draws;
+use crate::stop::Stop;
 use crate::store::linking::store_of;
 use crate::store::moves::{Shape, lists_of};
 use crate::store::one_list::Moves;
 use crate::store::pieces::Piece;
 use crate::store::queens::start_of;
-use crate::stop::Stop;
 use cbl_base::{Input, NodeId, NodeRule, Steps};
 use inc_store::Store;
 use node_base::OverNumbers;

@@ -5,10 +5,10 @@ ghost use Rattle.store_turns.specs.Meaning.{ids_of, lists_of};
 ghost use Rattle.inc_store.specs.Views.{IsUsable, graph_in};
 ghost use Rattle.bench.specs.Parts.{AreLists, FreeBelow, is_below, AreTaken, is_list, is_none};
 
+use crate::stop::Stop;
 use crate::store::parts::{Part, nodes_of, takes};
 use crate::store::pieces::Piece;
 use crate::store::queens::queens;
-use crate::stop::Stop;
 use cbl_base::{NoMemory, NodeId, NodeRule};
 use inc_store::Store;
 use layer_plan::plan;

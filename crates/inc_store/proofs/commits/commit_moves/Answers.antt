@@ -34,9 +34,9 @@ run-requires g c κs within = (
     (
       c.requires.1.1.0,
       (
-            subst (λ (rs : List Rule). IsFrame rs c.args.frame.now g.given.trace.kinds) c.requires.1.1.1.0 (subst (λ (tr : Trace). IsFrame g.given.rules c.args.frame.now tr.kinds) (sym c.requires.1.1.1.1.1.0) c.requires.1.1.1.1.1.1.0.framed),
-            subst (λ (rs : List Rule). InCourse rs (map g.N.NodeRule.held c.args.nodes.now.items) c.args.frame.now g.given.trace c.move_all.new.cells c.move_all.new.course (NotBefore first_front (layer_of c.args.frame.now)) (c.move_all.new.steps + 1)) c.requires.1.1.1.0
-                (subst (λ (hs : List (List Input)). InCourse g.given.rules hs c.args.frame.now g.given.trace c.move_all.new.cells c.move_all.new.course (NotBefore first_front (layer_of c.args.frame.now)) (c.move_all.new.steps + 1)) c.requires.1.1.1.1.0 c.in_ok-move_all.ensures.course),
+        subst (λ (rs : List Rule). IsFrame rs c.args.frame.now g.given.trace.kinds) c.requires.1.1.1.0 (subst (λ (tr : Trace). IsFrame g.given.rules c.args.frame.now tr.kinds) (sym c.requires.1.1.1.1.1.0) c.requires.1.1.1.1.1.1.0.framed),
+        subst (λ (rs : List Rule). InCourse rs (map g.N.NodeRule.held c.args.nodes.now.items) c.args.frame.now g.given.trace c.move_all.new.cells c.move_all.new.course (NotBefore first_front (layer_of c.args.frame.now)) (c.move_all.new.steps + 1)) c.requires.1.1.1.0
+            (subst (λ (hs : List (List Input)). InCourse g.given.rules hs c.args.frame.now g.given.trace c.move_all.new.cells c.move_all.new.course (NotBefore first_front (layer_of c.args.frame.now)) (c.move_all.new.steps + 1)) c.requires.1.1.1.1.0 c.in_ok-move_all.ensures.course),
       ),
     ),
   ),

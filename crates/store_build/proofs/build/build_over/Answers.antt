@@ -25,9 +25,9 @@ build_layers-requires g c κs within = (
       c.requires.1.1.1.1,
       (
         c.requires.1.1.1.0.shape.layers,
-            subst (λ (n : ℕ). IsGrouped g.N.NodeRule.rule g.aim.rules c.args.frame.first c.args.frame.layers.items n c.in_ok-groups.groups.items) c.requires.1.1.1.0.layers
-                (subst (λ (ls : List ℕ). IsGrouped g.N.NodeRule.rule g.aim.rules c.args.frame.first ls (length ls) c.in_ok-groups.groups.items) c.deref.ensures.value
-                (subst (λ (rs : List Rule). IsGrouped g.N.NodeRule.rule rs c.args.frame.first c.deref.result.now (length c.deref.result.now) c.in_ok-groups.groups.items) (sym c.requires.1.1.0) c.in_ok-groups.ensures)),
+        subst (λ (n : ℕ). IsGrouped g.N.NodeRule.rule g.aim.rules c.args.frame.first c.args.frame.layers.items n c.in_ok-groups.groups.items) c.requires.1.1.1.0.layers
+            (subst (λ (ls : List ℕ). IsGrouped g.N.NodeRule.rule g.aim.rules c.args.frame.first ls (length ls) c.in_ok-groups.groups.items) c.deref.ensures.value
+            (subst (λ (rs : List Rule). IsGrouped g.N.NodeRule.rule rs c.args.frame.first c.deref.result.now (length c.deref.result.now) c.in_ok-groups.groups.items) (sym c.requires.1.1.0) c.in_ok-groups.ensures)),
       ),
     ),
   ),
