@@ -66,7 +66,7 @@ impl<U: UserConstraint> KindOf<U> {
     }
 
     /// The node of an operation or a constraint that isn't a user's.
-    fn of_named(alloc: Global, op: &Op) -> Result<KindOf<U>, NoMemory>
+    pub(crate) fn of_named(alloc: Global, op: &Op) -> Result<KindOf<U>, NoMemory>
         requires { is_user op.now ≡ false }
         ensures { IfOk result (λ kind. ⟦<KindOf<U> as NodeRule>⟧.rule kind ≡
             rule_of (users_of None) op.now) }
