@@ -9,7 +9,7 @@ use Rattle.inc_store.proofs.turns.run.Goals as goal
 pub turn-requires : goal.turn-requires
 turn-requires g c κs within =
     let inv = c.loop-turn.invariant in
-    (search (rules, within), (search (rules, within), (c.requires.1.1.0, (c.requires.1.1.1.0, (inv.ready, (inv.frame, (inv.course, inv.high)))))))
+    (search (rules, within), (search (rules, within), (inv.ready, (inv.frame, (inv.course, inv.high)))))
 
 pub returns-in_default-clause-over : goal.returns-in_default-clause-over
 returns-in_default-clause-over g c =

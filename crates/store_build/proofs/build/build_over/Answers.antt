@@ -11,16 +11,10 @@ use Rattle.store_build.proofs.EndLemmas.{fails, built, built_rules, built_ready,
 use Rattle.store_build.proofs.build.build_over.Goals as goal
 
 pub groups_of-requires : goal.groups_of-requires
-groups_of-requires g c = (
-  c.requires.1.1.0,
-  (
-    c.requires.1.1.1.0,
-    (
-      omega (arith, ap length c.requires.1.1.1.1.0, length-map c.args.nodes.items g.N.NodeRule.rule, c.args.nodes.ok.0, c.requires.1.1.1.1.1.0.first, c.requires.1.1.1.1.1.0.layers, ap length c.deref.ensures.value),
-      omega (arith, c.requires.1.1.1.1.1.0.small, c.requires.1.1.1.1.1.0.layers, ap length c.deref.ensures.value),
-    ),
-  ),
-)
+groups_of-requires g c = record {
+  count = omega (arith, ap length c.requires.1.1.0, length-map c.args.nodes.items g.N.NodeRule.rule, c.args.nodes.ok.0, c.requires.1.1.1.0.first, c.requires.1.1.1.0.layers, ap length c.deref.ensures.value);
+  few = omega (arith, c.requires.1.1.1.0.small, c.requires.1.1.1.0.layers, ap length c.deref.ensures.value);
+}
 
 pub build_layers-requires : goal.build_layers-requires
 build_layers-requires g c κs within = (
@@ -28,25 +22,19 @@ build_layers-requires g c κs within = (
   (
     search (rules, within),
     (
-      c.requires.1.1.0,
+      c.requires.1.1.1.1,
       (
-        c.requires.1.1.1.0,
-        (
-          c.requires.1.1.1.1.1.1,
-          (
-            c.requires.1.1.1.1.1.0.shape.layers,
-            subst (λ (n : ℕ). IsGrouped g.N.NodeRule.rule g.aim.rules c.args.frame.first c.args.frame.layers.items n c.in_ok-groups.groups.items) c.requires.1.1.1.1.1.0.layers
+        c.requires.1.1.1.0.shape.layers,
+            subst (λ (n : ℕ). IsGrouped g.N.NodeRule.rule g.aim.rules c.args.frame.first c.args.frame.layers.items n c.in_ok-groups.groups.items) c.requires.1.1.1.0.layers
                 (subst (λ (ls : List ℕ). IsGrouped g.N.NodeRule.rule g.aim.rules c.args.frame.first ls (length ls) c.in_ok-groups.groups.items) c.deref.ensures.value
-                (subst (λ (rs : List Rule). IsGrouped g.N.NodeRule.rule rs c.args.frame.first c.deref.result.now (length c.deref.result.now) c.in_ok-groups.groups.items) (sym c.requires.1.1.1.1.0) c.in_ok-groups.ensures)),
-          ),
-        ),
+                (subst (λ (rs : List Rule). IsGrouped g.N.NodeRule.rule rs c.args.frame.first c.deref.result.now (length c.deref.result.now) c.in_ok-groups.groups.items) (sym c.requires.1.1.0) c.in_ok-groups.ensures)),
       ),
     ),
   ),
 )
 
 pub first_fault-requires : goal.first_fault-requires
-first_fault-requires g c = omega (arith, ap length c.deref-2.ensures.value, c.in_ok-building.ensures.places.outcomes, c.requires.1.1.1.1.1.0.small)
+first_fault-requires g c = omega (arith, ap length c.deref-2.ensures.value, c.in_ok-building.ensures.places.outcomes, c.requires.1.1.1.0.small)
 
 pub returns-in-Some : goal.returns-in-Some
 returns-in-Some g c = record {
@@ -55,18 +43,18 @@ returns-in-Some g c = record {
   frame = tt;
   kept = tt;
   free = tt;
-  fault = fails g.N.NodeRule.rule g.N.NodeRule.held g.N.NodeRule.ready (g.met.N.NodeRule g.world.𝓛 g.world.𝓜 g.world.𝓡 (λ s h. h, λ h. h, λ n h. n h, λ h. h)).one_kind g.aim c.args.frame c.args.start.now c.requires.1.1.1.1.1.0 c.requires.1.1.1.1.1.1 c.in_ok-building.building c.in_ok-building.ensures.places c.in_ok-building.ensures.all c.in-Some.id c.in-Some.fault (subst (λ (os : List (Option Outcome)). IsFirst os c.in-Some.id c.in-Some.fault) c.deref-2.ensures.value c.in-Some.ensures);
+  fault = fails g.N.NodeRule.rule g.N.NodeRule.held g.N.NodeRule.ready g.met.N.NodeRule.one_kind g.aim c.args.frame c.args.start.now c.requires.1.1.1.0 c.requires.1.1.1.1 c.in_ok-building.building c.in_ok-building.ensures.places c.in_ok-building.ensures.all c.in-Some.id c.in-Some.fault (subst (λ (os : List (Option Outcome)). IsFirst os c.in-Some.id c.in-Some.fault) c.deref-2.ensures.value c.in-Some.ensures);
 }
 
 pub returns-in_ok-nodes-in-None : goal.returns-in_ok-nodes-in-None
 returns-in_ok-nodes-in-None g c =
     let none : NoneFails c.in_ok-building.building.outcomes.items = subst (λ (os : List (Option Outcome)). NoneFails os) c.deref-2.ensures.value c.in-None.ensures in
     record {
-      ready = subst (λ (ns : List g.row.N.Denot). All g.N.NodeRule.ready ns) (sym c.in_ok-nodes-in-None.ensures) (built_ready g.N.NodeRule.rule g.N.NodeRule.held g.N.NodeRule.ready (g.met.N.NodeRule g.world.𝓛 g.world.𝓜 g.world.𝓡 (λ s h. h, λ h. h, λ n h. n h, λ h. h)).one_kind g.aim c.args.frame c.args.start.now c.requires.1.1.1.1.1.0 c.requires.1.1.1.1.1.1 c.in_ok-building.building c.in_ok-building.ensures.places c.in_ok-building.ensures.all none);
-      rules = ap (map g.N.NodeRule.rule) c.in_ok-nodes-in-None.ensures ∙ built_rules g.N.NodeRule.rule g.N.NodeRule.held g.N.NodeRule.ready (g.met.N.NodeRule g.world.𝓛 g.world.𝓜 g.world.𝓡 (λ s h. h, λ h. h, λ n h. n h, λ h. h)).one_kind g.aim c.args.frame c.args.start.now c.requires.1.1.1.1.1.0 c.requires.1.1.1.1.1.1 c.in_ok-building.building c.in_ok-building.ensures.places c.in_ok-building.ensures.all none;
+      ready = subst (λ (ns : List g.row.N.Denot). All g.N.NodeRule.ready ns) (sym c.in_ok-nodes-in-None.ensures) (built_ready g.N.NodeRule.rule g.N.NodeRule.held g.N.NodeRule.ready g.met.N.NodeRule.one_kind g.aim c.args.frame c.args.start.now c.requires.1.1.1.0 c.requires.1.1.1.1 c.in_ok-building.building c.in_ok-building.ensures.places c.in_ok-building.ensures.all none);
+      rules = ap (map g.N.NodeRule.rule) c.in_ok-nodes-in-None.ensures ∙ built_rules g.N.NodeRule.rule g.N.NodeRule.held g.N.NodeRule.ready g.met.N.NodeRule.one_kind g.aim c.args.frame c.args.start.now c.requires.1.1.1.0 c.requires.1.1.1.1 c.in_ok-building.building c.in_ok-building.ensures.places c.in_ok-building.ensures.all none;
       frame = refl;
       kept = subst (λ (ns : List g.row.N.Denot). IsKept g.aim.rules (map g.N.NodeRule.held ns) c.args.frame c.in_ok-values-in-None.values.items) (sym c.in_ok-nodes-in-None.ensures)
-          (subst (λ (xs : List Input). IsKept g.aim.rules (map g.N.NodeRule.held (all_there c.in_ok-building.building.nodes.items)) c.args.frame xs) (sym c.in_ok-values-in-None.ensures) (built g.N.NodeRule.rule g.N.NodeRule.held g.N.NodeRule.ready (g.met.N.NodeRule g.world.𝓛 g.world.𝓜 g.world.𝓡 (λ s h. h, λ h. h, λ n h. n h, λ h. h)).one_kind g.aim c.args.frame c.args.start.now c.requires.1.1.1.1.1.0 c.requires.1.1.1.1.1.1 c.in_ok-building.building c.in_ok-building.ensures.places c.in_ok-building.ensures.all none));
-      free = λ j lt e. ap (λ (xs : List Input). cell_of xs j) c.in_ok-values-in-None.ensures ∙ free_is g.N.NodeRule.rule g.N.NodeRule.held g.N.NodeRule.ready (g.met.N.NodeRule g.world.𝓛 g.world.𝓜 g.world.𝓡 (λ s h. h, λ h. h, λ n h. n h, λ h. h)).one_kind g.aim c.args.frame c.args.start.now c.requires.1.1.1.1.1.0 c.requires.1.1.1.1.1.1 c.in_ok-building.building c.in_ok-building.ensures.places c.in_ok-building.ensures.all none j lt e;
+          (subst (λ (xs : List Input). IsKept g.aim.rules (map g.N.NodeRule.held (all_there c.in_ok-building.building.nodes.items)) c.args.frame xs) (sym c.in_ok-values-in-None.ensures) (built g.N.NodeRule.rule g.N.NodeRule.held g.N.NodeRule.ready g.met.N.NodeRule.one_kind g.aim c.args.frame c.args.start.now c.requires.1.1.1.0 c.requires.1.1.1.1 c.in_ok-building.building c.in_ok-building.ensures.places c.in_ok-building.ensures.all none));
+      free = λ j lt e. ap (λ (xs : List Input). cell_of xs j) c.in_ok-values-in-None.ensures ∙ free_is g.N.NodeRule.rule g.N.NodeRule.held g.N.NodeRule.ready g.met.N.NodeRule.one_kind g.aim c.args.frame c.args.start.now c.requires.1.1.1.0 c.requires.1.1.1.1 c.in_ok-building.building c.in_ok-building.ensures.places c.in_ok-building.ensures.all none j lt e;
       fault = tt;
     }

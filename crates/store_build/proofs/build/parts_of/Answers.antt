@@ -35,16 +35,10 @@ build_over-requires g c κs within =
       (
         search (rules, within),
         (
-          c.type_bounds.send-N,
+          refl,
           (
-            c.type_bounds.sync-N,
-            (
-              refl,
-              (
-                is_laid,
-                aimed (map g.N.NodeRule.rule c.args.nodes.items) (record { first = length c.args.start.now; inputs = c.args.links.inputs; layers = c.in_ok-list.list; uses = c.in_ok-uses.uses; cones = c.in_ok-cones.cones }) c.args.start.now is_laid refl c.requires.takes,
-              ),
-            ),
+            is_laid,
+            aimed (map g.N.NodeRule.rule c.args.nodes.items) (record { first = length c.args.start.now; inputs = c.args.links.inputs; layers = c.in_ok-list.list; uses = c.in_ok-uses.uses; cones = c.in_ok-cones.cones }) c.args.start.now is_laid refl c.requires.takes,
           ),
         ),
       ),

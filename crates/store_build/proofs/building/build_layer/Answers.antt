@@ -13,41 +13,29 @@ gather-requires g c κs within = (
   (
     c.requires.1.1.0,
     (
-      c.requires.1.1.1.0,
-      (
-        c.requires.1.1.1.1.0,
-        (
-          c.requires.1.1.1.1.1.0.outcomes,
-          c.requires.1.1.1.1.1.1,
-        ),
-      ),
+      c.requires.1.1.1.0.outcomes,
+      c.requires.1.1.1.1,
     ),
   ),
 )
 
 pub reset-requires : goal.reset-requires
-reset-requires g c = takes_all g.N.NodeRule.rule g.N.NodeRule.held g.N.NodeRule.ready g.aim c.args.frame.now c.requires.1.1.1.1.0.takes c.in_ok-gathered.gathered.ids.items c.in_ok-gathered.gathered.jobs.items c.in_ok-gathered.ensures.tasks
+reset-requires g c = takes_all g.N.NodeRule.rule g.N.NodeRule.held g.N.NodeRule.ready g.aim c.args.frame.now c.requires.1.1.0.takes c.in_ok-gathered.gathered.ids.items c.in_ok-gathered.gathered.jobs.items c.in_ok-gathered.ensures.tasks
 
 pub keep_nodes-requires : goal.keep_nodes-requires
 keep_nodes-requires g c κs within = (
   search (rules, within),
   (
-    c.requires.1.1.0,
+    c.requires.1.1.0.computed,
     (
-      c.requires.1.1.1.0,
+      c.requires.1.1.0.count,
       (
-        c.requires.1.1.1.1.0.computed,
+        record { outcomes = c.in_ok-gathered.ensures.places; nodes = c.requires.1.1.1.0.nodes },
         (
-          c.requires.1.1.1.1.0.count,
-          (
-            record { outcomes = c.in_ok-gathered.ensures.places; nodes = c.requires.1.1.1.1.1.0.nodes },
-            (
-              c.in_ok-nodes.ensures.ready,
-              subst (λ (is : List ℕ). AreTasks g.aim c.args.frame.now is (map g.N.NodeRule.rule c.in_ok-nodes.nodes.items) (map g.N.NodeRule.held c.in_ok-nodes.nodes.items)) (sym c.deref.ensures.value)
-                  (subst (λ (rs : List Rule). AreTasks g.aim c.args.frame.now c.in_ok-gathered.gathered.ids.items rs (map g.N.NodeRule.held c.in_ok-nodes.nodes.items)) (sym c.in_ok-nodes.ensures.rules)
-                  (subst (λ (vs : List (List Input)). AreTasks g.aim c.args.frame.now c.in_ok-gathered.gathered.ids.items (map (λ (j : g.row.N.Denot × Vec Input Global). g.N.NodeRule.rule j.0) c.in_ok-gathered.gathered.jobs.items) vs) (sym c.in_ok-nodes.ensures.held) c.in_ok-gathered.ensures.tasks)),
-            ),
-          ),
+          c.in_ok-nodes.ensures.ready,
+          subst (λ (is : List ℕ). AreTasks g.aim c.args.frame.now is (map g.N.NodeRule.rule c.in_ok-nodes.nodes.items) (map g.N.NodeRule.held c.in_ok-nodes.nodes.items)) (sym c.deref.ensures.value)
+              (subst (λ (rs : List Rule). AreTasks g.aim c.args.frame.now c.in_ok-gathered.gathered.ids.items rs (map g.N.NodeRule.held c.in_ok-nodes.nodes.items)) (sym c.in_ok-nodes.ensures.rules)
+              (subst (λ (vs : List (List Input)). AreTasks g.aim c.args.frame.now c.in_ok-gathered.gathered.ids.items (map (λ (j : g.row.N.Denot × Vec Input Global). g.N.NodeRule.rule j.0) c.in_ok-gathered.gathered.jobs.items) vs) (sym c.in_ok-nodes.ensures.held) c.in_ok-gathered.ensures.tasks)),
         ),
       ),
     ),

@@ -19,18 +19,12 @@ answer-found-requires g c κs within =
       (
         search (rules, within),
         (
-          c.type_bounds.send-N,
+          c.requires.usable,
           (
-            c.type_bounds.sync-N,
+            c.requires.empty,
             (
-              c.requires.usable,
-              (
-                c.requires.empty,
-                (
-                  part_is (map g.N.NodeRule.rule c.args.store.now.nodes.items) (map g.N.NodeRule.held c.args.store.now.nodes.items) c.args.store.now.frame c.args.store.now.cells c.requires.usable.2 c.args.moves.now c.args.cone.now c.requires.cone c.requires.target c.as_slice-members.result.now c.as_slice-members.ensures.value,
-                  (refl, (refl, (moves_are (map g.N.NodeRule.rule c.args.store.now.nodes.items) (map g.N.NodeRule.held c.args.store.now.nodes.items) c.args.store.now.frame c.args.store.now.cells c.requires.usable.2 c.args.moves.now c.args.cone.now c.requires.cone c.requires.target c.as_slice-members.result.now c.as_slice-members.ensures.value c.requires.moves, (some, (c.requires.target, (member (map g.N.NodeRule.rule c.args.store.now.nodes.items) (map g.N.NodeRule.held c.args.store.now.nodes.items) c.args.store.now.frame c.args.store.now.cells c.requires.usable.2 c.args.moves.now c.args.cone.now c.requires.cone c.requires.target c.as_slice-members.result.now c.as_slice-members.ensures.value, c.requires.number)))))),
-                ),
-              ),
+              part_is (map g.N.NodeRule.rule c.args.store.now.nodes.items) (map g.N.NodeRule.held c.args.store.now.nodes.items) c.args.store.now.frame c.args.store.now.cells c.requires.usable.2 c.args.moves.now c.args.cone.now c.requires.cone c.requires.target c.as_slice-members.result.now c.as_slice-members.ensures.value,
+              (refl, (refl, (moves_are (map g.N.NodeRule.rule c.args.store.now.nodes.items) (map g.N.NodeRule.held c.args.store.now.nodes.items) c.args.store.now.frame c.args.store.now.cells c.requires.usable.2 c.args.moves.now c.args.cone.now c.requires.cone c.requires.target c.as_slice-members.result.now c.as_slice-members.ensures.value c.requires.moves, (some, (c.requires.target, (member (map g.N.NodeRule.rule c.args.store.now.nodes.items) (map g.N.NodeRule.held c.args.store.now.nodes.items) c.args.store.now.frame c.args.store.now.cells c.requires.usable.2 c.args.moves.now c.args.cone.now c.requires.cone c.requires.target c.as_slice-members.result.now c.as_slice-members.ensures.value, c.requires.number)))))),
             ),
           ),
         ),

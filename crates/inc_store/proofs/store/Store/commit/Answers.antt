@@ -8,24 +8,18 @@ commit_moves-requires g c κs within = (
   (
     search (rules, within),
     (
-      c.type_bounds.send-N,
+      c.requires.usable.1,
       (
-        c.type_bounds.sync-N,
+        refl,
         (
-          c.requires.usable.1,
+          refl,
           (
             refl,
             (
-              refl,
+              c.requires.usable.2,
               (
-                refl,
-                (
-                  c.requires.usable.2,
-                  (
-                    c.requires.moves,
-                    some_there (length c.args.moves.now) (sym c.is_empty.ensures ∙ c.if-is_empty.false),
-                  ),
-                ),
+                c.requires.moves,
+                some_there (length c.args.moves.now) (sym c.is_empty.ensures ∙ c.if-is_empty.false),
               ),
             ),
           ),
