@@ -46,7 +46,7 @@ use Rattle.store_laws.proofs.Failing.{repeat_fails, repeat_has, whole_fails, who
 pub of_variables : (M : Model) (a : List ℤ) (change : Move) (ms : List (VarId × ℤ)) → IsMoveOf a change ms → IsProper M change → AreOfVariables M ms
 of_variables M a (Assign var value) ms is own = subst (λ ns. AreOfVariables M ns) (sym is.2) (subst (λ i. i < variables_of M) (sym is.1) own, tt)
 of_variables M a (Swap left right) ms is own =
-    subst (λ ns. AreOfVariables M ns) (sym is.4) (subst (λ i. i < variables_of M) (sym is.2) own.1, subst (λ i. i < variables_of M) (sym is.3) own.0, tt)
+    subst (λ ns. AreOfVariables M ns) (sym is.4) (subst (λ i. i < variables_of M) (sym is.2) own.1, (subst (λ i. i < variables_of M) (sym is.3) own.0, tt))
 
 moved_numbers : (a : List ℤ) (move : Move) (ms : List (VarId × ℤ)) → IsMoveOf a move ms → numbers_after ms a ≡ moved a move
 moved_numbers a (Assign var value) ms is = ap (λ ns. numbers_after ns a) is.2 ∙ ap (λ i. slice_set a i value) is.1
