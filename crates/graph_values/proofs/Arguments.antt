@@ -32,7 +32,7 @@ all_same p q f [] h = refl
 all_same p q f (x ∷ xs) h = let parts = and_parts (p x) (list_all p xs) h in both (q x) (list_all q xs) (f x parts.0) (all_same p q f xs parts.1)
 
 -- ---- a term that is known behind others
-any_back : (p : Term → Bool) (more ts : List Term) → list_any p ts ≡ true → list_any p (more ++ ts) ≡ true
+pub any_back : (p : Term → Bool) (more ts : List Term) → list_any p ts ≡ true → list_any p (more ++ ts) ≡ true
 any_back p more ts h = any_append p more ts ∙ other (list_any p more) (list_any p ts) h
   where
     other : (a b : Bool) → b ≡ true → (a || b) ≡ true
@@ -45,10 +45,10 @@ known_back_by more ts t (Term-F.ConstSet s) h = any_back (same_term t) more ts h
 known_back_by more ts t (Term-F.Var v) h = refl
 known_back_by more ts t (Term-F.Node op args place) h = any_back (same_term t) more ts h
 
-known_back : (more ts : List Term) (t : Term) → is_known ts t ≡ true → is_known (more ++ ts) t ≡ true
+pub known_back : (more ts : List Term) (t : Term) → is_known ts t ≡ true → is_known (more ++ ts) t ≡ true
 known_back more ts t h = known_back_by more ts t (out-Term t) h
 
-known_of_node : (ts : List Term) (t : Term) (y : Term-F Term) → IsNode y → is_known_by ts t y ≡ list_any (same_term t) ts
+pub known_of_node : (ts : List Term) (t : Term) (y : Term-F Term) → IsNode y → is_known_by ts t y ≡ list_any (same_term t) ts
 known_of_node ts t (Term-F.Const x) own = refl
 known_of_node ts t (Term-F.ConstSet s) own = refl
 known_of_node ts t (Term-F.Var v) own = absurd own
@@ -69,7 +69,7 @@ placed_both : (ts us : List Term) → All (IsPlaced ts) ts → All (IsPlaced us)
 placed_both ts us all others = All-append (IsPlaced (ts ++ us)) ts us (placed_front ts us ts all) (placed_back ts us us others)
 
 -- ---- so it is in each term
-abbrev IsClosed : Term → Type 0
+abbrev pub IsClosed : Term → Type 0
 IsClosed t = All (IsPlaced (subterms t)) (subterms t) × (is_known (subterms t) t ≡ true)
 
 abbrev Closed : Type 0
@@ -111,7 +111,7 @@ closed_layer (Term-F.Node op args place) =
     let z = map-Term Closed Term (λ e. e.0) (Term-F.Node op args place) in
     one_closed (subterms (roll-Term z)) (all_below (terms_of args.items)) (roll-Term z) z (subterms_roll z) (out-roll-Term z) tt (arguments_placed args.items) (arguments_known args.items)
 
-closed : (t : Term) → IsClosed t
+pub closed : (t : Term) → IsClosed t
 closed = ind-Term IsClosed (λ x y is. subst (λ z. IsClosed (roll-Term z)) is (closed_layer y))
 
 -- ---- so it is in all that was posted
@@ -119,7 +119,7 @@ placed_where : (t : Option Term) → All (IsPlaced (subterms_where t)) (subterms
 placed_where (Some t) = (closed t).0
 placed_where None = All-nil (IsPlaced [])
 
-placed_posted : (M : Model) (posted : List Posted) → All (IsPlaced (subterms_posted M posted)) (subterms_posted M posted)
+pub placed_posted : (M : Model) (posted : List Posted) → All (IsPlaced (subterms_posted M posted)) (subterms_posted M posted)
 placed_posted M [] = All-nil (IsPlaced [])
 placed_posted M (p ∷ posted) = placed_both (subterms_where (term_posted M p)) (subterms_posted M posted) (placed_where (term_posted M p)) (placed_posted M posted)
 

@@ -17,6 +17,7 @@ use Rattle.model_values.specs.VarOutcomes.{outcome_of_var}
 use Rattle.model_values.specs.declared.failure.Failure.{Failure}
 use Rattle.store_build.specs.Aims.{start_of}
 use Rattle.store_build.specs.Stops.{FailsFirst}
+use Rattle.store_build.proofs.GatherLemmas.{past_first, before_first}
 use Rattle.store_turns.specs.Meaning.{Graph, IsMeaning}
 use Rattle.store_turns.specs.declared.outcome.Outcome.{Outcome}
 use Rattle.store_turns.specs.declared.outcome.Outcome.TheVariants.{Value, Fails, Missing}
@@ -27,11 +28,12 @@ use Rattle.term_model.specs.declared.model.Model.{Model}
 use Rattle.term_model.specs.declared.term.Term.{Term}
 use Rattle.term_model.specs.declared.term.Term.TheOpen.{Term-F}
 use Rattle.term_model.specs.declared.term.Term.TheViews.{out-Term}
-use Rattle.graph_values.specs.Graphs.{HoldsTerms, cells_of, count_of, term_at}
+use Rattle.graph_values.specs.Graphs.{HoldsTerms, count_of, term_at}
 use Rattle.term_graph.specs.Heads.{place_by, place_of}
 use Rattle.graph_values.specs.LeastFaults.{IsLeast, least_failure, place_at}
-use Rattle.graph_values.specs.Outcomes.{came_to, fresh_at, fresh_term, fresh_var}
-use Rattle.graph_values.proofs.FreshMeaning.{at_past, at_place, at_var, outcome_layer}
+use Rattle.graph_values.specs.Outcomes.{came_to, fresh_at, fresh_cell, fresh_term, fresh_var}
+use Rattle.graph_values.specs.Members.{cells_of, numbers_of, variables_of}
+use Rattle.graph_values.proofs.FreshMeaning.{at_cell, at_past, at_place, outcome_layer}
 use Rattle.graph_values.proofs.Held.{same_fresh}
 
 -- ---- the first of a list with a property
@@ -87,7 +89,7 @@ module _ (users : ℕ → NumberRule) (env : ℕ → Option Input) where
   pub failing_placed : (t : Term) (f : Failure) → failure_of users env t ≡ Some f → (outcome_of users env t ≡ None) × (place_of t ≡ Some f.place)
   failing_placed t f e = at_placed t (out-Term t) refl f e
 
-  came_failing : (x : Option Input) (f : Option Failure) (fault : RunFault) → came_to x f ≡ Fails fault → (g : Failure) × (f ≡ Some g) × (g.fault ≡ fault)
+  pub came_failing : (x : Option Input) (f : Option Failure) (fault : RunFault) → came_to x f ≡ Fails fault → (g : Failure) × (f ≡ Some g) × (g.fault ≡ fault)
   came_failing (Some x) f fault e = let c : Value x ≡ Fails fault = e in cc
   came_failing None (Some g) fault e = (g, refl, fails_same g.fault fault e)
     where
@@ -102,7 +104,7 @@ module _ (users : ℕ → NumberRule) (env : ℕ → Option Input) where
   pub fails_of : (t : Term) (fault : RunFault) → fresh_term users env (Some t) ≡ Fails fault → (g : Failure) × (failure_of users env t ≡ Some g) × (g.fault ≡ fault)
   fails_of t fault e = came_failing (outcome_of users env t) (failure_of users env t) fault e
 
-  var_fails : (i : ℕ) (fault : RunFault) → fresh_var env i ≡ Fails fault → ⊥
+  pub var_fails : (i : ℕ) (fault : RunFault) → fresh_var env i ≡ Fails fault → ⊥
   var_fails i fault e = let f = came_failing (env i) None fault e in let c : None ≡ Some f.0 = f.1 in cc
 
   where_fails : (t : Option Term) (fault : RunFault) → fresh_term users env t ≡ Fails fault → (u : Term) × (t ≡ Some u)
@@ -127,10 +129,17 @@ module _ (users : ℕ → NumberRule) (M : Model) (a : List ℤ) (formed : IsWel
   no_less : (k n : ℕ) → (n + k) - n ≡ k
   no_less k n = omega arith
 
+  -- no cell fails
+  cell_fails : (id : ℕ) (fault : RunFault) → id < cells_of M → fresh_cell users M a id ≡ Fails fault → ⊥
+  cell_fails id fault lt e = elim (cases_lt id (variables_of M)) [
+    | inl var ↦ var_fails users env id fault (sym (ap (λ b. cond b (fresh_var env id) (Value (start_of (numbers_of M a) id))) (before_first id (variables_of M) var)) ∙ e)
+    | inr weight ↦ (let c : Value (start_of (numbers_of M a) id) ≡ Fails fault = sym (ap (λ b. cond b (fresh_var env id) (Value (start_of (numbers_of M a) id))) (past_first id (variables_of M) (omega (arith, weight)))) ∙ e in cc)
+  ]
+
   -- an id that fails is that of a failing subterm
   failing_id : (id : ℕ) (fault : RunFault) → fresh_at users M a id ≡ Fails fault → (cells_of M ≤ id) × (t : Term) × (slice_get ts (id - cells_of M) ≡ Some t) × (f : Failure) × (failure_of users env t ≡ Some f) × (f.fault ≡ fault)
   failing_id id fault e = elim (cases_lt id (cells_of M)) [
-    | inl low ↦ absurd (var_fails users env id fault (sym (at_var users M a id low) ∙ e))
+    | inl low ↦ absurd (cell_fails id fault low (sym (at_cell users M a id low) ∙ e))
     | inr high ↦ (let le : cells_of M ≤ id = omega (arith, high) in
         let whole = sym (at_past users M a id le) ∙ e in
         let t = where_fails users env (term_at M id) fault whole in
@@ -147,7 +156,7 @@ module _ (users : ℕ → NumberRule) (M : Model) (a : List ℤ) (formed : IsWel
   -- where one fails, its node is the least failing id of each graph that holds the terms
   module _ (g : Graph) (holds : HoldsTerms users M g) where
     least_in : (k : ℕ) (t : Term) (f : Failure) → slice_get ts k ≡ Some t → failure_of users env t ≡ Some f → ((j : ℕ) (u : Term) → slice_get ts j ≡ Some u → fails users env u ≡ true → k ≤ j) →
-        (o : ℕ → Outcome) → IsMeaning g (start_of a) o → IsLeast M a g (cells_of M + k) f
+        (o : ℕ → Outcome) → IsMeaning g (start_of (numbers_of M a)) o → IsLeast M a g (cells_of M + k) f
     least_in k t f at is least o meaning =
         let own = failing_placed users env t f is in
         let within = slice_get_within ts k t at in
@@ -170,7 +179,7 @@ module _ (users : ℕ → NumberRule) (M : Model) (a : List ℤ) (formed : IsWel
           place = ap (λ i. option_and_then place_of (slice_get ts i)) (no_less k (cells_of M)) ∙ ap (option_and_then place_of) at ∙ own.1;
         }
 
-    pub has_least : (o : ℕ → Outcome) → IsMeaning g (start_of a) o → (f : Failure) → least_failure users M a ≡ Some f → (id : ℕ) × IsLeast M a g id f
+    pub has_least : (o : ℕ → Outcome) → IsMeaning g (start_of (numbers_of M a)) o → (f : Failure) → least_failure users M a ≡ Some f → (id : ℕ) × IsLeast M a g id f
     has_least o meaning f is = by (search_first (fails users env) ts)
       where
         by : Search (fails users env) ts → (id : ℕ) × IsLeast M a g id f
@@ -178,7 +187,7 @@ module _ (users : ℕ → NumberRule) (M : Model) (a : List ℤ) (formed : IsWel
         by (inr h) = let c : None ≡ Some f = sym (ap (option_and_then (failure_of users env)) h.0) ∙ is in cc
 
     -- none that fails stands before the least failing id
-    pub none_before : (id : ℕ) (fault : RunFault) → FailsFirst g (start_of a) id fault → (k : ℕ) (t : Term) → slice_get ts k ≡ Some t → fails users env t ≡ true → id ≤ cells_of M + k
+    pub none_before : (id : ℕ) (fault : RunFault) → FailsFirst g (start_of (numbers_of M a)) id fault → (k : ℕ) (t : Term) → slice_get ts k ≡ Some t → fails users env t ≡ true → id ≤ cells_of M + k
     none_before id fault first k t at is =
         let f = failure_there users env t is in
         let within = slice_get_within ts k t at in
@@ -187,7 +196,7 @@ module _ (users : ℕ → NumberRule) (M : Model) (a : List ℤ) (formed : IsWel
         (same_fresh users M a formed acyclic long g holds first.outcome first.meaning (cells_of M + k) (omega (arith, within)) ∙ at_place users M a k ∙ ap (fresh_term users env) at ∙ term_fails users env t f.0 f.1)
 
     -- and where an id of the terms is the least failing one, it is that of the least numbered failing subterm
-    pub only_least : (id : ℕ) (fault : RunFault) → id < count_of M → FailsFirst g (start_of a) id fault → (f : Failure) × (least_failure users M a ≡ Some f) × (f.fault ≡ fault) × (place_at M id ≡ Some f.place)
+    pub only_least : (id : ℕ) (fault : RunFault) → id < count_of M → FailsFirst g (start_of (numbers_of M a)) id fault → (f : Failure) × (least_failure users M a ≡ Some f) × (f.fault ≡ fault) × (place_at M id ≡ Some f.place)
     only_least id fault below first = by (search_first (fails users env) ts)
       where
         fails_same : (f h : RunFault) → Fails f ≡ Fails h → f ≡ h

@@ -4,6 +4,7 @@ use Rattle.std.specs.Prelude.{slice_index_or}
 use Rattle.std.specs.Option.{option_and_then, option_map}
 use Rattle.std.specs.List.{list_all}
 use Rattle.std.proofs.lemmas.Bool.{cases_lt}
+use Rattle.std.proofs.lemmas.List.{get_or_append_left}
 use Rattle.std.proofs.lemmas.Option.{slice_get-get_or, slice_get_cases}
 use Rattle.cbl_base.specs.NumberRule.{NumberRule}
 use Rattle.cbl_base.specs.declared.faults.RunFault.{RunFault}
@@ -37,12 +38,14 @@ use Rattle.term_model.specs.declared.term.Term.TheViews.{out-Term, roll-Term}
 use Rattle.term_model.specs.declared.term.Term.TheFolds.{fold-roll-Term, map-Term}
 use Rattle.term_model.proofs.EqualTerms.{roll_out}
 use Rattle.term_model.proofs.VarLaws.{definition_found, definition_kinded}
-use Rattle.graph_values.specs.Graphs.{cells_of, count_of, id_of, inputs_of, inputs_of_cell, inputs_of_node, model_graph, term_at, term_defined, value_by, value_of_node}
-use Rattle.graph_values.specs.Outcomes.{came_to, fresh_at, fresh_term, fresh_var}
+use Rattle.graph_values.specs.Graphs.{count_of, id_of, inputs_of, inputs_of_cell, inputs_of_node, model_graph, term_at, term_defined, value_by, value_of_node}
+use Rattle.graph_values.specs.Outcomes.{came_to, fresh_at, fresh_cell, fresh_term, fresh_var}
+use Rattle.graph_values.specs.Members.{cells_of, numbers_of, variables_of, weights_of}
 use Rattle.graph_values.proofs.Arguments.{arguments_there, definition_there}
 use Rattle.graph_values.proofs.Gathering.{value_part, values_gathered}
 use Rattle.graph_values.proofs.KindedTerms.{HasKind, arguments_kinded, subterm_kinded}
 use Rattle.graph_values.proofs.TermIds.{at_id, at_ids}
+use Rattle.graph_values.proofs.WeightCells.{no_definition}
 
 pub map_map : {X Y Z : Type 0} (f : Y → Z) (g : X → Y) (xs : List X) → map f (map g xs) ≡ map (λ x. f (g x)) xs
 map_map f g [] = refl
@@ -77,9 +80,9 @@ module _ (users : ℕ → NumberRule) (env : ℕ → Option Input) where
       ∙ came_by users op place (gathered (map (outcome_of users env) args.items))
 
   -- ---- the values of arguments
-  module _ (M : Model) (o : ℕ → Outcome) (vars : (i : ℕ) → i < cells_of M → value_part (o i) ≡ env i)
+  module _ (M : Model) (o : ℕ → Outcome) (vars : (i : ℕ) → i < variables_of M → value_part (o i) ≡ env i)
       (nodes : (k : ℕ) (u : Term) → slice_get (distinct_subterms M) k ≡ Some u → value_part (o (cells_of M + k)) ≡ outcome_of users env u) where
-    var_value : (t : Term) (v : VarId) → out-Term t ≡ Term-F.Var v → v.index < cells_of M → value_part (o v.index) ≡ outcome_of users env t
+    var_value : (t : Term) (v : VarId) → out-Term t ≡ Term-F.Var v → v.index < variables_of M → value_part (o v.index) ≡ outcome_of users env t
     var_value t v e lt = vars v.index lt ∙ sym (outcome_layer t (Term-F.Var v) e)
 
     pub value_at_id : (t : Term) → is_known (distinct_subterms M) t ≡ true → HasKind M t → value_part (o (id_of M t)) ≡ outcome_of users env t
@@ -105,16 +108,22 @@ module _ (users : ℕ → NumberRule) (M : Model) (a : List ℤ) where
   abbrev env : ℕ → Option Input
   env = outcome_of_var users M a
 
-  pub at_var : (i : ℕ) → i < cells_of M → fresh_at users M a i ≡ fresh_var env i
-  at_var i lt = ap (λ b. cond b (fresh_var env i) (fresh_term users env (term_at M i))) (before_first i (cells_of M) lt)
+  pub at_cell : (i : ℕ) → i < cells_of M → fresh_at users M a i ≡ fresh_cell users M a i
+  at_cell i lt = ap (λ b. cond b (fresh_cell users M a i) (fresh_term users env (term_at M i))) (before_first i (cells_of M) lt)
+
+  pub at_var : (i : ℕ) → i < variables_of M → fresh_at users M a i ≡ fresh_var env i
+  at_var i lt = at_cell i (omega (arith, lt)) ∙ ap (λ b. cond b (fresh_var env i) (Value (start_of (numbers_of M a) i))) (before_first i (variables_of M) lt)
+
+  pub at_weight : (i : ℕ) → variables_of M ≤ i → i < cells_of M → fresh_at users M a i ≡ Value (start_of (numbers_of M a) i)
+  at_weight i le lt = at_cell i lt ∙ ap (λ b. cond b (fresh_var env i) (Value (start_of (numbers_of M a) i))) (past_first i (variables_of M) le)
 
   pub at_past : (id : ℕ) → cells_of M ≤ id → fresh_at users M a id ≡ fresh_term users env (term_at M id)
-  at_past id le = ap (λ b. cond b (fresh_var env id) (fresh_term users env (term_at M id))) (past_first id (cells_of M) le)
+  at_past id le = ap (λ b. cond b (fresh_cell users M a id) (fresh_term users env (term_at M id))) (past_first id (cells_of M) le)
 
   pub at_place : (k : ℕ) → fresh_at users M a (cells_of M + k) ≡ fresh_term users env (slice_get (distinct_subterms M) k)
   at_place k = at_past (cells_of M + k) (omega arith) ∙ ap (λ i. fresh_term users env (slice_get (distinct_subterms M) i)) (no_less k (cells_of M))
 
-  pub vars_at : (i : ℕ) → i < cells_of M → value_part (fresh_at users M a i) ≡ env i
+  pub vars_at : (i : ℕ) → i < variables_of M → value_part (fresh_at users M a i) ≡ env i
   vars_at i lt = ap value_part (at_var i lt) ∙ value_came (env i) None
 
   pub nodes_at : (k : ℕ) (u : Term) → slice_get (distinct_subterms M) k ≡ Some u → value_part (fresh_at users M a (cells_of M + k)) ≡ outcome_of users env u
@@ -144,13 +153,14 @@ module _ (users : ℕ → NumberRule) (M : Model) (a : List ℤ) where
     cell_inputs id lt = ap (λ b. cond b (inputs_of_cell M (term_defined M id)) (inputs_of_node M (term_at M id))) (before_first id (cells_of M) lt)
 
     -- the term of a definition
-    defined_term : (i d : ℕ) → i < cells_of M → definition_of M i ≡ Some d → (t : Term) × (term_of M.defs.items d ≡ Some t) × HasKind M t
+    defined_term : (i d : ℕ) → i < variables_of M → definition_of M i ≡ Some d → (t : Term) × (term_of M.defs.items d ≡ Some t) × HasKind M t
     defined_term i d lt is = let found = definition_found M i d is in (found.0.term, ap (option_map (λ (def : Definition). def.term)) found.1, definition_kinded M formed i lt d found.0 is found.1)
 
-    free_is : (id : ℕ) → id < cells_of M → (entry : Option ℕ) → definition_of M id ≡ entry → is_empty (inputs_of_cell M (option_and_then (term_of M.defs.items) entry)) ≡ true → o id ≡ Value (start_of a id)
+    free_is : (id : ℕ) → id < variables_of M → (entry : Option ℕ) → definition_of M id ≡ entry → is_empty (inputs_of_cell M (option_and_then (term_of M.defs.items) entry)) ≡ true → o id ≡ Value (start_of (numbers_of M a) id)
     free_is id lt None is empty =
         let there : slice_get a id ≡ Some (slice_index_or a id (pos 0)) = slice_get-get_or a id (pos 0) (omega (arith, lt, long)) in
         at_var id lt ∙ ap (λ v. came_to v None) (equals_definition users M a acyclic id lt ∙ ap (outcome_by users M a env id) is ∙ ap (option_map (λ z. Int z)) there)
+        ∙ ap (λ z. Value (Int z)) (sym (get_or_append_left a (weights_of M) (pos 0) id (omega (arith, lt, long))))
     free_is id lt (Some d) is empty =
         let term = defined_term id d lt is in
         let c : false ≡ true = sym (ap (λ u. is_empty (inputs_of_cell M u)) term.1) ∙ empty in cc
@@ -160,7 +170,7 @@ module _ (users : ℕ → NumberRule) (M : Model) (a : List ℤ) where
     one_came (Fails f) v e = ap (λ w. came_to w None) (sym e)
     one_came Missing v e = ap (λ w. came_to w None) (sym e)
 
-    defined_is : (id : ℕ) → id < cells_of M → (entry : Option ℕ) → definition_of M id ≡ entry → is_empty (inputs_of_cell M (option_and_then (term_of M.defs.items) entry)) ≡ false →
+    defined_is : (id : ℕ) → id < variables_of M → (entry : Option ℕ) → definition_of M id ≡ entry → is_empty (inputs_of_cell M (option_and_then (term_of M.defs.items) entry)) ≡ false →
         o id ≡ come_to the_one (values_of (map o (inputs_of_cell M (option_and_then (term_of M.defs.items) entry))))
     defined_is id lt None is empty = let c : true ≡ false = empty in cc
     defined_is id lt (Some d) is empty =
@@ -176,17 +186,28 @@ module _ (users : ℕ → NumberRule) (M : Model) (a : List ℤ) where
     free_test : (id : ℕ) → id < cells_of M → (model_graph users M).is_free id ≡ is_empty (inputs_of_cell M (term_defined M id))
     free_test id lt = ap (λ b. b && is_empty (cond b (inputs_of_cell M (term_defined M id)) (inputs_of_node M (term_at M id)))) (before_first id (cells_of M) lt)
 
+    weight_free : (id : ℕ) → variables_of M ≤ id → is_empty (inputs_of_cell M (term_defined M id)) ≡ true
+    weight_free id le = ap (λ d. is_empty (inputs_of_cell M (option_and_then (term_of M.defs.items) d))) (no_definition M formed id le)
+
     node_test : (id : ℕ) → cells_of M ≤ id → (model_graph users M).is_free id ≡ false
     node_test id le = ap (λ b. b && is_empty (cond b (inputs_of_cell M (term_defined M id)) (inputs_of_node M (term_at M id)))) (past_first id (cells_of M) le)
 
-    pub fresh_is_meaning : IsMeaning (model_graph users M) (start_of a) o
+    pub fresh_is_meaning : IsMeaning (model_graph users M) (start_of (numbers_of M a)) o
     fresh_is_meaning = record {
       cells = λ id lt is. elim (cases_lt id (cells_of M)) [
-        | inl low ↦ free_is id low (definition_of M id) refl (sym (free_test id low) ∙ is)
+        | inl low ↦
+            elim (cases_lt id (variables_of M)) [
+              | inl var ↦ free_is id var (definition_of M id) refl (sym (free_test id low) ∙ is)
+              | inr weight ↦ at_weight id (omega (arith, weight)) low
+            ]
         | inr high ↦ (let c : false ≡ true = sym (node_test id (omega (arith, high))) ∙ is in cc)
       ];
       nodes = λ id lt is. elim (cases_lt id (cells_of M)) [
-        | inl low ↦ defined_is id low (definition_of M id) refl (sym (free_test id low) ∙ is) ∙ sym (cell_computed id low)
+        | inl low ↦
+            elim (cases_lt id (variables_of M)) [
+              | inl var ↦ defined_is id var (definition_of M id) refl (sym (free_test id low) ∙ is) ∙ sym (cell_computed id low)
+              | inr weight ↦ (let c : true ≡ false = sym (weight_free id (omega (arith, weight))) ∙ sym (free_test id low) ∙ is in cc)
+            ]
         | inr high ↦ node_is id (omega (arith, high)) lt
       ];
     }

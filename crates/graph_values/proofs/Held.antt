@@ -12,6 +12,7 @@ use Rattle.term_model.specs.Wellformed.{IsWellFormed}
 use Rattle.term_model.specs.declared.model.Model.{Model}
 use Rattle.graph_values.specs.Graphs.{HoldsTerms, count_of, model_graph}
 use Rattle.graph_values.specs.Outcomes.{fresh_at}
+use Rattle.graph_values.specs.Members.{numbers_of}
 use Rattle.graph_values.proofs.FreshMeaning.{fresh_is_meaning}
 use Rattle.graph_values.proofs.Levels.{are_layers, layer_by}
 
@@ -31,7 +32,7 @@ module _ (users : ℕ → NumberRule) (M : Model) (g : Graph) (holds : HoldsTerm
   }
 
 -- so its ids come to what evaluating the model afresh gives
-module _ (users : ℕ → NumberRule) (M : Model) (a : List ℤ) (formed : IsWellFormed M) (acyclic : IsAcyclic M) (long : length a ≡ length M.vars.items) (g : Graph) (holds : HoldsTerms users M g) (o : ℕ → Outcome) (meaning : IsMeaning g (start_of a) o) where
+module _ (users : ℕ → NumberRule) (M : Model) (a : List ℤ) (formed : IsWellFormed M) (acyclic : IsAcyclic M) (long : length a ≡ length M.vars.items) (g : Graph) (holds : HoldsTerms users M g) (o : ℕ → Outcome) (meaning : IsMeaning g (start_of (numbers_of M a)) o) where
   pub same_fresh : (id : ℕ) → id < count_of M → o id ≡ fresh_at users M a id
   same_fresh =
-      unique (model_graph users M) (layer_by M acyclic) (are_layers users M formed acyclic) (start_of a) o (fresh_at users M a) (held_meaning users M g holds (start_of a) o meaning) (fresh_is_meaning users M a formed acyclic long)
+      unique (model_graph users M) (layer_by M acyclic) (are_layers users M formed acyclic) (start_of (numbers_of M a)) o (fresh_at users M a) (held_meaning users M g holds (start_of (numbers_of M a)) o meaning) (fresh_is_meaning users M a formed acyclic long)

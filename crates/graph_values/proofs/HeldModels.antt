@@ -34,7 +34,8 @@ use Rattle.term_model.specs.declared.posting.Side.{Side}
 use Rattle.term_model.specs.declared.posting.Side.TheVariants.{Systems, Objectives}
 use Rattle.graph_values.specs.Graphs.{count_of, id_of, model_graph}
 use Rattle.graph_values.specs.LeastFaults.{least_failure}
-use Rattle.graph_values.specs.Totals.{HoldsModel, IsAt, NeverFails, came_total, members_of, values_at}
+use Rattle.graph_values.specs.Totals.{HoldsModel, IsAt, NeverFails, came_total, values_at}
+use Rattle.graph_values.specs.Members.{members_of, numbers_of}
 use Rattle.graph_values.proofs.AllValues.{HasValue, all_values, values_there}
 use Rattle.graph_values.proofs.FirstFailing.{only_least}
 use Rattle.graph_values.proofs.Gathering.{value_part}
@@ -111,7 +112,7 @@ module _ (users : ℕ → NumberRule) (M : Model) (a : List ℤ) (formed : IsWel
       ap (λ w. joined w (fresh_sums users M env Systems) (fresh_sums users M env Objectives)) ev ∙ ap (λ w. joined v w (fresh_sums users M env Objectives)) es ∙ ap (λ w. joined v s w) eq
 
   -- ---- where each id has a value
-  module _ (x : ℕ → Input) (meaning : IsMeaning g (start_of a) (λ id. Value (x id))) where
+  module _ (x : ℕ → Input) (meaning : IsMeaning g (start_of (numbers_of M a)) (λ id. Value (x id))) where
     side_fits : (side : Side) (n : ℕ) → (k : ℕ) (t : Total) → slice_get (totals_by M side) k ≡ Some t → sum_in users M env (whole_by side (0 + k)) t.place ≡ Some (Ok (number_of (x (id_of_total (whole_by side (0 + k))))))
     side_fits side n k t at =
         let whole = whole_by side k in
@@ -131,7 +132,7 @@ module _ (users : ℕ → NumberRule) (M : Model) (a : List ℤ) (formed : IsWel
     model_values = fresh_is _ _ _ all_vars (side_sums Systems) (side_sums Objectives)
 
   -- ---- where an id fails
-  module _ (id : ℕ) (fault : RunFault) (first : FailsFirst g (start_of a) id fault) where
+  module _ (id : ℕ) (fault : RunFault) (first : FailsFirst g (start_of (numbers_of M a)) id fault) where
     abbrev o : ℕ → Outcome
     o = first.outcome
 
@@ -156,14 +157,14 @@ module _ (users : ℕ → NumberRule) (M : Model) (a : List ℤ) (formed : IsWel
         by_values None e = let c : Missing ≡ Fails fault = e in cc
 
         by_kind : (k : Bool) → g.is_free id ≡ k → ⊥
-        by_kind true is = let c : Value (start_of a id) ≡ Fails fault = sym (first.meaning.cells id first.here.0 is) ∙ first.here.1 in cc
+        by_kind true is = let c : Value (start_of (numbers_of M a) id) ≡ Fails fault = sym (first.meaning.cells id first.here.0 is) ∙ first.here.1 in cc
         by_kind false is = by_values (values_of (map o (g.inputs id))) (sym (first.meaning.nodes id first.here.0 is) ∙ first.here.1)
 
     -- behind the terms all terms have values, so that each sum is there
     module _ (high : count_of M ≤ id) where
       valued : (j : ℕ) → j < count_of M → HasValue o j
       valued =
-          all_values (model_graph users M) (layer_by M acyclic) (are_layers users M formed acyclic) (start_of a) o (held_meaning users M g holds.terms (start_of a) o first.meaning)
+          all_values (model_graph users M) (layer_by M acyclic) (are_layers users M formed acyclic) (start_of (numbers_of M a)) o (held_meaning users M g holds.terms (start_of (numbers_of M a)) o first.meaning)
           (λ j f lt e. (let size = holds.terms.size in let low = first.least j f (omega (arith, lt, size)) e in absurd (omega (arith, low, lt, high))))
 
       ids_valued : (ms : List Member) → All (IsUsual M) ms → Each (HasValue o) (map (λ m. id_of M m.term) ms)

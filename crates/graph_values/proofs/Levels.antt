@@ -28,10 +28,12 @@ use Rattle.term_model.specs.declared.term.Term.TheFolds.{fold-Term, fold-roll-Te
 use Rattle.term_model.proofs.EqualTerms.{eq_of, roll_out}
 use Rattle.term_model.proofs.SameLaws.{same_roll}
 use Rattle.term_model.proofs.VarLaws.{definition_found, definition_kinded}
-use Rattle.graph_values.specs.Graphs.{cells_of, count_of, id_of, inputs_of_cell, inputs_of_node, model_graph, term_at, term_defined}
+use Rattle.graph_values.specs.Graphs.{count_of, id_of, inputs_of_cell, inputs_of_node, model_graph, term_at, term_defined}
+use Rattle.graph_values.specs.Members.{cells_of, variables_of}
 use Rattle.graph_values.proofs.Arguments.{arguments_there, definition_there}
 use Rattle.graph_values.proofs.KindedTerms.{HasKind, arguments_kinded, subterm_kinded}
 use Rattle.graph_values.proofs.TermIds.{at_id}
+use Rattle.graph_values.proofs.WeightCells.{no_definition}
 
 abbrev Test : Type 0
 Test = Term → Bool
@@ -150,12 +152,16 @@ module _ (level : ℕ → ℕ) where
 abbrev pub level_of : (M : Model) → IsAcyclic M → ℕ → ℕ
 level_of M acyclic i = (MAX_TERM_DEPTH + 2) * suc (acyclic.rank i)
 
+-- a weight lies lowest
+abbrev pub level_of_cell : (M : Model) → IsAcyclic M → ℕ → ℕ
+level_of_cell M acyclic i = cond (nat_lt i (variables_of M)) (level_of M acyclic i) 0
+
 abbrev pub height_where : (ℕ → ℕ) → Option Term → ℕ
 height_where level (Some t) = height level t
 height_where level None = 0
 
 abbrev pub layer_by : (M : Model) → IsAcyclic M → ℕ → ℕ
-layer_by M acyclic id = cond (nat_lt id (cells_of M)) (level_of M acyclic id) (height_where (level_of M acyclic) (term_at M id))
+layer_by M acyclic id = cond (nat_lt id (cells_of M)) (level_of_cell M acyclic id) (height_where (level_of M acyclic) (term_at M id))
 
 lt_from : (i n : ℕ) → nat_lt i n ≡ true → i < n
 lt_from i n e = grind (arith, nat_tests)
@@ -171,11 +177,20 @@ module _ (users : ℕ → NumberRule) (M : Model) (formed : IsWellFormed M) (acy
   abbrev size : ℕ
   size = count_of M
 
-  layer_of_var : (i : ℕ) → i < cells_of M → layer_by M acyclic i ≡ level i
-  layer_of_var i lt = ap (λ b. cond b (level i) (height_where level (term_at M i))) (before_first i (cells_of M) lt)
+  abbrev cell_level : ℕ → ℕ
+  cell_level = level_of_cell M acyclic
+
+  layer_of_cell : (i : ℕ) → i < cells_of M → layer_by M acyclic i ≡ cell_level i
+  layer_of_cell i lt = ap (λ b. cond b (cell_level i) (height_where level (term_at M i))) (before_first i (cells_of M) lt)
+
+  layer_of_var : (i : ℕ) → i < variables_of M → layer_by M acyclic i ≡ level i
+  layer_of_var i lt = layer_of_cell i (omega (arith, lt)) ∙ ap (λ b. cond b (level i) 0) (before_first i (variables_of M) lt)
+
+  pub layer_of_weight : (i : ℕ) → variables_of M ≤ i → i < cells_of M → layer_by M acyclic i ≡ 0
+  layer_of_weight i le lt = layer_of_cell i lt ∙ ap (λ b. cond b (level i) 0) (past_first i (variables_of M) le)
 
   layer_of_node : (id : ℕ) → cells_of M ≤ id → layer_by M acyclic id ≡ height_where level (term_at M id)
-  layer_of_node id le = ap (λ b. cond b (level id) (height_where level (term_at M id))) (past_first id (cells_of M) le)
+  layer_of_node id le = ap (λ b. cond b (cell_level id) (height_where level (term_at M id))) (past_first id (cells_of M) le)
 
   no_less : (k n : ℕ) → (n + k) - n ≡ k
   no_less k n = omega arith
@@ -218,7 +233,7 @@ module _ (users : ℕ → NumberRule) (M : Model) (formed : IsWellFormed M) (acy
   next_level : (h depth r : ℕ) → h ≤ (MAX_TERM_DEPTH + 2) * r + suc depth → depth ≤ MAX_TERM_DEPTH → h < (MAX_TERM_DEPTH + 2) * suc r
   next_level h depth r a b = omega (arith, a, b)
 
-  cell_above : (i : ℕ) → i < cells_of M → (entry : Option ℕ) → definition_of M i ≡ entry → Each (IsBelow (level i)) (inputs_of_cell M (option_and_then (term_of M.defs.items) entry))
+  cell_above : (i : ℕ) → i < variables_of M → (entry : Option ℕ) → definition_of M i ≡ entry → Each (IsBelow (level i)) (inputs_of_cell M (option_and_then (term_of M.defs.items) entry))
   cell_above i lt None e = tt
   cell_above i lt (Some d) e =
       let found = definition_found M i d e in
@@ -232,12 +247,18 @@ module _ (users : ℕ → NumberRule) (M : Model) (formed : IsWellFormed M) (acy
       let high : height level t < level i = next_level (height level t) (depth_of t) (acyclic.rank i) low (formed.defs d found.0 found.1).depth in
       subst (λ u. Each (IsBelow (level i)) (inputs_of_cell M u)) (sym there) ((id_there t known kinded, omega (arith, layer, high)), tt)
 
+  any_cell_above : (i : ℕ) → i < cells_of M → Each (IsBelow (cell_level i)) (inputs_of_cell M (term_defined M i))
+  any_cell_above i lt = elim (cases_lt i (variables_of M)) [
+    | inl var ↦ subst (λ h. Each (IsBelow h) (inputs_of_cell M (term_defined M i))) (sym (ap (λ b. cond b (level i) 0) (before_first i (variables_of M) var))) (cell_above i var (definition_of M i) refl)
+    | inr weight ↦ subst (λ d. Each (IsBelow (cell_level i)) (inputs_of_cell M (option_and_then (term_of M.defs.items) d))) (sym (no_definition M formed i (omega (arith, weight)))) tt
+  ]
+
   pub are_layers : AreLayers (model_graph users M) (layer_by M acyclic)
   are_layers id lt = elim (cases_lt id (cells_of M)) [
     | inl low ↦
-        subst (λ b. Each (λ i. (i < size) × (layer_by M acyclic i < cond b (level id) (height_where level (term_at M id)))) (cond b (inputs_of_cell M (term_defined M id)) (inputs_of_node M (term_at M id))))
-        (sym (before_first id (cells_of M) low)) (cell_above id low (definition_of M id) refl)
+        subst (λ b. Each (λ i. (i < size) × (layer_by M acyclic i < cond b (cell_level id) (height_where level (term_at M id)))) (cond b (inputs_of_cell M (term_defined M id)) (inputs_of_node M (term_at M id))))
+        (sym (before_first id (cells_of M) low)) (any_cell_above id low)
     | inr high ↦
-        subst (λ b. Each (λ i. (i < size) × (layer_by M acyclic i < cond b (level id) (height_where level (term_at M id)))) (cond b (inputs_of_cell M (term_defined M id)) (inputs_of_node M (term_at M id))))
+        subst (λ b. Each (λ i. (i < size) × (layer_by M acyclic i < cond b (cell_level id) (height_where level (term_at M id)))) (cond b (inputs_of_cell M (term_defined M id)) (inputs_of_node M (term_at M id))))
         (sym (past_first id (cells_of M) (omega (arith, high)))) (node_above id (omega (arith, high)) (term_at M id) refl)
   ]

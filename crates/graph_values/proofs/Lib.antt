@@ -16,5 +16,6 @@ pub mod TotalValues
 pub mod Wholes
 pub mod TakenInputs
 pub mod ValueKinds
+pub mod WeightCells
 pub mod WholeLayers
 pub mod TakenLinks

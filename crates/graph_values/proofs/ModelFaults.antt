@@ -33,7 +33,7 @@ use Rattle.term_model.specs.declared.posting.Side.TheVariants.{Systems, Objectiv
 use Rattle.term_model.specs.declared.term.Term.{Term}
 use Rattle.term_model.proofs.VarLaws.{definition_found}
 use Rattle.graph_values.specs.LeastFaults.{least_failure}
-use Rattle.graph_values.specs.Totals.{members_of}
+use Rattle.graph_values.specs.Members.{members_of}
 use Rattle.graph_values.proofs.AllValues.{IsValued, deep_valued}
 use Rattle.graph_values.proofs.Arguments.{all_at, fold_all}
 use Rattle.graph_values.proofs.FirstFailing.{Search, failing_placed, failure_there, search_first}

@@ -7,6 +7,7 @@ use Rattle.std.proofs.lemmas.List.Elements.{All-nil, All-cons, All-head, All-tai
 use Rattle.std.proofs.lemmas.Option.{slice_get_within}
 use Rattle.cbl_base.specs.NumberRule.{NumberRule}
 use Rattle.cbl_base.specs.declared.input.Input.{Input}
+use Rattle.cbl_base.specs.declared.input.Input.TheVariants.{Int}
 use Rattle.cbl_base.specs.declared.place.Place.{Place}
 use Rattle.cbl_violations.specs.Violations.Repeat.{repeat}
 use Rattle.model_values.specs.Outcomes.{outcome_of}
@@ -20,6 +21,7 @@ use Rattle.model_values.proofs.PartLaws.{member_kinded}
 use Rattle.store_build.specs.Aims.{start_of}
 use Rattle.store_turns.specs.Meaning.{Graph, IsMeaning, come_to, values_of}
 use Rattle.store_turns.specs.declared.outcome.Outcome.{Outcome}
+use Rattle.store_turns.specs.declared.outcome.Outcome.TheVariants.{Value}
 use Rattle.term_count.specs.Codes.{is_known}
 use Rattle.term_model.specs.Definitions.{IsAcyclic}
 use Rattle.term_model.specs.Posting.{member_at, term_posted}
@@ -30,16 +32,19 @@ use Rattle.term_model.specs.declared.model.Model.{Model}
 use Rattle.term_model.specs.declared.model.Posted.{Posted}
 use Rattle.term_model.specs.declared.model.Posted.TheVariants.{Define, Constrain, Part}
 use Rattle.term_model.specs.declared.model.Total.{Total}
+use Rattle.term_model.specs.declared.posting.Side.TheVariants.{Systems}
 use Rattle.term_model.specs.declared.term.Term.{Term}
 use Rattle.term_model.proofs.EqualTerms.{eq_of}
-use Rattle.graph_values.specs.Graphs.{HoldsTerms, cells_of, id_of}
-use Rattle.graph_values.specs.Totals.{IsRepeat, IsTotal, came_repeat, came_total, members_of}
+use Rattle.graph_values.specs.Graphs.{HoldsTerms, id_of}
+use Rattle.graph_values.specs.Totals.{AreWeights, IsRepeat, IsTotal, came_repeat, came_total, weight_ids}
+use Rattle.graph_values.specs.Members.{cells_of, members_before, members_of, numbers_of, variables_of}
 use Rattle.graph_values.proofs.Arguments.{all_posted}
-use Rattle.graph_values.proofs.FreshMeaning.{nodes_at, value_at_id, vars_at}
+use Rattle.graph_values.proofs.FreshMeaning.{at_weight, map_map, nodes_at, value_at_id, vars_at}
 use Rattle.graph_values.proofs.Gathering.{value_part}
 use Rattle.graph_values.proofs.Held.{same_come, same_fresh}
 use Rattle.graph_values.proofs.KindedTerms.{HasKind}
-use Rattle.graph_values.proofs.TotalValues.{sum_there, total_came}
+use Rattle.graph_values.proofs.TotalValues.{constants_are, sum_there, total_came}
+use Rattle.graph_values.proofs.WeightCells.{range_same, weight_within, weights_read}
 
 -- ---- members
 pub all_filtered : {X Y : Type 0} (P : X → Type 0) (Q : Y → Type 0) (h : X → Option Y) → ((x : X) (y : Y) → P x → h x ≡ Some y → Q y) → (xs : List X) → All P xs → All Q (filter_map h xs)
@@ -77,11 +82,11 @@ members_usual M formed whole =
     (λ p m known e. (known m.term (member_term M whole p m e), member_kinded M formed whole p m (sym e))) M.posted.items (all_posted M)
 
 -- ---- in a graph that holds the terms
-module _ (users : ℕ → NumberRule) (M : Model) (a : List ℤ) (formed : IsWellFormed M) (acyclic : IsAcyclic M) (long : length a ≡ length M.vars.items) (g : Graph) (holds : HoldsTerms users M g) (o : ℕ → Outcome) (meaning : IsMeaning g (start_of a) o) where
+module _ (users : ℕ → NumberRule) (M : Model) (a : List ℤ) (formed : IsWellFormed M) (acyclic : IsAcyclic M) (long : length a ≡ length M.vars.items) (g : Graph) (holds : HoldsTerms users M g) (o : ℕ → Outcome) (meaning : IsMeaning g (start_of (numbers_of M a)) o) where
   abbrev env : ℕ → Option Input
   env = outcome_of_var users M a
 
-  pub vars_held : (i : ℕ) → i < cells_of M → value_part (o i) ≡ env i
+  pub vars_held : (i : ℕ) → i < variables_of M → value_part (o i) ≡ env i
   vars_held i lt = ap value_part (same_fresh users M a formed acyclic long g holds o meaning i (omega (arith, lt))) ∙ vars_at users M a i lt
 
   pub nodes_held : (k : ℕ) (u : Term) → slice_get (distinct_subterms M) k ≡ Some u → value_part (o (cells_of M + k)) ≡ outcome_of users env u
@@ -96,12 +101,28 @@ module _ (users : ℕ → NumberRule) (M : Model) (a : List ℤ) (formed : IsWel
       ap (λ x. x ∷ map (λ m. value_part (o (id_of M m.term))) ms) (value_at_id users env M o vars_held nodes_held m.term one.0 one.1)
       ∙ ap (λ xs. outcome_of users env m.term ∷ xs) (members_values ms (All-tail (IsUsual M) m ms all))
 
+  -- the ids of weights have these
+  cells_are : (s : ℕ) → map o (weight_ids M (System s)) ≡ map (λ w. Value (Int w)) (map (λ m. m.weight) (members_of M (System s)))
+  cells_are s =
+      range_same o (λ i. Value (start_of (numbers_of M a) i)) (variables_of M + length (members_before M Systems s)) (length (members_of M (System s)))
+      (λ i low high. (let own = weight_within M s i low high in
+      let lt = own.1 in same_fresh users M a formed acyclic long g holds o meaning i (omega (arith, lt)) ∙ at_weight users M a i own.0 own.1))
+      ∙ sym (map_map (λ (x : Input). Value x) (start_of (numbers_of M a)) (weight_ids M (System s)))
+      ∙ ap (map (λ (x : Input). Value x)) (weights_read M a long s)
+      ∙ map_map (λ (x : Input). Value x) Int (map (λ (m : Member). m.weight) (members_of M (System s)))
+
+  pub weights_are : (whole : Whole) (ids : List ℕ) → AreWeights M g whole ids → map o ids ≡ map (λ w. Value (Int w)) (map (λ m. m.weight) (members_of M whole))
+  weights_are (System s) ids is = ap (map o) is ∙ cells_are s
+  weights_are (Objective k) ids are = constants_are g (start_of (numbers_of M a)) o meaning ids (map (λ m. m.weight) (members_of M (Objective k))) are
+
   module _ (whole : Whole) (id : ℕ) (total : IsTotal M g whole id) where
     pub total_is : (place : Place) → o id ≡ came_total (sum_in users M env whole place)
-    total_is place = total_came g (start_of a) o meaning users M env whole id total (members_values (members_of M whole) (members_usual M formed whole)) place
+    total_is place =
+        total_came g (start_of (numbers_of M a)) o meaning users M env whole id total (members_values (members_of M whole) (members_usual M formed whole)) (weights_are whole total.weights total.weighed) place
 
     pub total_there : (place : Place) (vs : List Input) → values_of (map o (map (λ m. id_of M m.term) (members_of M whole))) ≡ Some vs → (r : Result ℤ Failure) × (sum_in users M env whole place ≡ Some r)
-    total_there place vs e = sum_there g (start_of a) o meaning users M env whole id total (members_values (members_of M whole) (members_usual M formed whole)) place vs e
+    total_there place vs e =
+        sum_there g (start_of (numbers_of M a)) o meaning users M env whole id total (members_values (members_of M whole) (members_usual M formed whole)) (weights_are whole total.weights total.weighed) place vs e
 
     -- a node that repeats it has its number
     repeat_came : (q : Option (Result ℤ Failure)) (p : Outcome) → p ≡ came_total q → come_to repeat.value (values_of (p ∷ [])) ≡ came_repeat q

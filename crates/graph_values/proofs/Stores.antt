@@ -12,6 +12,7 @@ use Rattle.cbl_base.specs.declared.input.Input.{Input}
 use Rattle.model_values.specs.Fresh.{fresh_of}
 use Rattle.model_values.specs.Wholes.{IsOf}
 use Rattle.model_values.specs.declared.wholes.Whole.{Whole}
+use Rattle.model_values.specs.declared.wholes.Whole.TheVariants.{System, Objective}
 use Rattle.store_build.specs.Aims.{graph_over, start_of}
 use Rattle.store_build.specs.Frames.{cell_of}
 use Rattle.store_build.specs.Kept.{IsKept}
@@ -33,9 +34,10 @@ use Rattle.term_model.specs.declared.model.Model.{Model}
 use Rattle.term_model.specs.declared.term.Term.{Term}
 use Rattle.term_model.specs.declared.term.Term.TheOpen.{Term-F}
 use Rattle.term_model.specs.declared.term.Term.TheViews.{out-Term}
-use Rattle.graph_values.specs.Graphs.{HoldsTerms, cells_of, count_of, model_graph, term_at, value_by, value_of_node}
-use Rattle.graph_values.specs.Links.{AreAssigned, AreLinks, AreModelLinks, AreWeights, IsModelStop, IsTotalLink, value_of_head}
-use Rattle.graph_values.specs.Totals.{AreConstants, HoldsModel, IsTotal, NeverFails, members_of, values_at}
+use Rattle.graph_values.specs.Graphs.{HoldsTerms, count_of, model_graph, term_at, value_by, value_of_node}
+use Rattle.graph_values.specs.Links.{AreAssigned, AreLinks, AreModelLinks, AreNumbers, AreWeighed, IsModelStop, IsTotalLink, value_of_head}
+use Rattle.graph_values.specs.Members.{cells_of, members_of, numbers_of}
+use Rattle.graph_values.specs.Totals.{AreConstants, AreWeights, HoldsModel, IsTotal, NeverFails, values_at}
 use Rattle.graph_values.proofs.HeldModels.{model_fault, model_values}
 
 -- ---- the head of a subterm says what its own operation gives
@@ -86,12 +88,16 @@ module _ {Z : Type 0} (users : ℕ → NumberRule) (M : Model) (rules : List Rul
   op_behind : (id : ℕ) (rule : Rule) (xs : List Input) → cells_of M ≤ id → slice_get rules (id - cells_of M) ≡ Some rule → g.op id xs ≡ rule.value xs
   op_behind id rule xs le e = ap (λ b. cond b (the_one xs) (rule_value (slice_get rules (id - cells_of M)) xs)) (past_first id (cells_of M) le) ∙ ap (λ r. rule_value r xs) e
 
-  weights_constant : (ids : List ℕ) (ws : List ℤ) → AreWeights M rules inputs ids ws → AreConstants g ids ws
-  weights_constant [] [] h = tt
-  weights_constant [] (w ∷ ws) h = absurd h
-  weights_constant (id ∷ ids) [] h = absurd h
-  weights_constant (id ∷ ids) (w ∷ ws) h =
-      let own = h.0.3 in ((h.0.1, bound_behind id h.0.0, h.0.2, op_behind id own.0 [] h.0.0 own.1 ∙ own.2 []), weights_constant ids ws h.1)
+  numbers_constant : (ids : List ℕ) (ws : List ℤ) → AreNumbers M rules inputs ids ws → AreConstants g ids ws
+  numbers_constant [] [] h = tt
+  numbers_constant [] (w ∷ ws) h = absurd h
+  numbers_constant (id ∷ ids) [] h = absurd h
+  numbers_constant (id ∷ ids) (w ∷ ws) h =
+      let own = h.0.3 in ((h.0.1, bound_behind id h.0.0, h.0.2, op_behind id own.0 [] h.0.0 own.1 ∙ own.2 []), numbers_constant ids ws h.1)
+
+  weights_linked : (whole : Whole) (ids : List ℕ) → AreWeighed M rules inputs whole ids → AreWeights M g whole ids
+  weights_linked (System s) ids h = h
+  weights_linked (Objective o) ids h = numbers_constant ids (map (λ m. m.weight) (members_of M (Objective o))) h
 
   total_link : (whole : Whole) (id : ℕ) → IsTotalLink M rules inputs whole id → IsTotal M g whole id
   total_link whole id link =
@@ -102,7 +108,7 @@ module _ {Z : Type 0} (users : ℕ → NumberRule) (M : Model) (rules : List Rul
         within = link.within;
         bound = bound_behind id le;
         weights = link.weights;
-        constants = weights_constant link.weights (map (λ m. m.weight) (members_of M whole)) link.weighed;
+        weighed = weights_linked whole link.weights link.weighed;
         inputs = link.inputs;
         op = λ xs. op_behind id link.rule.0 xs le link.rule.1 ∙ link.rule.2 xs;
       }
@@ -120,7 +126,7 @@ module _ {Z : Type 0} (users : ℕ → NumberRule) (M : Model) (rules : List Rul
       by id le (inl h) = inl h
       by id le (inr h) = inr (λ xs fault e. h.2 xs fault (sym (op_behind id h.0 xs (omega (arith, le)) h.1) ∙ e))
 
--- ---- what holds over the free cells' values holds over the assignment that they hold
+-- ---- what holds over the free cells' values holds over the numbers that they hold
 pub meaning_assigned : (g : Graph) (a : List ℤ) (free : ℕ → Input) (o : ℕ → Outcome) → AreAssigned g a free → IsMeaning g free o → IsMeaning g (start_of a) o
 meaning_assigned g a free o assigned meaning = record {
   cells = λ id lt is. meaning.cells id lt is ∙ ap (λ x. Value x) (assigned id lt is);
@@ -128,14 +134,14 @@ meaning_assigned g a free o assigned meaning = record {
 }
 
 module _ (users : ℕ → NumberRule) (M : Model) (a : List ℤ) (id_of_total : Whole → ℕ) (formed : IsWellFormed M) (acyclic : IsAcyclic M) (long : length a ≡ length M.vars.items) where
-  pub kept_values : (rules : List Rule) (helds : List (List Input)) (frame : Frame) (cells : List Input) → HoldsModel users M (graph_of rules frame) id_of_total → AreAssigned (graph_of rules frame) a (cell_of cells) → IsKept rules helds frame cells →
+  pub kept_values : (rules : List Rule) (helds : List (List Input)) (frame : Frame) (cells : List Input) → HoldsModel users M (graph_of rules frame) id_of_total → AreAssigned (graph_of rules frame) (numbers_of M a) (cell_of cells) → IsKept rules helds frame cells →
       fresh_of users M a ≡ Ok (values_at M id_of_total (cell_of cells))
   kept_values rules helds frame cells holds assigned kept =
-      model_values users M a formed acyclic long (graph_of rules frame) id_of_total holds (cell_of cells) (meaning_assigned (graph_of rules frame) a (cell_of cells) (λ j. Value (cell_of cells j)) assigned kept.fresh)
+      model_values users M a formed acyclic long (graph_of rules frame) id_of_total holds (cell_of cells) (meaning_assigned (graph_of rules frame) (numbers_of M a) (cell_of cells) (λ j. Value (cell_of cells j)) assigned kept.fresh)
 
-  pub stop_fault : (g : Graph) (free : ℕ → Input) (stop : StoreFault) → HoldsModel users M g id_of_total → AreAssigned g a free → IsStop g free stop → IsModelStop users M a id_of_total stop
+  pub stop_fault : (g : Graph) (free : ℕ → Input) (stop : StoreFault) → HoldsModel users M g id_of_total → AreAssigned g (numbers_of M a) free → IsStop g free stop → IsModelStop users M a id_of_total stop
   stop_fault g free (Node node fault) holds assigned first =
       let own = model_fault users M a formed acyclic long g id_of_total holds node.0 fault
-      (record { outcome = first.outcome; meaning = meaning_assigned g a free first.outcome assigned first.meaning; here = first.here; least = first.least }) in
+      (record { outcome = first.outcome; meaning = meaning_assigned g (numbers_of M a) free first.outcome assigned first.meaning; here = first.here; least = first.least }) in
       record { failure = own.0; fresh = own.1; fault = own.2; place = own.3 }
   stop_fault g free NoMemory holds assigned first = tt

@@ -41,15 +41,16 @@ use Rattle.term_model.specs.declared.term.Term.TheViews.{out-Term, roll-Term}
 use Rattle.term_model.specs.declared.term.Term.TheFolds.{fold-roll-Term}
 use Rattle.term_model.proofs.EqualTerms.{roll_out}
 use Rattle.term_model.proofs.Kinded.{takes_args}
-use Rattle.graph_values.specs.Graphs.{cells_of, id_of, inputs_of_cell, inputs_of_node, term_at, term_defined}
+use Rattle.graph_values.specs.Graphs.{id_of, inputs_of_cell, inputs_of_node, term_at, term_defined}
 use Rattle.graph_values.specs.Taken.{AreTaken, takes_by}
-use Rattle.graph_values.specs.Totals.{HoldsModel, came_total, members_of}
+use Rattle.graph_values.specs.Totals.{HoldsModel, came_total}
+use Rattle.graph_values.specs.Members.{cells_of, members_of, numbers_of}
 use Rattle.graph_values.proofs.Arguments.{arguments_there}
 use Rattle.graph_values.proofs.FreshMeaning.{map_map, values_at_ids}
 use Rattle.graph_values.proofs.Gathering.{value_part, values_gathered}
 use Rattle.graph_values.proofs.KindedTerms.{HasKind, arguments_kinded, subterm_kinded}
-use Rattle.graph_values.proofs.ModelTotals.{IsUsual, all_filtered, if_some, members_usual, members_values, nodes_held, total_is, vars_held}
-use Rattle.graph_values.proofs.TotalValues.{and_numbers, constants_are, numbers_last}
+use Rattle.graph_values.proofs.ModelTotals.{IsUsual, all_filtered, if_some, members_usual, members_values, nodes_held, total_is, vars_held, weights_are}
+use Rattle.graph_values.proofs.TotalValues.{and_numbers, numbers_last}
 use Rattle.graph_values.proofs.ValueKinds.{values_kinded, variables_kinded}
 
 some_same : (xs ys : List Input) → ◌≡◌ {A = Option (List Input)} (Some xs) (Some ys) → xs ≡ ys
@@ -114,7 +115,7 @@ total_takes ms ws ks long e =
 
 -- ---- in a graph that holds a model
 module _ (viol_of : ℕ → List ℤ → ℤ) (viol_at : ℕ → List ℤ → ℕ → ℤ) (M : Model) (a : List ℤ) (formed : IsWellFormed M) (acyclic : IsAcyclic M) (long : length a ≡ length M.vars.items) (sets : HasDefinedSets M)
-    (g : Graph) (id_of_total : Whole → ℕ) (holds : HoldsModel (user_rules viol_of viol_at) M g id_of_total) (o : ℕ → Outcome) (meaning : IsMeaning g (start_of a) o) where
+    (g : Graph) (id_of_total : Whole → ℕ) (holds : HoldsModel (user_rules viol_of viol_at) M g id_of_total) (o : ℕ → Outcome) (meaning : IsMeaning g (start_of (numbers_of M a)) o) where
   abbrev users : ℕ → NumberRule
   users = user_rules viol_of viol_at
 
@@ -191,7 +192,7 @@ module _ (viol_of : ℕ → List ℤ → ℤ) (viol_at : ℕ → List ℤ → �
       let ws = map (λ (m : Member). m.weight) (members_of M whole) in
       with_numbers whole (values_of (map o mids)) xs refl
       (sym (numbers_last (map o mids) ws)
-      ∙ sym (ap (λ is. values_of (map o is)) total.inputs ∙ ap values_of (map-append o mids total.weights ∙ ap (λ qs. map o mids ++ qs) (constants_are g (start_of a) o meaning total.weights ws total.constants))) ∙ e)
+      ∙ sym (ap (λ is. values_of (map o is)) total.inputs ∙ ap values_of (map-append o mids total.weights ∙ ap (λ qs. map o mids ++ qs) (weights_are users M a formed acyclic long g holds.terms o meaning whole total.weights total.weighed))) ∙ e)
 
   -- repeats
   repeat_by : (q : Option (Result ℤ Failure)) (p : Outcome) (xs : List Input) → p ≡ came_total q → values_of (p ∷ []) ≡ Some xs → repeat.takes (kinds_of xs) ≡ true

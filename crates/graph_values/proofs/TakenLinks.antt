@@ -17,15 +17,16 @@ use Rattle.term_model.specs.Users.{user_rules}
 use Rattle.term_model.specs.Wellformed.{HasDefinedSets, IsWellFormed}
 use Rattle.term_model.specs.declared.model.Model.{Model}
 use Rattle.term_model.specs.declared.term.Term.{Term}
-use Rattle.graph_values.specs.Graphs.{cells_of, count_of}
+use Rattle.graph_values.specs.Graphs.{count_of}
 use Rattle.graph_values.specs.Links.{AreModelLinks, AreTakers, IsOther}
 use Rattle.graph_values.specs.Taken.{AreTaken}
+use Rattle.graph_values.specs.Members.{cells_of, numbers_of}
 use Rattle.graph_values.proofs.Stores.{model_links_hold}
 use Rattle.graph_values.proofs.TakenInputs.{are_taken}
 
 module _ {Z : Type 0} (viol_of : ℕ → List ℤ → ℤ) (viol_at : ℕ → List ℤ → ℕ → ℤ) (M : Model) (a : List ℤ) (formed : IsWellFormed M) (acyclic : IsAcyclic M) (long : length a ≡ length M.vars.items) (sets : HasDefinedSets M)
     (rules : List Rule) (inputs : List (Vec NodeId Z)) (id_of_total : Whole → ℕ) (links : AreModelLinks (user_rules viol_of viol_at) M rules inputs id_of_total) (takers : AreTakers (user_rules viol_of viol_at) M rules inputs id_of_total)
-    (o : ℕ → Outcome) (meaning : IsMeaning (graph_over rules (cells_of M) inputs) (start_of a) o) where
+    (o : ℕ → Outcome) (meaning : IsMeaning (graph_over rules (cells_of M) inputs) (start_of (numbers_of M a)) o) where
   taken : AreTaken (user_rules viol_of viol_at) M (graph_over rules (cells_of M) inputs) id_of_total o
   taken = are_taken viol_of viol_at M a formed acyclic long sets (graph_over rules (cells_of M) inputs) id_of_total (model_links_hold (user_rules viol_of viol_at) M rules inputs id_of_total links) o meaning
 

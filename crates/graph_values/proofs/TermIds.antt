@@ -15,13 +15,14 @@ use Rattle.term_model.specs.declared.term.Term.TheOpen.{Term-F}
 use Rattle.term_model.specs.declared.term.Term.TheViews.{out-Term, roll-Term}
 use Rattle.term_model.specs.declared.term.Term.TheFolds.{fold-roll-Term}
 use Rattle.term_model.proofs.EqualTerms.{roll_out}
-use Rattle.graph_values.specs.Graphs.{cells_of, id_of}
+use Rattle.graph_values.specs.Graphs.{id_of}
 use Rattle.term_graph.specs.Ids.{behind, id_by}
+use Rattle.graph_values.specs.Members.{cells_of, variables_of}
 use Rattle.graph_values.proofs.Gathering.{found_at}
 use Rattle.graph_values.proofs.KindedTerms.{HasKind, variable_within}
 
 module _ {X : Type 0} (M : Model) (of_id : ℕ → X) (of_term : Term → X) (alike : (t u : Term) → same_term t u ≡ true → of_term t ≡ of_term u)
-    (vars : (t : Term) (v : VarId) → out-Term t ≡ Term-F.Var v → v.index < cells_of M → of_id v.index ≡ of_term t)
+    (vars : (t : Term) (v : VarId) → out-Term t ≡ Term-F.Var v → v.index < variables_of M → of_id v.index ≡ of_term t)
     (nodes : (k : ℕ) (u : Term) → slice_get (distinct_subterms M) k ≡ Some u → of_id (cells_of M + k) ≡ of_term u) where
   at_node : (t : Term) → list_any (same_term t) (distinct_subterms M) ≡ true → of_id (behind (cells_of M) (distinct_subterms M) t) ≡ of_term t
   at_node t known =

@@ -21,7 +21,8 @@ use Rattle.term_model.specs.declared.model.Member.{Member}
 use Rattle.term_model.specs.declared.model.Model.{Model}
 use Rattle.term_model.specs.declared.model.Posted.{Posted}
 use Rattle.graph_values.specs.Graphs.{id_of}
-use Rattle.graph_values.specs.Totals.{AreConstants, IsConstant, IsTotal, came_total, members_of}
+use Rattle.graph_values.specs.Totals.{AreConstants, IsConstant, IsTotal, came_total}
+use Rattle.graph_values.specs.Members.{members_of}
 use Rattle.graph_values.proofs.FreshMeaning.{map_map}
 use Rattle.graph_values.proofs.Gathering.{value_part}
 use Rattle.graph_values.proofs.Held.{same_come}
@@ -125,7 +126,8 @@ module _ (g : Graph) (free : ℕ → Input) (o : ℕ → Outcome) (meaning : IsM
   constants_are (id ∷ ids) (w ∷ ws) c = ap (λ q. q ∷ map o ids) (constant_is id w c.0) ∙ ap (λ qs. Value (Int w) ∷ qs) (constants_are ids ws c.1)
 
   module _ (users : ℕ → NumberRule) (M : Model) (env : ℕ → Option Input) (whole : Whole) (id : ℕ) (total : IsTotal M g whole id)
-      (values : map (λ m. value_part (o (id_of M m.term))) (members_of M whole) ≡ map (λ m. outcome_of users env m.term) (members_of M whole)) where
+      (values : map (λ m. value_part (o (id_of M m.term))) (members_of M whole) ≡ map (λ m. outcome_of users env m.term) (members_of M whole))
+      (weighed : map o total.weights ≡ map (λ w. Value (Int w)) (map (λ m. m.weight) (members_of M whole))) where
     abbrev pub member_ids : List ℕ
     member_ids = map (λ m. id_of M m.term) (members_of M whole)
 
@@ -143,7 +145,7 @@ module _ (g : Graph) (free : ℕ → Input) (o : ℕ → Outcome) (meaning : IsM
         meaning.nodes id total.within total.bound
         ∙ same_come (g.op id) ((weighted_total (length (members_of M whole))).value) (values_of (map o (g.inputs id))) total.op
         ∙ ap (come_to ((weighted_total (length (members_of M whole))).value))
-        (ap (λ is. values_of (map o is)) total.inputs ∙ ap values_of (map-append o member_ids total.weights ∙ ap (λ qs. map o member_ids ++ qs) (constants_are total.weights weights total.constants))
+        (ap (λ is. values_of (map o is)) total.inputs ∙ ap values_of (map-append o member_ids total.weights ∙ ap (λ qs. map o member_ids ++ qs) weighed)
         ∙ numbers_last (map o member_ids) weights)
         ∙ came_sum place (values_of (map o member_ids)) weights (length (members_of M whole)) (sym (length-map (members_of M whole) (λ (m : Member). m.weight)))
         ∙ ap (λ ns. came_total (sum_of place ns weights)) numbers_are

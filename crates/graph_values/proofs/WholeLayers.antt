@@ -1,11 +1,11 @@
 -- The ids of an acyclic model's graph with its totals lie in layers, so there is a meaning.
-use Rattle.std.proofs.Common.{◌≡◌, ℕ, suc, ◌+◌, ◌-◌, ◌*◌, ◌<◌, ◌≤◌, List, [], ◌∷◌, ◌++◌, map, Option, Some, None, IsSome, length, refl, sym, ◌∙◌, subst, All, inl, inr, arith}
-use Rattle.std.specs.List.{cons_option, filter_map}
+use Rattle.std.proofs.Common.{◌≡◌, ℕ, zero, suc, ◌+◌, ◌-◌, ◌*◌, ◌<◌, ◌≤◌, List, [], ◌∷◌, ◌++◌, map, IsSome, length, sym, ◌∙◌, subst, All, inl, inr, arith}
+use Rattle.std.specs.List.{range_with_len}
 use Rattle.std.proofs.lemmas.Bool.{cases_lt}
 use Rattle.std.proofs.lemmas.List.Elements.{All-contains, All-head, All-tail}
 use Rattle.cbl_base.specs.NumberRule.{NumberRule}
 use Rattle.cbl_base.specs.declared.limits.TheConstants.{MAX_TERM_DEPTH}
-use Rattle.model_values.specs.Support.{member_in}
+use Rattle.model_values.specs.Wholes.{IsOf}
 use Rattle.model_values.specs.declared.wholes.Whole.{Whole}
 use Rattle.model_values.specs.declared.wholes.Whole.TheVariants.{System, Objective}
 use Rattle.store_turns.specs.Meaning.{AreLayers, Each}
@@ -15,37 +15,25 @@ use Rattle.term_model.specs.Kinds.{kinds_in}
 use Rattle.term_model.specs.Wellformed.{IsMember, IsWellFormed}
 use Rattle.term_model.specs.declared.model.Member.{Member}
 use Rattle.term_model.specs.declared.model.Model.{Model}
-use Rattle.term_model.specs.declared.model.Posted.{Posted}
+use Rattle.term_model.specs.declared.posting.Side.TheVariants.{Systems, Objectives}
 use Rattle.term_model.proofs.Rounds.{names_kinded, some_within}
 use Rattle.graph_values.specs.Graphs.{count_of, id_of, inputs_of}
-use Rattle.graph_values.specs.Totals.{members_of}
-use Rattle.graph_values.specs.WholeGraphs.{all_posted, by_range, first_objective, first_repeat, first_system, inputs_in_whole, inputs_of_total, member_posted, next_id, one_id, total_id, weights_from, whole_graph}
-use Rattle.graph_values.proofs.Levels.{are_layers, id_layer, id_there, layer_by, level_of, low_height}
+use Rattle.graph_values.specs.Totals.{weight_ids}
+use Rattle.graph_values.specs.WholeGraphs.{by_range, first_objective, first_repeat, first_system, inputs_in_whole, inputs_of_total, total_id, whole_graph}
+use Rattle.graph_values.specs.Members.{members_before, members_of, variables_of}
+use Rattle.graph_values.proofs.Levels.{are_layers, id_layer, id_there, layer_by, layer_of_weight, level_of, low_height}
 use Rattle.graph_values.proofs.ModelTotals.{IsUsual, members_usual}
 use Rattle.graph_values.proofs.TakenInputs.{members_are}
-use Rattle.graph_values.proofs.Wholes.{in_objectives, in_repeats, in_systems, in_terms, in_weights, posted_member}
+use Rattle.graph_values.proofs.Wholes.{in_objectives, in_repeats, in_systems, in_terms, in_weights}
+use Rattle.graph_values.proofs.WeightCells.{weight_within, within}
 
 each_both : (P : ℕ → Type 0) (is js : List ℕ) → Each P is → Each P js → Each P (is ++ js)
 each_both P [] js a b = b
 each_both P (i ∷ is) js a b = (a.0, each_both P is js a.1 b)
 
--- the weights' ids are those of the weights
-abbrev IsBetween : ℕ → ℕ → ℕ → Type 0
-IsBetween low count i = (low ≤ i) × (i < low + count)
-
-weights_between : (M : Model) (whole : Whole) (n : ℕ) (posted : List Posted) → Each (IsBetween n (length (filter_map (member_posted M) posted))) (weights_from M whole n posted)
-weights_between M whole n [] = tt
-weights_between M whole n (p ∷ posted) = by (member_in M whole p) (member_posted M p) refl refl (weights_between M whole n posted) (weights_between M whole (n + 1) posted)
-  where
-    by : (own any : Option Member) → member_in M whole p ≡ own → member_posted M p ≡ any → Each (IsBetween n (length (filter_map (member_posted M) posted))) (weights_from M whole n posted) →
-        Each (IsBetween (n + 1) (length (filter_map (member_posted M) posted))) (weights_from M whole (n + 1) posted) →
-        Each (IsBetween n (length (cons_option any (filter_map (member_posted M) posted)))) (one_id n own (weights_from M whole (next_id n any) posted))
-    by (Some m) (Some k) is at same later =
-        ((omega arith, omega arith), each_from (IsBetween (n + 1) (length (filter_map (member_posted M) posted))) (IsBetween n (suc (length (filter_map (member_posted M) posted)))) (weights_from M whole (n + 1) posted) (λ i h. (omega (arith, h.0), omega (arith, h.1))) later)
-    by (Some m) None is at same later = let c : None ≡ Some m = sym at ∙ posted_member M whole p m is in cc
-    by None (Some k) is at same later =
-        each_from (IsBetween (n + 1) (length (filter_map (member_posted M) posted))) (IsBetween n (suc (length (filter_map (member_posted M) posted)))) (weights_from M whole (n + 1) posted) (λ i h. (omega (arith, h.0), omega (arith, h.1))) later
-    by None None is at same later = same
+range_between : (P : ℕ → Type 0) (n len : ℕ) → ((i : ℕ) → n ≤ i → i < n + len → P i) → Each P (range_with_len n len)
+range_between P n zero each = tt
+range_between P n (suc len) each = (each n (omega arith) (omega arith), range_between P (n + 1) len (λ i low high. each i (omega (arith, low)) (omega (arith, high))))
 
 module _ (users : ℕ → NumberRule) (M : Model) (formed : IsWellFormed M) (acyclic : IsAcyclic M) where
   -- above all members
@@ -86,15 +74,23 @@ module _ (users : ℕ → NumberRule) (M : Model) (formed : IsWellFormed M) (acy
   members_under [] all are = tt
   members_under (m ∷ ms) all are = (member_under m (All-head (IsUsual M) m ms all) (All-head (IsMember M) m ms are), members_under ms (All-tail (IsUsual M) m ms all) (All-tail (IsMember M) m ms are))
 
-  weights_under : (whole : Whole) → Each (IsUnder top) (weights_from M whole (count_of M) M.posted.items)
-  weights_under whole =
-      each_from (IsBetween (count_of M) (length (all_posted M))) (IsUnder top) (weights_from M whole (count_of M) M.posted.items)
-      (λ i h. (let low = h.0 in let high = h.1 in let layer : layer_in i ≡ 0 = in_weights M i _ _ _ _ _ low high in (omega (arith, high), omega (arith, layer)))) (weights_between M whole (count_of M) M.posted.items)
+  -- a system's weights are cells, an objective's are constants behind the subterms
+  weights_under : (whole : Whole) → IsOf M whole → Each (IsUnder top) (weight_ids M whole)
+  weights_under (System s) there =
+      range_between (IsUnder top) (variables_of M + length (members_before M Systems s)) (length (members_of M (System s)))
+      (λ i low high. (let own = weight_within M s i low high in
+      let lt = own.1 in
+      let layer : layer_in i ≡ 0 = term_layer i (omega (arith, lt)) ∙ layer_of_weight users M formed acyclic i own.0 own.1 in (omega (arith, lt), omega (arith, layer))))
+  weights_under (Objective o) there =
+      range_between (IsUnder top) (count_of M + length (members_before M Objectives o)) (length (members_of M (Objective o)))
+      (λ i low high. (let all = within M Objectives o (length M.objectives.items) there in
+      let lt : i < first_system M = omega (arith, high, all) in
+      let layer : layer_in i ≡ 0 = in_weights M i _ _ _ _ _ (omega (arith, low)) lt in (omega (arith, lt), omega (arith, layer))))
 
-  total_under : (whole : Whole) → Each (IsUnder top) (inputs_of_total M whole)
-  total_under whole =
-      each_both (IsUnder top) (map (λ m. id_of M m.term) (members_of M whole)) (weights_from M whole (count_of M) M.posted.items)
-      (members_under (members_of M whole) (members_usual M formed whole) (members_are M formed whole)) (weights_under whole)
+  total_under : (whole : Whole) → IsOf M whole → Each (IsUnder top) (inputs_of_total M whole)
+  total_under whole there =
+      each_both (IsUnder top) (map (λ m. id_of M m.term) (members_of M whole)) (weight_ids M whole)
+      (members_under (members_of M whole) (members_usual M formed whole) (members_are M formed whole)) (weights_under whole there)
 
   -- an id's inputs, where its range is known
   at_layer : (id h : ℕ) (is : List ℕ) → inputs_in_whole M id ≡ is → layer_in id ≡ h → Each (IsUnder h) is → Each (IsUnder (layer_in id)) (inputs_in_whole M id)
@@ -114,11 +110,11 @@ module _ (users : ℕ → NumberRule) (M : Model) (formed : IsWellFormed M) (acy
           | inr past ↦
               elim (cases_lt id (first_objective M)) [
                 | inl system ↦
-                    at_layer id top (inputs_of_total M (System (id - first_system M))) (in_systems M id _ _ _ _ _ (omega (arith, past)) system) (in_systems M id _ _ _ _ _ (omega (arith, past)) system) (total_under (System (id - first_system M)))
+                    at_layer id top (inputs_of_total M (System (id - first_system M))) (in_systems M id _ _ _ _ _ (omega (arith, past)) system) (in_systems M id _ _ _ _ _ (omega (arith, past)) system) (total_under (System (id - first_system M)) (omega (arith, past, system)))
                 | inr further ↦
                     elim (cases_lt id (first_repeat M)) [
                       | inl objective ↦
-                          at_layer id top (inputs_of_total M (Objective (id - first_objective M))) (in_objectives M id _ _ _ _ _ (omega (arith, further)) objective) (in_objectives M id _ _ _ _ _ (omega (arith, further)) objective) (total_under (Objective (id - first_objective M)))
+                          at_layer id top (inputs_of_total M (Objective (id - first_objective M))) (in_objectives M id _ _ _ _ _ (omega (arith, further)) objective) (in_objectives M id _ _ _ _ _ (omega (arith, further)) objective) (total_under (Objective (id - first_objective M)) (omega (arith, further, objective)))
                       | inr last ↦
                           at_layer id (suc top) (total_id M (Objective (id - first_repeat M)) ∷ []) (in_repeats M id _ _ _ _ _ (omega (arith, last))) (in_repeats M id _ _ _ _ _ (omega (arith, last))) (repeat_under (id - first_repeat M) (omega (arith, last, lt)))
                     ]

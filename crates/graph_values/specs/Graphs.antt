@@ -1,7 +1,7 @@
--- The graph of a model: a cell for each variable, and behind the cells, in order, a node for each distinct subterm
--- of all that was posted. The cell of a free variable holds its number; that of a defined one takes the value of
--- its definition's term. A node computes its subterm's own operation of the values of the subterm's arguments. A
--- rule of this project.
+-- The graph of a model: a cell for each variable, then one for the weight of each member of a system, and behind the
+-- cells, in order, a node for each distinct subterm of all that was posted. The cell of a free variable holds its
+-- number, and that of a weight the weight; that of a defined variable takes the value of its definition's term. A node
+-- computes its subterm's own operation of the values of the subterm's arguments. A rule of this project.
 use Rattle.std.specs.Prelude.{◌≡◌, ℕ, ◌+◌, ◌-◌, ◌<◌, ◌≤◌, ◌&&◌, cond, nat_lt, List, [], ◌∷◌, length, map, Option, Some, None, Result, Ok, Err, slice_get}
 use Rattle.std.specs.Option.{option_and_then}
 use Rattle.cbl_base.specs.NumberRule.{NumberRule}
@@ -18,10 +18,7 @@ use Rattle.term_model.specs.declared.term.Term.{Term}
 use Rattle.term_model.specs.declared.term.Term.TheOpen.{Term-F}
 use Rattle.term_model.specs.declared.term.Term.TheViews.{out-Term}
 use Rattle.term_graph.specs.Ids.{id_among}
-
--- how many cells there are
-abbrev pub cells_of : Model → ℕ
-cells_of M = length M.vars.items
+use Rattle.graph_values.specs.Members.{cells_of}
 
 -- how many ids the cells and the nodes of the subterms have
 abbrev pub count_of : Model → ℕ
@@ -38,7 +35,7 @@ term_defined M i = option_and_then (term_of M.defs.items) (definition_of M i)
 abbrev pub term_at : Model → ℕ → Option Term
 term_at M id = slice_get (distinct_subterms M) (id - cells_of M)
 
--- the ids whose values an id takes
+-- the ids whose values an id takes; a weight has no definition
 abbrev pub inputs_of_cell : Model → Option Term → List ℕ
 inputs_of_cell M (Some t) = id_of M t ∷ []
 inputs_of_cell M None = []

@@ -14,6 +14,7 @@ use Rattle.store_turns.specs.Meaning.{Graph}
 use Rattle.term_model.specs.Subterms.{distinct_subterms}
 use Rattle.term_model.specs.declared.model.Model.{Model}
 use Rattle.graph_values.specs.Graphs.{count_of, term_at}
+use Rattle.graph_values.specs.Members.{numbers_of}
 use Rattle.term_graph.specs.Heads.{place_of}
 
 -- the failure of the least numbered subterm that fails
@@ -28,7 +29,7 @@ place_at M id = option_and_then place_of (term_at M id)
 -- with the fault of this failure, and its subterm stands at the failure's place
 pub record IsLeast (M : Model) (a : List ℤ) (g : Graph) (id : ℕ) (failure : Failure) : Type 0 where
   pub there : id < count_of M
-  pub first : FailsFirst g (start_of a) id failure.fault
+  pub first : FailsFirst g (start_of (numbers_of M a)) id failure.fault
   pub place : place_at M id ≡ Some failure.place
 
 -- a subterm fails, and the least numbered one that does has this fault, at this id's place

@@ -1,5 +1,5 @@
--- What a store is given for a model: as many cells as there are variables, a list of inputs for each id, and a rule
--- for each node behind the cells, those of the subterms first. A rule of this project.
+-- What a store is given for a model: a cell for each variable and for each weight of a system's member, a list of inputs
+-- for each id, and a rule for each node behind the cells, those of the subterms first. A rule of this project.
 use Rattle.std.specs.Prelude.{IsTrue, ◌≡◌, ◌⊎◌, ℕ, ℤ, ◌-◌, ◌<◌, ◌≤◌, true, List, [], ◌∷◌, ◌++◌, length, map, Some, Vec, slice_get, Result, Ok, Err}
 use Rattle.cbl_base.specs.Inputs.{InputKind}
 use Rattle.cbl_base.specs.NodeLaw.{Rule}
@@ -13,6 +13,7 @@ use Rattle.cbl_violations.specs.Violations.Repeat.{repeat}
 use Rattle.cbl_violations.specs.Violations.WeightedTotal.{weighted_total}
 use Rattle.model_values.specs.Wholes.{IsOf}
 use Rattle.model_values.specs.declared.wholes.Whole.{Whole}
+use Rattle.model_values.specs.declared.wholes.Whole.TheVariants.{System, Objective}
 use Rattle.store_build.specs.Aims.{start_of}
 use Rattle.store_build.specs.Lists.{list_in}
 use Rattle.store_build.specs.declared.parts.StoreFault.{StoreFault}
@@ -24,9 +25,10 @@ use Rattle.term_model.specs.Subterms.{distinct_subterms}
 use Rattle.term_model.specs.declared.model.Model.{Model}
 use Rattle.term_model.specs.declared.term.Term.{Term}
 use Rattle.term_model.specs.declared.term.Term.TheViews.{out-Term}
-use Rattle.graph_values.specs.Graphs.{cells_of, count_of, id_of, inputs_of, value_by}
+use Rattle.graph_values.specs.Graphs.{count_of, id_of, inputs_of, value_by}
+use Rattle.graph_values.specs.Members.{cells_of, members_of}
 use Rattle.graph_values.specs.Taken.{takes_by}
-use Rattle.graph_values.specs.Totals.{IsFaultAt, Precedes, members_of}
+use Rattle.graph_values.specs.Totals.{IsFaultAt, Precedes, weight_ids}
 
 -- what a node with this head gives of its inputs' values
 abbrev pub value_of_head : (ℕ → NumberRule) → Head → List Input → Result Input RunFault
@@ -46,21 +48,26 @@ Gives M given id value = (rule : Rule) × (slice_get given (id - cells_of M) ≡
 
 module _ {Z : Type 0} where
   -- ids whose nodes take nothing and have these numbers
-  abbrev pub IsWeight : Model → List Rule → List (Vec NodeId Z) → ℕ → ℤ → Type 0
-  IsWeight M given lists id x = (cells_of M ≤ id) × (id < length lists) × (ids_of (list_in lists id) ≡ []) × Gives M given id (λ _. Ok (Int x))
+  abbrev pub IsNumber : Model → List Rule → List (Vec NodeId Z) → ℕ → ℤ → Type 0
+  IsNumber M given lists id x = (cells_of M ≤ id) × (id < length lists) × (ids_of (list_in lists id) ≡ []) × Gives M given id (λ _. Ok (Int x))
 
-  abbrev pub AreWeights : Model → List Rule → List (Vec NodeId Z) → List ℕ → List ℤ → Type 0
-  AreWeights M given lists [] [] = Unit {0}
-  AreWeights M given lists [] (x ∷ xs) = ⊥
-  AreWeights M given lists (id ∷ ids) [] = ⊥
-  AreWeights M given lists (id ∷ ids) (x ∷ xs) = IsWeight M given lists id x × AreWeights M given lists ids xs
+  abbrev pub AreNumbers : Model → List Rule → List (Vec NodeId Z) → List ℕ → List ℤ → Type 0
+  AreNumbers M given lists [] [] = Unit {0}
+  AreNumbers M given lists [] (x ∷ xs) = ⊥
+  AreNumbers M given lists (id ∷ ids) [] = ⊥
+  AreNumbers M given lists (id ∷ ids) (x ∷ xs) = IsNumber M given lists id x × AreNumbers M given lists ids xs
+
+  -- the weights of a system's members are its cells, those of an objective's are such nodes
+  abbrev pub AreWeighed : Model → List Rule → List (Vec NodeId Z) → Whole → List ℕ → Type 0
+  AreWeighed M given lists (System s) ids = ids ≡ weight_ids M (System s)
+  AreWeighed M given lists (Objective o) ids = AreNumbers M given lists ids (map (λ m. m.weight) (members_of M (Objective o)))
 
   -- a total takes its members, and behind them their weights
   pub record IsTotalLink (M : Model) (given : List Rule) (lists : List (Vec NodeId Z)) (whole : Whole) (id : ℕ) : Type 0 where
     pub behind : count_of M ≤ id
     pub within : id < length lists
     pub weights : List ℕ
-    pub weighed : AreWeights M given lists weights (map (λ m. m.weight) (members_of M whole))
+    pub weighed : AreWeighed M given lists whole weights
     pub inputs : ids_of (list_in lists id) ≡ map (λ m. id_of M m.term) (members_of M whole) ++ weights
     pub rule : Gives M given id ((weighted_total (length (members_of M whole))).value)
 
@@ -85,7 +92,7 @@ module _ {Z : Type 0} where
     pub totals : (whole : Whole) (rule : Rule) → IsOf M whole → slice_get given (id_of_total whole - cells_of M) ≡ Some rule → (kinds : List InputKind) → IsTrue ((weighted_total (length (members_of M whole))).takes kinds) → IsTrue (rule.takes kinds)
     pub others : (id : ℕ) (rule : Rule) → count_of M ≤ id → slice_get given (id - cells_of M) ≡ Some rule → IsOther M lists id_of_total id rule
 
--- the free cells hold the numbers of an assignment
+-- the free cells hold these numbers
 abbrev pub AreAssigned : Graph → List ℤ → (ℕ → Input) → Type 0
 AreAssigned g a free = (id : ℕ) → id < g.size → g.is_free id ≡ true → free id ≡ start_of a id
 

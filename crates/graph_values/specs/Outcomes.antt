@@ -1,4 +1,4 @@
--- What the ids of a model's graph come to where the model is evaluated afresh: the value of the id's variable or
+-- What the ids of a model's graph come to where the model is evaluated afresh: the value of the id's variable, weight or
 -- subterm; or its own fault, where its arguments all have values and its own operation fails; or nothing, where
 -- an argument has no value. A rule of this project.
 use Rattle.std.specs.Prelude.{◌≡◌, ℕ, ℤ, ◌<◌, cond, nat_lt, List, length, Option, Some, None}
@@ -16,7 +16,8 @@ use Rattle.term_model.specs.Definitions.{IsAcyclic}
 use Rattle.term_model.specs.Wellformed.{IsWellFormed}
 use Rattle.term_model.specs.declared.model.Model.{Model}
 use Rattle.term_model.specs.declared.term.Term.{Term}
-use Rattle.graph_values.specs.Graphs.{cells_of, count_of, model_graph, term_at}
+use Rattle.graph_values.specs.Graphs.{count_of, model_graph, term_at}
+use Rattle.graph_values.specs.Members.{cells_of, numbers_of, variables_of}
 
 -- a model that may be evaluated, with a number for each of its variables
 pub record IsGiven (M : Model) (a : List ℤ) : Type 0 where
@@ -38,13 +39,17 @@ abbrev pub fresh_term : (ℕ → NumberRule) → (ℕ → Option Input) → Opti
 fresh_term users env (Some t) = came_to (outcome_of users env t) (failure_of users env t)
 fresh_term users env None = Missing
 
+-- what a cell comes to under an assignment: a variable's value, or a weight
+abbrev pub fresh_cell : (ℕ → NumberRule) → Model → List ℤ → ℕ → Outcome
+fresh_cell users M a id = cond (nat_lt id (variables_of M)) (fresh_var (outcome_of_var users M a) id) (Value (start_of (numbers_of M a) id))
+
 -- what an id comes to under an assignment
 abbrev pub fresh_at : (ℕ → NumberRule) → Model → List ℤ → ℕ → Outcome
-fresh_at users M a id = cond (nat_lt id (cells_of M)) (fresh_var (outcome_of_var users M a) id) (fresh_term users (outcome_of_var users M a) (term_at M id))
+fresh_at users M a id = cond (nat_lt id (cells_of M)) (fresh_cell users M a id) (fresh_term users (outcome_of_var users M a) (term_at M id))
 
 -- whatever the ids of a graph come to over an assignment, those of the model's graph come to the fresh values
 abbrev pub MeansFresh : (ℕ → NumberRule) → Model → List ℤ → Graph → Type 0
-MeansFresh users M a g = (o : ℕ → Outcome) → IsMeaning g (start_of a) o → (id : ℕ) → id < count_of M → o id ≡ fresh_at users M a id
+MeansFresh users M a g = (o : ℕ → Outcome) → IsMeaning g (start_of (numbers_of M a)) o → (id : ℕ) → id < count_of M → o id ≡ fresh_at users M a id
 
 -- the ids of the model's graph can be laid in layers
 abbrev pub HasLayers : (ℕ → NumberRule) → Model → Type 0

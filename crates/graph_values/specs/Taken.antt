@@ -16,8 +16,7 @@ use Rattle.term_model.specs.declared.model.Model.{Model}
 use Rattle.term_model.specs.declared.term.Term.{Term}
 use Rattle.term_model.specs.declared.term.Term.TheOpen.{Term-F}
 use Rattle.term_model.specs.declared.term.Term.TheViews.{out-Term}
-use Rattle.graph_values.specs.Graphs.{cells_of}
-use Rattle.graph_values.specs.Totals.{members_of}
+use Rattle.graph_values.specs.Members.{cells_of, members_of}
 
 -- whether a subterm's own operation takes inputs of these kinds; a constant takes none
 abbrev pub takes_by : (ℕ → NumberRule) → Term-F Term → List InputKind → Bool

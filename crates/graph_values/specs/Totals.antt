@@ -1,9 +1,9 @@
 -- A graph that holds all of a model: the ids of its graph, and behind them the totals of the systems and then those
 -- of the objectives, in order of declaration. A total takes the values of its members in order of posting, and behind
--- them their weights, each from a constant. All other ids behind the terms are of nodes that never fail, as constants
--- and the repeats of totals. A rule of this project.
-use Rattle.std.specs.Prelude.{◌≡◌, ℕ, ℤ, ◌<◌, ◌≤◌, ◌⊎◌, false, List, [], ◌∷◌, ◌++◌, length, map, Option, Some, None, Result, Ok, Err}
-use Rattle.std.specs.List.{filter_map, range_with_len}
+-- them their weights, a system's each from its cell, an objective's each from a constant. All other ids behind the terms
+-- are of nodes that never fail, as constants and the repeats of totals. A rule of this project.
+use Rattle.std.specs.Prelude.{◌≡◌, ℕ, ℤ, ◌+◌, ◌<◌, ◌≤◌, ◌⊎◌, false, List, [], ◌∷◌, ◌++◌, length, map, Option, Some, None, Result, Ok, Err}
+use Rattle.std.specs.List.{range_with_len}
 use Rattle.cbl_base.specs.Inputs.{number_of}
 use Rattle.cbl_base.specs.NumberRule.{NumberRule}
 use Rattle.cbl_base.specs.declared.faults.RunFault.{RunFault}
@@ -13,7 +13,6 @@ use Rattle.cbl_base.specs.declared.place.Place.{Place}
 use Rattle.cbl_violations.specs.Violations.Repeat.{repeat}
 use Rattle.cbl_violations.specs.Violations.WeightedTotal.{weighted_total}
 use Rattle.model_values.specs.Fresh.{Fresh, fresh_of}
-use Rattle.model_values.specs.Support.{member_in}
 use Rattle.model_values.specs.VarOutcomes.{outcome_of_var}
 use Rattle.model_values.specs.Wholes.{IsOf, place_of as place_of_whole, sum_in}
 use Rattle.model_values.specs.declared.failure.Failure.{Failure}
@@ -23,14 +22,11 @@ use Rattle.store_build.specs.Aims.{start_of}
 use Rattle.store_turns.specs.Meaning.{Graph, IsMeaning}
 use Rattle.store_turns.specs.declared.outcome.Outcome.{Outcome}
 use Rattle.store_turns.specs.declared.outcome.Outcome.TheVariants.{Value, Fails, Missing}
-use Rattle.term_model.specs.declared.model.Member.{Member}
 use Rattle.term_model.specs.declared.model.Model.{Model}
+use Rattle.term_model.specs.declared.posting.Side.TheVariants.{Systems, Objectives}
 use Rattle.graph_values.specs.Graphs.{HoldsTerms, count_of, id_of}
 use Rattle.graph_values.specs.LeastFaults.{place_at}
-
--- the members of a system or an objective, in order of posting
-abbrev pub members_of : Model → Whole → List Member
-members_of M whole = filter_map (member_in M whole) M.posted.items
+use Rattle.graph_values.specs.Members.{members_before, members_of, numbers_of, variables_of}
 
 -- systems stand before objectives, each in order of declaration
 abbrev pub Precedes : Whole → Whole → Type 0
@@ -49,12 +45,23 @@ AreConstants g [] (x ∷ xs) = ⊥
 AreConstants g (id ∷ ids) [] = ⊥
 AreConstants g (id ∷ ids) (x ∷ xs) = IsConstant g id x × AreConstants g ids xs
 
+-- the cells of the weights of a system's members; and where the constants of an objective's may stand, which is behind
+-- the subterms
+abbrev pub weight_ids : Model → Whole → List ℕ
+weight_ids M (System s) = range_with_len (variables_of M + length (members_before M Systems s)) (length (members_of M (System s)))
+weight_ids M (Objective o) = range_with_len (count_of M + length (members_before M Objectives o)) (length (members_of M (Objective o)))
+
+-- the ids of the weights of a total's members
+abbrev pub AreWeights : Model → Graph → Whole → List ℕ → Type 0
+AreWeights M g (System s) ids = ids ≡ weight_ids M (System s)
+AreWeights M g (Objective o) ids = AreConstants g ids (map (λ m. m.weight) (members_of M (Objective o)))
+
 pub record IsTotal (M : Model) (g : Graph) (whole : Whole) (id : ℕ) : Type 0 where
   pub behind : count_of M ≤ id
   pub within : id < g.size
   pub bound : g.is_free id ≡ false
   pub weights : List ℕ
-  pub constants : AreConstants g weights (map (λ m. m.weight) (members_of M whole))
+  pub weighed : AreWeights M g whole weights
   pub inputs : g.inputs id ≡ map (λ m. id_of M m.term) (members_of M whole) ++ weights
   pub op : (xs : List Input) → g.op id xs ≡ (weighted_total (length (members_of M whole))).value xs
 
@@ -75,7 +82,7 @@ came_total (Some (Err failure)) = Fails failure.fault
 came_total None = Missing
 
 abbrev pub MeansTotals : (ℕ → NumberRule) → Model → List ℤ → Graph → (Whole → ℕ) → Type 0
-MeansTotals users M a g id_of_total = (o : ℕ → Outcome) (whole : Whole) → IsMeaning g (start_of a) o → IsOf M whole →
+MeansTotals users M a g id_of_total = (o : ℕ → Outcome) (whole : Whole) → IsMeaning g (start_of (numbers_of M a)) o → IsOf M whole →
     o (id_of_total whole) ≡ came_total (sum_in users M (outcome_of_var users M a) whole (place_of_whole M whole))
 
 -- a node that repeats another id's number, and what it comes to where that is a total
@@ -88,7 +95,7 @@ came_repeat (Some (Err failure)) = Missing
 came_repeat None = Missing
 
 abbrev pub MeansRepeats : (ℕ → NumberRule) → Model → List ℤ → Graph → (Whole → ℕ) → Type 0
-MeansRepeats users M a g id_of_total = (o : ℕ → Outcome) (whole : Whole) (id : ℕ) → IsMeaning g (start_of a) o → IsOf M whole → IsRepeat g id (id_of_total whole) →
+MeansRepeats users M a g id_of_total = (o : ℕ → Outcome) (whole : Whole) (id : ℕ) → IsMeaning g (start_of (numbers_of M a)) o → IsOf M whole → IsRepeat g id (id_of_total whole) →
     o id ≡ came_repeat (sum_in users M (outcome_of_var users M a) whole (place_of_whole M whole))
 
 -- the model's values, from the value of each id

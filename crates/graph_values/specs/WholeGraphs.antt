@@ -1,43 +1,31 @@
--- A graph that holds all of a model: behind the nodes of the subterms a constant for the weight of each member, in
--- order of posting, then the totals of the systems and those of the objectives, in order of declaration, and at the end
--- for each objective a node that repeats its total. A total takes its members, and behind them their weights. A rule of
--- this project.
-use Rattle.std.specs.Prelude.{ℕ, ℤ, pos, ◌+◌, ◌-◌, ◌&&◌, cond, nat_lt, List, [], ◌∷◌, ◌++◌, length, map, Option, Some, None, Result, Ok, slice_get, unwrap_or}
+-- A graph that holds all of a model: behind the nodes of the subterms a constant for the weight of each term of an
+-- objective, by objective and in order of posting, then the totals of the systems and those of the objectives, in order
+-- of declaration, and at the end for each objective a node that repeats its total. A total takes its members, and behind
+-- them their weights, a system's from the cells behind those of the variables. A rule of this project.
+use Rattle.std.specs.Prelude.{ℕ, ℤ, pos, ◌+◌, ◌-◌, ◌&&◌, cond, nat_lt, List, [], ◌∷◌, ◌++◌, length, map, Result, Ok, slice_get, unwrap_or}
 use Rattle.std.specs.Option.{option_map}
-use Rattle.std.specs.List.{filter_map}
 use Rattle.cbl_base.specs.NumberRule.{NumberRule}
 use Rattle.cbl_base.specs.declared.faults.RunFault.{RunFault}
 use Rattle.cbl_base.specs.declared.input.Input.{Input}
 use Rattle.cbl_base.specs.declared.input.Input.TheVariants.{Int}
 use Rattle.cbl_violations.specs.Violations.Repeat.{repeat}
 use Rattle.cbl_violations.specs.Violations.WeightedTotal.{weighted_total}
-use Rattle.model_values.specs.Support.{member_in}
 use Rattle.model_values.specs.declared.wholes.Whole.{Whole}
 use Rattle.model_values.specs.declared.wholes.Whole.TheVariants.{System, Objective}
 use Rattle.store_turns.specs.Meaning.{Graph, is_empty}
-use Rattle.term_model.specs.Posting.{member_at}
-use Rattle.term_model.specs.declared.model.Member.{Member}
 use Rattle.term_model.specs.declared.model.Model.{Model}
-use Rattle.term_model.specs.declared.model.Posted.{Posted}
-use Rattle.term_model.specs.declared.model.Posted.TheVariants.{Define, Constrain, Part}
-use Rattle.graph_values.specs.Graphs.{cells_of, count_of, id_of, inputs_of, model_graph}
-use Rattle.graph_values.specs.Totals.{members_of}
+use Rattle.term_model.specs.declared.posting.Side.TheVariants.{Objectives}
+use Rattle.graph_values.specs.Graphs.{count_of, id_of, inputs_of, model_graph}
+use Rattle.graph_values.specs.Members.{cells_of, members_by, members_of}
+use Rattle.graph_values.specs.Totals.{weight_ids}
 
--- the members that were posted, and the weight of one
-abbrev pub member_posted : Model → Posted → Option Member
-member_posted M (Define d) = None
-member_posted M (Constrain system member) = member_at M.systems.items system member
-member_posted M (Part objective member) = member_at M.objectives.items objective member
-
-abbrev pub all_posted : Model → List Member
-all_posted M = filter_map (member_posted M) M.posted.items
-
+-- the weight of a term of an objective
 abbrev pub weight_at : Model → ℕ → ℤ
-weight_at M i = unwrap_or (option_map (λ m. m.weight) (slice_get (all_posted M) i)) (pos 0)
+weight_at M i = unwrap_or (option_map (λ m. m.weight) (slice_get (members_by M Objectives) i)) (pos 0)
 
 -- where the totals of the systems begin, those of the objectives, and the repeats
 abbrev pub first_system : Model → ℕ
-first_system M = count_of M + length (all_posted M)
+first_system M = count_of M + length (members_by M Objectives)
 
 abbrev pub first_objective : Model → ℕ
 first_objective M = first_system M + length M.systems.items
@@ -49,21 +37,8 @@ abbrev pub total_id : Model → Whole → ℕ
 total_id M (System s) = first_system M + s
 total_id M (Objective o) = first_objective M + o
 
--- the ids of the weights of a system's or objective's members, where that of the next member posted is n
-abbrev pub one_id : ℕ → Option Member → List ℕ → List ℕ
-one_id n (Some m) ids = n ∷ ids
-one_id n None ids = ids
-
-abbrev pub next_id : ℕ → Option Member → ℕ
-next_id n (Some m) = n + 1
-next_id n None = n
-
-abbrev pub weights_from : Model → Whole → ℕ → List Posted → List ℕ
-weights_from M whole n [] = []
-weights_from M whole n (p ∷ ps) = one_id n (member_in M whole p) (weights_from M whole (next_id n (member_posted M p)) ps)
-
 abbrev pub inputs_of_total : Model → Whole → List ℕ
-inputs_of_total M whole = map (λ m. id_of M m.term) (members_of M whole) ++ weights_from M whole (count_of M) M.posted.items
+inputs_of_total M whole = map (λ m. id_of M m.term) (members_of M whole) ++ weight_ids M whole
 
 abbrev pub value_of_total : Model → Whole → List Input → Result Input RunFault
 value_of_total M whole xs = (weighted_total (length (members_of M whole))).value xs

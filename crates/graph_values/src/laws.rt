@@ -7,9 +7,10 @@ ghost use Rattle.cbl_base.specs.NumberRule.{NumberRule};
 ghost use Rattle.cbl_base.specs.declared.faults.RunFault.{RunFault};
 ghost use Rattle.cbl_base.specs.declared.ids.NodeId.{NodeId};
 ghost use Rattle.cbl_base.specs.declared.input.Input.{Input};
-ghost use Rattle.graph_values.specs.Graphs.{HoldsTerms, cells_of, count_of, model_graph, value_by};
+ghost use Rattle.graph_values.specs.Graphs.{HoldsTerms, count_of, model_graph, value_by};
 ghost use Rattle.graph_values.specs.LeastFaults.{IsLeast, IsLeastFailure, least_failure};
 ghost use Rattle.graph_values.specs.Links.{AreAssigned, AreLinks, AreModelLinks, AreTakers, IsModelStop, value_of_head};
+ghost use Rattle.graph_values.specs.Members.{cells_of, numbers_of};
 ghost use Rattle.graph_values.specs.Outcomes.{HasLayers, IsGiven, MeansFresh, fresh_at};
 ghost use Rattle.graph_values.specs.Taken.{AreTaken};
 ghost use Rattle.graph_values.specs.Totals.{HoldsModel, IsFaultAt, IsRepeat, MeansRepeats, MeansTotals, values_at};
@@ -46,7 +47,7 @@ pub fn fresh_values_law()
     ensures layers { (users : ℕ → NumberRule) (M : Model) →
         IsWellFormed M → IsAcyclic M → HasLayers users M }
     ensures meaning { (users : ℕ → NumberRule) (M : Model) (a : List ℤ) → IsGiven M a →
-        IsMeaning (model_graph users M) (start_of a) (fresh_at users M a) }
+        IsMeaning (model_graph users M) (start_of (numbers_of M a)) (fresh_at users M a) }
     ensures values { (users : ℕ → NumberRule) (M : Model) (a : List ℤ) (g : Graph) → IsGiven M a →
         HoldsTerms users M g → MeansFresh users M a g }
 {}
@@ -58,16 +59,16 @@ pub fn fresh_values_law()
 pub fn least_fault_law()
     ensures there { (users : ℕ → NumberRule) (M : Model) (a : List ℤ) (g : Graph) →
         IsGiven M a → HoldsTerms users M g →
-        (o : ℕ → Outcome) → IsMeaning g (start_of a) o →
+        (o : ℕ → Outcome) → IsMeaning g (start_of (numbers_of M a)) o →
         (failure : Failure) → least_failure users M a ≡ Some failure →
         (id : ℕ) × IsLeast M a g id failure }
     ensures only { (users : ℕ → NumberRule) (M : Model) (a : List ℤ) (g : Graph) →
         IsGiven M a → HoldsTerms users M g →
-        (id : ℕ) (fault : RunFault) → FailsFirst g (start_of a) id fault → id < count_of M →
+        (id : ℕ) (fault : RunFault) → FailsFirst g (start_of (numbers_of M a)) id fault → id < count_of M →
         IsLeastFailure users M a id fault }
     ensures least { (users : ℕ → NumberRule) (M : Model) (a : List ℤ) (g : Graph) →
         IsGiven M a → HoldsTerms users M g →
-        (id : ℕ) (fault : RunFault) → FailsFirst g (start_of a) id fault →
+        (id : ℕ) (fault : RunFault) → FailsFirst g (start_of (numbers_of M a)) id fault →
         (k : ℕ) (t : Term) → slice_get (distinct_subterms M) k ≡ Some t →
         fails users (outcome_of_var users M a) t ≡ true → id ≤ cells_of M + k }
 {}
@@ -94,11 +95,11 @@ pub fn totals_law()
 pub fn model_law()
     ensures values { (users : ℕ → NumberRule) (M : Model) (a : List ℤ) (g : Graph) →
         (total : Whole → ℕ) → IsGiven M a → HoldsModel users M g total →
-        (x : ℕ → Input) → IsMeaning g (start_of a) (λ id. Value (x id)) →
+        (x : ℕ → Input) → IsMeaning g (start_of (numbers_of M a)) (λ id. Value (x id)) →
         fresh_of users M a ≡ Ok (values_at M total x) }
     ensures fault { (users : ℕ → NumberRule) (M : Model) (a : List ℤ) (g : Graph) →
         (total : Whole → ℕ) → IsGiven M a → HoldsModel users M g total →
-        (id : ℕ) (fault : RunFault) → FailsFirst g (start_of a) id fault →
+        (id : ℕ) (fault : RunFault) → FailsFirst g (start_of (numbers_of M a)) id fault →
         IsFaultAt users M a total id fault }
 {}
 
@@ -111,18 +112,19 @@ pub fn store_law()
         head_of t ≡ Some head → value_by users (out-Term t) xs ≡ value_of_head users head xs }
     ensures links { (users : ℕ → NumberRule) (M : Model) (rules : List Rule) →
         (inputs : List (Vec NodeId Global)) → AreLinks users M rules inputs →
-        HoldsTerms users M (graph_over rules (length M.vars.items) inputs) }
+        HoldsTerms users M (graph_over rules (cells_of M) inputs) }
     ensures model { (users : ℕ → NumberRule) (M : Model) (rules : List Rule) →
         (inputs : List (Vec NodeId Global)) (total : Whole → ℕ) → AreModelLinks users M rules inputs total →
-        HoldsModel users M (graph_over rules (length M.vars.items) inputs) total }
+        HoldsModel users M (graph_over rules (cells_of M) inputs) total }
     ensures values { (users : ℕ → NumberRule) (M : Model) (a : List ℤ) (total : Whole → ℕ) →
         (rules : List Rule) (helds : List (List Input)) (frame : Frame) (cells : List Input) →
         IsGiven M a → HoldsModel users M (graph_of rules frame) total →
-        IsKept rules helds frame cells → AreAssigned (graph_of rules frame) a (cell_of cells) →
+        IsKept rules helds frame cells →
+        AreAssigned (graph_of rules frame) (numbers_of M a) (cell_of cells) →
         fresh_of users M a ≡ Ok (values_at M total (cell_of cells)) }
     ensures stop { (users : ℕ → NumberRule) (M : Model) (a : List ℤ) (total : Whole → ℕ) →
         (g : Graph) (free : ℕ → Input) → IsGiven M a → HoldsModel users M g total →
-        AreAssigned g a free → (stop : StoreFault) → IsStop g free stop →
+        AreAssigned g (numbers_of M a) free → (stop : StoreFault) → IsStop g free stop →
         IsModelStop users M a total stop }
 {}
 
@@ -133,13 +135,13 @@ pub fn taken_law()
     ensures nodes { (viol_of : ℕ → List ℤ → ℤ) (viol_at : ℕ → List ℤ → ℕ → ℤ) (M : Model) (a : List ℤ) →
         IsGiven M a → HasDefinedSets M → (g : Graph) (total : Whole → ℕ) →
         HoldsModel (user_rules viol_of viol_at) M g total →
-        (o : ℕ → Outcome) → IsMeaning g (start_of a) o →
+        (o : ℕ → Outcome) → IsMeaning g (start_of (numbers_of M a)) o →
         AreTaken (user_rules viol_of viol_at) M g total o }
     ensures rules { (viol_of : ℕ → List ℤ → ℤ) (viol_at : ℕ → List ℤ → ℕ → ℤ) (M : Model) (a : List ℤ) →
         IsGiven M a → HasDefinedSets M →
         (rules : List Rule) (inputs : List (Vec NodeId Global)) (total : Whole → ℕ) →
         AreModelLinks (user_rules viol_of viol_at) M rules inputs total →
         AreTakers (user_rules viol_of viol_at) M rules inputs total →
-        (o : ℕ → Outcome) → IsMeaning (graph_over rules (length a) inputs) (start_of a) o →
-        Takes rules (length a) inputs o }
+        (o : ℕ → Outcome) → IsMeaning (graph_over rules (cells_of M) inputs) (start_of (numbers_of M a)) o →
+        Takes rules (cells_of M) inputs o }
 {}

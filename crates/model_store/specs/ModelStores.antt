@@ -4,8 +4,8 @@ use Rattle.cbl_base.specs.NodeLaw.{Rule}
 use Rattle.cbl_base.specs.declared.ids.NodeId.{NodeId}
 use Rattle.cbl_base.specs.declared.ids.VarId.{VarId}
 use Rattle.cbl_base.specs.declared.input.Input.{Input}
-use Rattle.graph_values.specs.Graphs.{cells_of}
 use Rattle.graph_values.specs.Links.{AreAssigned, IsModelStop}
+use Rattle.graph_values.specs.Members.{cells_of}
 use Rattle.graph_values.specs.Outcomes.{IsGiven}
 use Rattle.graph_values.specs.Totals.{HoldsModel, values_at}
 use Rattle.inc_store.specs.Moves.{is_moved, moved_to}
@@ -19,16 +19,16 @@ use Rattle.store_build.specs.Stops.{IsStop}
 use Rattle.store_build.specs.declared.parts.StoreFault.{StoreFault}
 use Rattle.store_build.specs.declared.parts.StoreFault.TheVariants.{Node, NoMemory}
 use Rattle.store_turns.specs.Meaning.{uses_in}
-use Rattle.model_store.specs.Settings.{Setting, users_in}
+use Rattle.model_store.specs.Settings.{Setting, numbers_in, users_in}
 
 module _ {N : Type 0} where
-  -- a store that can be used and holds the model, and whose free cells hold the assignment's numbers
+  -- a store that can be used and holds the model, and whose free cells hold the assignment's numbers and the weights
   pub record IsStoreOf (rule : N → Rule) (held : N → List Input) (ready : N → Type 0) (setting : Setting) (s : Store N) : Type 0 where
     pub given : IsGiven setting.model setting.assignment
     pub usable : IsUsable rule held ready s
     pub cells : first_of s ≡ cells_of setting.model
     pub holds : HoldsModel (users_in setting) setting.model (graph_in rule s) setting.total
-    pub assigned : AreAssigned (graph_in rule s) setting.assignment (value_at s)
+    pub assigned : AreAssigned (graph_in rule s) (numbers_in setting) (value_at s)
 
   -- the values that it has of the model's variables, systems and objectives
   abbrev pub values_in : Setting → Store N → Fresh

@@ -6,8 +6,8 @@ ghost use Rattle.inc_store.specs.Stores.{changes_between};
 ghost use Rattle.inc_store.specs.Views.{graph_in};
 ghost use Rattle.model_store.specs.ModelStores.{Agrees, AreFewSteps, IsFaultOf, IsStoreOf};
 ghost use Rattle.model_store.specs.ModelStores.{StopsAt, StopsMoved, values_in};
-ghost use Rattle.model_store.specs.Settings.{AreNodesOf, AreStartsOf, IsSetting, Setting};
-ghost use Rattle.model_store.specs.Settings.{after, fresh_in};
+ghost use Rattle.model_store.specs.Settings.{AreNodesOf, AreOfVariables, AreStartsOf, IsSetting};
+ghost use Rattle.model_store.specs.Settings.{Setting, after, fresh_in};
 
 use cbl_base::{NodeRule, Steps, VarId};
 use inc_store::{Changed, LayerEval, Links, Store, StoreFault};
@@ -15,8 +15,8 @@ use layer_plan::Layers;
 use std::alloc::Global;
 use std::sync::ledger::Ledger;
 
-/// A store of these nodes, which are a model's, behind the cells of the model's variables. It has the
-/// values that evaluating the model afresh gives. `Node` exactly where that has a fault, which is then
+/// A store of these nodes, which are a model's, behind the cells of the model's variables and of its
+/// systems' weights. It has the values that evaluating the model afresh gives. `Node` exactly where that has a fault, which is then
 /// this one, at the node's place: the least node whose own operation fails though all its inputs have
 /// values. It takes what `Store::build` takes.
 pub fn build<N: NodeRule, E: LayerEval<N>>(
@@ -55,6 +55,7 @@ pub fn commit<N: NodeRule, L: Ledger>(
     ghost setting: { Setting }
     requires store { IsStoreOf N.rule N.held N.ready setting store.old }
     requires moves { AreMoves (graph_in N.rule store.old) moves.now }
+    requires variables { AreOfVariables setting.model moves.now }
     ensures usable { store.new.is_usable ≡ is_ok result }
     ensures store { OnOk result (IsStoreOf N.rule N.held N.ready
         (after moves.now setting) store.new) }

@@ -1,6 +1,3 @@
-use Rattle.std.proofs.Common.{ℕ, subst, sym}
-use Rattle.store_build.specs.Aims.{Takes, graph_over, start_of}
-use Rattle.store_turns.specs.Meaning.{IsMeaning}
 use Rattle.graph_values.proofs.TakenInputs.{are_taken}
 use Rattle.graph_values.proofs.TakenLinks.{all_take}
 use Rattle.graph_values.proofs.laws.taken_law.Goals as goal
@@ -10,5 +7,4 @@ returns-clause-nodes c = λ viol_of viol_at M a given sets g total holds o meani
 
 pub returns-clause-rules : goal.returns-clause-rules
 returns-clause-rules c = λ viol_of viol_at M a given sets rules inputs total links takers o meaning.
-    subst (λ (n : ℕ). Takes rules n inputs o) (sym given.long)
-    (all_take viol_of viol_at M a given.formed given.acyclic given.long sets rules inputs total links takers o (subst (λ (n : ℕ). IsMeaning (graph_over rules n inputs) (start_of a) o) given.long meaning))
+    all_take viol_of viol_at M a given.formed given.acyclic given.long sets rules inputs total links takers o meaning

@@ -7,7 +7,7 @@ use Rattle.model_store.proofs.stores.commit.Goals as goal
 pub returns-clause-store : goal.returns-clause-store
 returns-clause-store g c =
     let e = c.commit.ensures in
-    moves_result g.N.NodeRule.rule g.N.NodeRule.held g.N.NodeRule.ready g.setting c.args.store.now c.commit.new.self c.requires.1.1.1.1.0 c.args.moves.now c.commit.result e.kept e.nodes e.moved
+    moves_result g.N.NodeRule.rule g.N.NodeRule.held g.N.NodeRule.ready g.setting c.args.store.now c.commit.new.self c.requires.1.1.0 c.args.moves.now c.requires.1.1.1.1 c.commit.result e.kept e.nodes e.moved
 
 pub returns-clause-values : goal.returns-clause-values
 returns-clause-values g c =
@@ -16,7 +16,7 @@ returns-clause-values g c =
 
 pub returns-clause-fault : goal.returns-clause-fault
 returns-clause-fault g c =
-    IfErr-weaker c.commit.result _ _ (λ stop first. moves_fault g.N.NodeRule.rule g.N.NodeRule.held g.N.NodeRule.ready g.setting c.args.store.now c.requires.1.1.1.1.0 c.args.moves.now stop first) c.commit.ensures.fault
+    IfErr-weaker c.commit.result _ _ (λ stop first. moves_fault g.N.NodeRule.rule g.N.NodeRule.held g.N.NodeRule.ready g.setting c.args.store.now c.requires.1.1.0 c.args.moves.now c.requires.1.1.1.1 stop first) c.commit.ensures.fault
 
 pub returns-clause-agrees : goal.returns-clause-agrees
 returns-clause-agrees g c = agrees (after c.args.moves.now g.setting) (λ _. values_in g.setting c.commit.new.self) c.commit.result (returns-clause-values g c) (returns-clause-fault g c)

@@ -1,0 +1,9 @@
+pub mod Depends
+pub mod Terms
+pub mod Standing
+pub mod Failing
+pub mod Tells
+pub mod Trials
+pub mod Touches
+pub mod SameGraphs
+pub mod CommitSteps
