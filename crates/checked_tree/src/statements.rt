@@ -50,7 +50,7 @@ pub struct Variable {
     pub start: Option<Start>,
 }
 
-/// What a statement does that holds no statement. Forms that are large are boxed.
+/// What a statement does that holds no statement.
 #[derive(Drop)]
 pub enum Action {
     Empty,
@@ -58,14 +58,14 @@ pub enum Action {
     Declare {
         slot: Slot,
         kind: Kind,
-        start: Option<Box<Typed>>,
+        start: Option<Typed>,
     },
     /// An array of `int` with one dimension or two.
     DeclareArray {
         slot: Slot,
         kind: Kind,
         dimensions: Vec<Dimension>,
-        start: Option<Box<Start>>,
+        start: Option<Start>,
     },
     DeclareVariable(Box<Variable>),
     /// An object that is declared, or that a name is given by `new`.
@@ -76,14 +76,14 @@ pub enum Action {
     },
     /// `target = value` and its like.
     Write {
-        target: Box<Typed>,
+        target: Typed,
         operator: WriteOperator,
-        value: Box<Typed>,
+        value: Typed,
     },
     /// `left :=: right`
     Swap {
-        left: Box<Typed>,
-        right: Box<Typed>,
+        left: Typed,
+        right: Typed,
     },
     /// `target++` and `target--`
     Step {
@@ -105,21 +105,6 @@ pub struct Counter {
     pub start: Typed,
 }
 
-/// What stands in a `for` before its body.
-#[derive(Drop)]
-pub struct Head {
-    pub counter: Option<Counter>,
-    pub test: Option<Typed>,
-    pub step: Option<Action>,
-}
-
-/// Generators with their condition.
-#[derive(Drop)]
-pub struct Choice {
-    pub generators: Vec<Generator>,
-    pub condition: Option<Typed>,
-}
-
 /// The cells of the old and the new value in a `whenever`.
 #[derive(Clone, Copy)]
 pub struct EventSlots {
@@ -129,23 +114,16 @@ pub struct EventSlots {
 
 /// A statement. The place is its first token's.
 #[cycle(task)]
+#[derive(Drop)]
 pub struct Task {
     pub place: Place,
     pub act: Act,
 }
 
-// Written and not derived, as that of an expression is, and by the same reason.
-impl Drop for Task {
-    #[cycle(release_task)]
-    fn drop(self) {
-        let Self { place: _, act: _ } = self;
-    }
-}
-
 /// A statement that runs later. Who keeps it for then has it, too, so it isn't copied.
 pub type Later = Arc<Box<Task>>;
 
-/// What a statement does. Forms that are large are boxed, since each statement takes the room of the largest.
+/// What a statement does.
 #[cycle(task)]
 #[derive(Drop)]
 pub enum Act {
@@ -165,21 +143,26 @@ pub enum Act {
         body: Box<Task>,
     },
     For {
-        head: Box<Head>,
+        counter: Option<Counter>,
+        test: Option<Typed>,
+        step: Option<Action>,
         body: Box<Task>,
     },
     ForAll {
-        choice: Box<Choice>,
+        generators: Vec<Generator>,
+        condition: Option<Typed>,
         body: Box<Task>,
     },
     Select {
-        choice: Box<Choice>,
+        generators: Vec<Generator>,
+        condition: Option<Typed>,
         body: Box<Task>,
     },
     SelectBy {
         extreme: Extreme,
-        choice: Box<Choice>,
-        key: Box<Typed>,
+        generators: Vec<Generator>,
+        condition: Option<Typed>,
+        key: Typed,
         body: Box<Task>,
     },
     Neighbor {
@@ -188,7 +171,7 @@ pub enum Act {
         body: Later,
     },
     Whenever {
-        variable: Box<Typed>,
+        variable: Typed,
         names: Option<EventSlots>,
         body: Later,
     },

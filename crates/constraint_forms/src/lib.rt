@@ -7,6 +7,7 @@
 
 mod calls;
 pub mod constraints;
+pub mod defining;
 mod function_nodes;
 mod functions;
 mod joinings;

@@ -1,1 +1,3 @@
 pub mod ObjectLaws
+pub mod OfRunObjects
+pub mod OfRunSteps

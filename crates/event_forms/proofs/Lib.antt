@@ -1,1 +1,3 @@
 pub mod QueueLaws
+pub mod OfRunObjects
+pub mod OfRunSteps

@@ -10,4 +10,4 @@
 pub mod levels;
 
 pub use levels::{evaluate, run};
-pub use run_steps::code::{Code, Flow};
+pub use statement_forms::steps_of_runs::{Code, Flow};

@@ -4,6 +4,7 @@ pub mod OpenTuples
 pub mod Parts
 pub mod Returns
 pub mod Copies
+pub mod Extents
 pub mod Following
 pub mod Operands
 pub mod Plainly
@@ -14,3 +15,4 @@ pub mod OfRunOutside
 pub mod OfRunSearch
 pub mod OfRunSolvers
 pub mod OfRunState
+pub mod OfRunValues

@@ -5,3 +5,5 @@ pub mod ScanLaws
 pub mod TieLaws
 pub mod ChoiceLaws
 pub mod LaterLaws
+pub mod OfRunObjects
+pub mod OfRunSteps

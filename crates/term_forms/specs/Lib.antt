@@ -1,2 +1,5 @@
 pub mod Bodies
 pub mod Steps
+pub mod OfRunOutside
+pub mod OfRunState
+pub mod OfRunSteps

@@ -1,0 +1,4 @@
+pub mod OfRunObjects
+pub mod OfRunOutside
+pub mod OfRunState
+pub mod OfRunSteps

@@ -1,0 +1,2 @@
+-- What callers cite of run_objects.
+pub use Rattle.run_steps.proofs.OfRunObjects.WithLaws

@@ -1,0 +1,2 @@
+-- What callers cite of run_outside.
+pub use Rattle.run_steps.specs.OfRunOutside.Told

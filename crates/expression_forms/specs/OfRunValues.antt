@@ -1,0 +1,3 @@
+-- What callers cite of run_values.
+pub use Rattle.run_values.specs.Did
+pub use Rattle.run_values.specs.Views

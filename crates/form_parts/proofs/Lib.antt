@@ -1,2 +1,0 @@
-pub mod BodyLaws
-pub mod PartLaws

@@ -1,0 +1,4 @@
+-- What callers cite of run_values.
+pub use Rattle.run_values.specs.Did
+pub use Rattle.run_values.specs.Views
+pub use Rattle.run_values.specs.declared

@@ -1,0 +1,2 @@
+//! What callers use of `run_objects`.
+pub use declaration_forms::objects_of_runs::open_with;

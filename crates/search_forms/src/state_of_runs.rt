@@ -1,0 +1,2 @@
+//! What callers use of `run_state`.
+pub use declaration_forms::state_of_runs::{InTerm, Outside, State, Target, print};

@@ -1,0 +1,2 @@
+mod WriteLaws
+pub mod OfRunSteps

@@ -1,0 +1,3 @@
+pub mod OfRunState
+pub mod OfRunSteps
+pub mod OfRunValues

@@ -1,0 +1,2 @@
+-- What callers cite of run_values.
+pub use Rattle.run_values.specs.Views
