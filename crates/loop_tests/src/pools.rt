@@ -174,7 +174,7 @@ fn a_pool_of_two_keeps_the_least(rt: HostRuntime) -> Result<(), Fail> {
 fn a_large_pool_keeps_the_least(rt: HostRuntime) -> Result<(), Fail> {
     let mut desk = desk_of_one(rt.alloc(), 1024)?;
     for i in 0..1500i64 {
-        let request = DeskRequest::Pool(add(rt.alloc(), 1500 - i, &[i])?);
+        let request = DeskRequest::Pool(add(rt.alloc(), 1500i64.saturating_sub(i), &[i])?);
         assert_eq!(rt; answer_of(desk.step(&request)?), Answer::Truth(true));
     }
     let late = DeskRequest::Pool(add(rt.alloc(), 1024, &[])?);
