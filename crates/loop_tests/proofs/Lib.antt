@@ -1,3 +1,1 @@
-pub mod Declared
-pub mod Ran
 pub mod Replayed
