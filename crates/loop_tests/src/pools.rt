@@ -1,5 +1,5 @@
 //! What a desk's pools answer, and what a desk's journal keeps.
-ghost use Rattle.std.specs.Prelude.{◌≡◌, ◌≤◌, ◌<◌, length, IfOk};
+ghost use Rattle.std.specs.Prelude.{◌≡◌, ◌≤◌, ◌<◌, length, IfOk, OnOk};
 ghost use Rattle.pool_monitor.specs.Pool.{pool_of};
 ghost use Rattle.pool_monitor.specs.Desk.{IsDeclared};
 
@@ -118,31 +118,54 @@ static RANKED: [RankRow; 6] = [
     },
 ];
 
+// Adds the value, and tells whether the desk's reply and its step both say what they should.
+fn is_added(alloc: Global, desk: &mut Desk, row: &AddRow) -> Result<bool, NoMemory>
+    requires { length desk.old.pools ≡ 1 }
+    ensures { OnOk result (length desk.new.pools ≡ 1) }
+{
+    let request = DeskRequest::Pool(add(alloc, row.value, &[row.number])?);
+    let told = answer_of(desk.reply(&request)?);
+    let done = answer_of(desk.step(&request)?);
+    Ok(told == Answer::Truth(row.is_kept) && done == told)
+}
+
+// The value at a rank, its list where there is room for it, and its list where there is none.
+fn answers_of(row: &RankRow) -> (Answer, Answer, Answer) {
+    match row.kept {
+        None => (Answer::Missing, Answer::Missing, Answer::Missing),
+        Some((value, number)) => (
+            Answer::Number(value),
+            Answer::List(1, Some(number)),
+            Answer::Long(1),
+        ),
+    }
+}
+
+// Whether the desk answers so at the rank.
+fn is_ranked(desk: &Desk, row: &RankRow) -> Result<bool, NoMemory>
+    requires { length desk.now.pools ≡ 1 }
+{
+    let (value, list, long) = answers_of(row);
+    let found = value_at(desk, row.rank)?;
+    let copied = list_at(desk, row.rank, 1)?;
+    let refused = list_at(desk, row.rank, 0)?;
+    Ok(found == value && copied == list && refused == long)
+}
+
 #[test]
 fn a_pool_of_two_keeps_the_least(rt: HostRuntime) -> Result<(), Fail> {
     let mut desk = desk_of_one(rt.alloc(), 2)?;
     assert_eq!(rt; size_of(&desk)?, Answer::Number(0));
     for row in &ADDED {
-        let request = DeskRequest::Pool(add(rt.alloc(), row.value, &[row.number])?);
-        assert_eq!(rt;
-            answer_of(desk.reply(&request)?),
-            Answer::Truth(row.is_kept)
+        assert!(rt;
+            is_added(rt.alloc(), &mut desk, row)?,
+            "value {}",
+            row.value
         );
-        assert_eq!(rt; answer_of(desk.step(&request)?), Answer::Truth(row.is_kept));
     }
     assert_eq!(rt; size_of(&desk)?, Answer::Number(2));
     for row in &RANKED {
-        let (value, list, long) = match row.kept {
-            None => (Answer::Missing, Answer::Missing, Answer::Missing),
-            Some((value, number)) => (
-                Answer::Number(value),
-                Answer::List(1, Some(number)),
-                Answer::Long(1),
-            ),
-        };
-        assert_eq!(rt; value_at(&desk, row.rank)?, value, "rank {}", row.rank);
-        assert_eq!(rt; list_at(&desk, row.rank, 1)?, list, "rank {}", row.rank);
-        assert_eq!(rt; list_at(&desk, row.rank, 0)?, long, "rank {}", row.rank);
+        assert!(rt; is_ranked(&desk, row)?, "rank {}", row.rank);
     }
     Ok(())
 }
@@ -151,7 +174,7 @@ fn a_pool_of_two_keeps_the_least(rt: HostRuntime) -> Result<(), Fail> {
 fn a_large_pool_keeps_the_least(rt: HostRuntime) -> Result<(), Fail> {
     let mut desk = desk_of_one(rt.alloc(), 1024)?;
     for i in 0..1500i64 {
-        let request = DeskRequest::Pool(add(rt.alloc(), 1500 - i, &[i])?);
+        let request = DeskRequest::Pool(add(rt.alloc(), 1500i64.saturating_sub(i), &[i])?);
         assert_eq!(rt; answer_of(desk.step(&request)?), Answer::Truth(true));
     }
     let late = DeskRequest::Pool(add(rt.alloc(), 1024, &[])?);

@@ -1,4 +1,7 @@
 //! A port that replays a short list of entries.
+ghost use Rattle.std.specs.Prelude.{IfOk};
+ghost use Rattle.pool_monitor.specs.Replies.{CanHave};
+
 use best_monitor::{MonitorPort, PortStop, Reply, Request};
 use best_turn::Entry;
 use cbl_base::{NoMemory, Numbers, Text};
@@ -25,6 +28,37 @@ fn take(room: u64) -> DeskRequest {
     })
 }
 
+// The report of iteration 3, which didn't replace the best.
+fn reported(alloc: Global) -> Result<Entry<DeskRequest, Reply>, NoMemory>
+    ensures { IfOk result (λ e. CanHave e.request e.reply) }
+{
+    Ok(Entry {
+        iteration: 3,
+        request: DeskRequest::Best(Request::Report {
+            monitor: 0,
+            value: 1,
+            second: 0,
+            list: Numbers::from_slice(alloc, &[4])?,
+        }),
+        reply: Reply::Truth(false),
+    })
+}
+
+// What iteration 3 took behind it, which wasn't there.
+fn taken() -> Entry<DeskRequest, Reply>
+    ensures { CanHave result.request result.reply }
+{
+    Entry {
+        iteration: 3,
+        request: DeskRequest::Pool(PoolRequest::Take {
+            pool: 7,
+            rank: -2,
+            room: 9,
+        }),
+        reply: Reply::Missing,
+    }
+}
+
 // Whether a port stopped on this line, and said this.
 fn differs(answer: &Result<Reply, PortStop>, line: u64, expected: &str, found: &str) -> bool {
     match answer {
@@ -39,18 +73,11 @@ fn is_text(text: &Text, wanted: &str) -> bool {
     text.as_slice() == wanted.as_bytes()
 }
 
+#[tactic(auto, using(crate::proofs::Replayed::two_had))]
 #[test]
 fn entries_are_replayed_in_order(rt: HostRuntime) -> Result<(), Fail> {
-    let one = Entry {
-        iteration: 3,
-        request: report(rt.alloc())?,
-        reply: Reply::Truth(false),
-    };
-    let two = Entry {
-        iteration: 3,
-        request: take(9),
-        reply: Reply::Missing,
-    };
+    let one = reported(rt.alloc())?;
+    let two = taken();
     let lines = [
         EntryLine {
             line: 6,

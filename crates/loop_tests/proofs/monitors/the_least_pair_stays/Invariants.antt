@@ -2,4 +2,4 @@ use Rattle.std.proofs.Common.{◌≡◌, length}
 use Rattle.loop_tests.proofs.monitors.the_least_pair_stays.Given as goal
 
 abbrev pub invariant-loop-row : goal.invariant-loop-row
-invariant-loop-row l = length l.board ≡ 1
+invariant-loop-row g l = length l.board ≡ 1

@@ -2,4 +2,4 @@ use Rattle.std.proofs.Common.{◌≡◌, length}
 use Rattle.loop_tests.proofs.pools.a_large_pool_keeps_the_least.Given as goal
 
 abbrev pub invariant-loop-i : goal.invariant-loop-i
-invariant-loop-i l = length l.desk.pools ≡ 1
+invariant-loop-i g l = length l.desk.pools ≡ 1
