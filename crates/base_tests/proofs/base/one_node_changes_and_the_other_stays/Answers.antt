@@ -15,13 +15,13 @@ fits : (s a r : List ℤ) (held : List Input) (changes : List Change) → s ≡ 
 fits s a r held changes is_s is_a is_r is_held are = rw (is_held, are, is_s, is_a, is_r) literally
 
 pub probe_at-requires-clause-changes : goal.probe_at-requires-clause-changes
-probe_at-requires-clause-changes g c κs x is =
+probe_at-requires-clause-changes g c x is =
     fits _ _ _ _ _ c.in_ok-from_slice.ensures c.in_ok-from_slice-2.ensures c.in_ok-from_slice-3.ensures
     ((c.in_ok-reset_at.ensures.here x (sym (c.in_ok-reset_at-2.ensures.others 0 (λ e. omega (arith, e))) ∙ is)).1 ∙ c.as_slice.ensures.value ∙ c.in_ok-inputs.ensures.items)
     (c.as_slice-3.ensures.value ∙ c.in_ok-changes.ensures.items)
 
 pub apply_at-requires-clause-changes : goal.apply_at-requires-clause-changes
-apply_at-requires-clause-changes g c κs x is =
+apply_at-requires-clause-changes g c x is =
     fits _ _ _ _ _ c.in_ok-from_slice.ensures c.in_ok-from_slice-2.ensures c.in_ok-from_slice-3.ensures
     ((c.in_ok-reset_at.ensures.here x (sym (c.in_ok-reset_at-2.ensures.others 0 (λ e. omega (arith, e))) ∙ is)).1 ∙ c.as_slice.ensures.value ∙ c.in_ok-inputs.ensures.items)
     (c.as_slice-4.ensures.value ∙ c.in_ok-changes.ensures.items)
