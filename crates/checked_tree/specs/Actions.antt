@@ -84,12 +84,12 @@ variable_of v = record {
 -- what a statement of the tree does, without its pointers
 unfoldable pub deed_of : Action → Deed
 deed_of actions.Empty = nothing
-deed_of (actions.Declare s k e) = declaring s k (option_map seen e)
-deed_of (actions.DeclareArray s k ds e) = declaring_array s k (map dimension_of ds.items) (option_map start_of e)
+deed_of (actions.Declare s k e) = declaring s k (option_map (λ x. seen x.value) e)
+deed_of (actions.DeclareArray s k ds e) = declaring_array s k (map dimension_of ds.items) (option_map (λ x. start_of x.value) e)
 deed_of (actions.DeclareVariable v) = declaring_variable (variable_of v.value)
 deed_of (actions.Make s k es) = making s k (map seen es.items)
-deed_of (actions.Write t o v) = writing o (seen t) (seen v)
-deed_of (actions.Swap a b) = swapping (seen a) (seen b)
+deed_of (actions.Write t o v) = writing o (seen t.value) (seen v.value)
+deed_of (actions.Swap a b) = swapping (seen a.value) (seen b.value)
 deed_of (actions.Step t x) = stepping x (seen t)
 deed_of (actions.Do e) = doing (seen e)
 deed_of (actions.Choose e) = choosing (seen e)

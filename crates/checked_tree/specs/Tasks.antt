@@ -56,12 +56,12 @@ act_layer (acts.Block ts) = block (row_of ts.items)
 act_layer (acts.If t a) = when (seen t) a.value
 act_layer (acts.IfElse t a b) = when_else (seen t) a.value b.value
 act_layer (acts.While t b) = loop (seen t) b.value
-act_layer (acts.For c t x b) = counting (option_map counter_of c) (option_map seen t) (option_map deed_of x) b.value
-act_layer (acts.ForAll gs c b) = for_all (map shape_of_generator gs.items) (option_map seen c) b.value
-act_layer (acts.Select gs c b) = selecting (map shape_of_generator gs.items) (option_map seen c) b.value
-act_layer (acts.SelectBy x gs c k b) = selecting_by x (map shape_of_generator gs.items) (option_map seen c) (seen k) b.value
+act_layer (acts.For h b) = counting (option_map counter_of h.value.counter) (option_map seen h.value.test) (option_map deed_of h.value.step) b.value
+act_layer (acts.ForAll c b) = for_all (map shape_of_generator c.value.generators.items) (option_map seen c.value.condition) b.value
+act_layer (acts.Select c b) = selecting (map shape_of_generator c.value.generators.items) (option_map seen c.value.condition) b.value
+act_layer (acts.SelectBy x c k b) = selecting_by x (map shape_of_generator c.value.generators.items) (option_map seen c.value.condition) (seen k.value) b.value
 act_layer (acts.Neighbor k s b) = submitting (seen k) s b.value.value
-act_layer (acts.Whenever v ns b) = watching (seen v) ns b.value.value
+act_layer (acts.Whenever v ns b) = watching (seen v.value) ns b.value.value
 act_layer (acts.With m s b) = at_once m s b.value
 act_layer (acts.Parall s d b) = in_threads s (seen d) b.value
 

@@ -69,7 +69,6 @@ pub enum Method {
 
 /// An expression, with its place, what it is, and whether it holds incremental variables in a term.
 #[cycle(typed)]
-#[derive(Drop)]
 pub struct Typed {
     /// Its first token.
     pub start: Place,
@@ -77,6 +76,21 @@ pub struct Typed {
     pub kind: Kind,
     pub moving: bool,
     pub form: Form,
+}
+
+// Written and not derived: so each crate above that lets an expression go makes one call, and doesn't
+// prove the release of its forms again.
+impl Drop for Typed {
+    #[cycle(release_typed)]
+    fn drop(self) {
+        let Self {
+            start: _,
+            place: _,
+            kind: _,
+            moving: _,
+            form: _,
+        } = self;
+    }
 }
 
 /// The form of an expression.

@@ -13,7 +13,7 @@ pub mod stop;
 pub use expressions::{Builtin, Form, Generator, Link, Method, Slot, Typed};
 pub use kind::Kind;
 pub use statements::{
-    Act, Action, Checked, Counter, Dimension, EventSlots, Function, Later, Printed, Start, Task,
-    Variable, Way,
+    Act, Action, Checked, Choice, Counter, Dimension, EventSlots, Function, Head, Later, Printed,
+    Start, Task, Variable, Way,
 };
 pub use stop::{Cause, Stop};

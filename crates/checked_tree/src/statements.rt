@@ -50,7 +50,7 @@ pub struct Variable {
     pub start: Option<Start>,
 }
 
-/// What a statement does that holds no statement.
+/// What a statement does that holds no statement. Forms that are large are boxed.
 #[derive(Drop)]
 pub enum Action {
     Empty,
@@ -58,14 +58,14 @@ pub enum Action {
     Declare {
         slot: Slot,
         kind: Kind,
-        start: Option<Typed>,
+        start: Option<Box<Typed>>,
     },
     /// An array of `int` with one dimension or two.
     DeclareArray {
         slot: Slot,
         kind: Kind,
         dimensions: Vec<Dimension>,
-        start: Option<Start>,
+        start: Option<Box<Start>>,
     },
     DeclareVariable(Box<Variable>),
     /// An object that is declared, or that a name is given by `new`.
@@ -76,14 +76,14 @@ pub enum Action {
     },
     /// `target = value` and its like.
     Write {
-        target: Typed,
+        target: Box<Typed>,
         operator: WriteOperator,
-        value: Typed,
+        value: Box<Typed>,
     },
     /// `left :=: right`
     Swap {
-        left: Typed,
-        right: Typed,
+        left: Box<Typed>,
+        right: Box<Typed>,
     },
     /// `target++` and `target--`
     Step {
@@ -105,6 +105,21 @@ pub struct Counter {
     pub start: Typed,
 }
 
+/// What stands in a `for` before its body.
+#[derive(Drop)]
+pub struct Head {
+    pub counter: Option<Counter>,
+    pub test: Option<Typed>,
+    pub step: Option<Action>,
+}
+
+/// Generators with their condition.
+#[derive(Drop)]
+pub struct Choice {
+    pub generators: Vec<Generator>,
+    pub condition: Option<Typed>,
+}
+
 /// The cells of the old and the new value in a `whenever`.
 #[derive(Clone, Copy)]
 pub struct EventSlots {
@@ -114,16 +129,23 @@ pub struct EventSlots {
 
 /// A statement. The place is its first token's.
 #[cycle(task)]
-#[derive(Drop)]
 pub struct Task {
     pub place: Place,
     pub act: Act,
 }
 
+// Written and not derived, as that of an expression is, and by the same reason.
+impl Drop for Task {
+    #[cycle(release_task)]
+    fn drop(self) {
+        let Self { place: _, act: _ } = self;
+    }
+}
+
 /// A statement that runs later. Who keeps it for then has it, too, so it isn't copied.
 pub type Later = Arc<Box<Task>>;
 
-/// What a statement does.
+/// What a statement does. Forms that are large are boxed, since each statement takes the room of the largest.
 #[cycle(task)]
 #[derive(Drop)]
 pub enum Act {
@@ -143,26 +165,21 @@ pub enum Act {
         body: Box<Task>,
     },
     For {
-        counter: Option<Counter>,
-        test: Option<Typed>,
-        step: Option<Action>,
+        head: Box<Head>,
         body: Box<Task>,
     },
     ForAll {
-        generators: Vec<Generator>,
-        condition: Option<Typed>,
+        choice: Box<Choice>,
         body: Box<Task>,
     },
     Select {
-        generators: Vec<Generator>,
-        condition: Option<Typed>,
+        choice: Box<Choice>,
         body: Box<Task>,
     },
     SelectBy {
         extreme: Extreme,
-        generators: Vec<Generator>,
-        condition: Option<Typed>,
-        key: Typed,
+        choice: Box<Choice>,
+        key: Box<Typed>,
         body: Box<Task>,
     },
     Neighbor {
@@ -171,7 +188,7 @@ pub enum Act {
         body: Later,
     },
     Whenever {
-        variable: Typed,
+        variable: Box<Typed>,
         names: Option<EventSlots>,
         body: Later,
     },

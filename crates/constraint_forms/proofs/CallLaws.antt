@@ -12,7 +12,7 @@ use Rattle.comet_meaning.specs.TermForms.{single}
 use Rattle.comet_meaning.specs.State.{State}
 use Rattle.comet_meaning.specs.Outcome.{Act, Went}
 use Rattle.comet_meaning.specs.Levels.{Level}
-use Rattle.term_forms.specs.OfRunSteps.Views.{part, row}
+use Rattle.run_steps.specs.Views.{part, row}
 use Rattle.constraint_forms.specs.Steps.{of_four, of_one, of_three, of_two}
 
 module _ (l : Level) (at : Place) (s : State) where

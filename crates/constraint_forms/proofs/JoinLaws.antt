@@ -15,8 +15,8 @@ use Rattle.comet_meaning.specs.TermForms.{Keyed, bodies_of, keyed_form, node_for
 use Rattle.comet_meaning.proofs.GoingOn.{goes_back_in}
 use Rattle.comet_meaning.proofs.GoingTerms.{goes_node}
 use Rattle.run_values.specs.declared.stop.Stop.{Stop}
-use Rattle.term_forms.specs.OfRunSteps.Does.{Ends}
-use Rattle.term_forms.proofs.OfRunSteps.Exits.{ends_passes}
+use Rattle.run_steps.specs.Does.{Ends}
+use Rattle.run_steps.proofs.Exits.{ends_passes}
 
 module _ (l : Level) (at : Place) (a : Aggregate) (gs : List Shape) (c body : Shape) (s : State) where
   pub joining_ends : (stop : Stop) (t : State) → Ends stop t (each_tuple l at always (keyed_form l at a c body) [] gs [] s) → Ends stop t (joining_form l at a gs c body s)

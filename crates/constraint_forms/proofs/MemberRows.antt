@@ -17,8 +17,8 @@ use Rattle.comet_meaning.proofs.GoingParts.{LevelGoesOn}
 use Rattle.comet_meaning.proofs.GoingConstraints.{goes_members}
 use Rattle.comet_meaning.proofs.Endings.{went_then, Passes, passes_to}
 use Rattle.comet_meaning.proofs.Rows.{at_next, at_end, items_rows}
-use Rattle.term_forms.specs.OfRunSteps.Views.{links_seen}
-use Rattle.term_forms.proofs.OfRunSteps.Forms.{link_is}
+use Rattle.run_steps.specs.Views.{links_seen}
+use Rattle.run_steps.proofs.Forms.{link_is}
 use Rattle.constraint_forms.specs.Steps.{members_node}
 
 -- the members that are left

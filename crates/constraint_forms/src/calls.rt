@@ -4,10 +4,10 @@ ghost use Rattle.checked_tree.specs.declared.expressions.Builtin.TheVariants.{Us
 ghost use Rattle.comet_meaning.specs.ConstraintForms as forms;
 ghost use Rattle.comet_meaning.specs.Program.{level};
 ghost use Rattle.constraint_forms.specs.Steps.{of_four, of_one, of_three, of_two};
-ghost use Rattle.term_forms.specs.OfRunState.InTerms.{in_term_seen};
-ghost use Rattle.term_forms.specs.OfRunState.Views.{state_seen};
-ghost use Rattle.term_forms.specs.OfRunSteps.Does.{Does};
-ghost use Rattle.term_forms.specs.OfRunSteps.Views.{row};
+ghost use Rattle.run_steps.specs.OfRunState.InTerms.{in_term_seen};
+ghost use Rattle.run_steps.specs.OfRunState.Views.{state_seen};
+ghost use Rattle.run_steps.specs.Does.{Does};
+ghost use Rattle.run_steps.specs.Views.{row};
 
 use crate::functions::{
     all_different_term, bounded_term, knapsack_term, multi_knapsack_term, sequence_term,
@@ -15,11 +15,11 @@ use crate::functions::{
 };
 use cbl_base::Place;
 use checked_tree::{Builtin, Typed};
+use run_steps::inside::Defining;
+use run_steps::solvers_of_runs::Built;
+use run_steps::state_of_runs::{InTerm, Outside, State};
 use run_values::Stop;
-use term_forms::nodes::as_in_term;
-use term_forms::solvers_of_runs::Built;
-use term_forms::state_of_runs::{InTerm, Outside, State};
-use term_forms::steps_of_runs::Defining;
+use term_nodes::nodes::as_in_term;
 
 /// A call of a function in a constraint: of a user's constraint the places.
 pub(crate) fn function_form<O: Outside, W: Defining<O>>(

@@ -3,20 +3,19 @@ ghost use Rattle.std.specs.Prelude.{◌≡◌, ℕ, List};
 ghost use Rattle.checked_tree.specs.Shape.{shape_of};
 ghost use Rattle.comet_meaning.specs.ConstraintForms as forms;
 ghost use Rattle.comet_meaning.specs.Program.{level};
-ghost use Rattle.term_forms.specs.OfRunState.InTerms.{in_term_seen};
-ghost use Rattle.term_forms.specs.OfRunState.Views.{state_seen};
-ghost use Rattle.term_forms.specs.OfRunSteps.Does.{Does};
+ghost use Rattle.run_steps.specs.OfRunState.InTerms.{in_term_seen};
+ghost use Rattle.run_steps.specs.OfRunState.Views.{state_seen};
+ghost use Rattle.run_steps.specs.Does.{Does};
 
 use crate::calls::function_form;
 use crate::joinings::joining_term;
 use crate::operators::{combination_term, negation_term, relation_term};
 use cbl_base::Place;
 use checked_tree::Form;
+use run_steps::inside::Defining;
+use run_steps::state_of_runs::{InTerm, Outside, State};
 use run_values::Stop;
-use term_forms::nodes::as_in_term;
-use term_forms::state_of_runs::{InTerm, Outside, State};
-use term_forms::steps_of_runs::Defining;
-use term_forms::terms::zero;
+use term_nodes::nodes::{as_in_term, zero};
 
 /// What a constraint with incremental variables at a place stands for, by its form.
 #[tactic(auto, unfolding(checked_tree::specs::Shape::shape_of, comet_meaning::specs::ConstraintForms::constraint_form))]

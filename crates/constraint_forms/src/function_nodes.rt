@@ -5,11 +5,11 @@ ghost use Rattle.cbl_violations.specs.declared.constraint.Constraint.TheVariants
 ghost use Rattle.comet_meaning.specs.ConstraintForms.{bounded_op};
 ghost use Rattle.comet_meaning.specs.State as states;
 ghost use Rattle.constraint_forms.specs.Steps.{all_different_node, bounded_node, even_node, knapsack_node, multi_knapsack_node, places_of, sequence_node, window_node};
-ghost use Rattle.term_forms.specs.OfRunState.InTerms.{in_term_seen, term_cells_seen};
-ghost use Rattle.term_forms.specs.OfRunOutside.Told.{Told};
-ghost use Rattle.term_forms.specs.OfRunState.Views.{state_seen};
-ghost use Rattle.term_forms.specs.OfRunSteps.Does.{Does};
-ghost use Rattle.term_forms.specs.OfRunSteps.Following.{Follows};
+ghost use Rattle.run_steps.specs.OfRunState.InTerms.{in_term_seen, term_cells_seen};
+ghost use Rattle.run_steps.specs.OfRunOutside.Told.{Told};
+ghost use Rattle.run_steps.specs.OfRunState.Views.{state_seen};
+ghost use Rattle.run_steps.specs.Does.{Does};
+ghost use Rattle.run_steps.specs.Following.{Follows};
 ghost use Rattle.run_values.specs.Views.{cells_seen};
 ghost use Rattle.run_values.specs.declared.stop.Stop.TheVariants.{NoMemory};
 
@@ -17,11 +17,11 @@ use cbl_base::{IntSet, Numbers, Place, RunFault};
 use cbl_operations::Op;
 use cbl_violations::Constraint;
 use checked_tree::Builtin;
+use run_steps::solvers_of_runs::Built;
+use run_steps::state_of_runs::{InTerm, State, TermCells};
 use run_values::{Cells, Stop};
 use std::alloc::Global;
-use term_forms::nodes::node_of;
-use term_forms::solvers_of_runs::Built;
-use term_forms::state_of_runs::{InTerm, State, TermCells};
+use term_nodes::nodes::node_of;
 
 /// `alldifferent`, of the cells, which are charged at the second place.
 fn all_different_of(s: &mut State, at: Place, place: Place, cells: TermCells) -> Result<Built, Stop>

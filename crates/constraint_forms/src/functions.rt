@@ -2,10 +2,10 @@
 ghost use Rattle.std.specs.Prelude.{◌≡◌, ℕ, List};
 ghost use Rattle.comet_meaning.specs.ConstraintForms as forms;
 ghost use Rattle.comet_meaning.specs.Program.{level};
-ghost use Rattle.term_forms.specs.OfRunState.InTerms.{in_term_seen};
-ghost use Rattle.term_forms.specs.OfRunState.Views.{state_seen};
-ghost use Rattle.term_forms.specs.OfRunSteps.Does.{Does};
-ghost use Rattle.term_forms.specs.OfRunSteps.Views.{part};
+ghost use Rattle.run_steps.specs.OfRunState.InTerms.{in_term_seen};
+ghost use Rattle.run_steps.specs.OfRunState.Views.{state_seen};
+ghost use Rattle.run_steps.specs.Does.{Does};
+ghost use Rattle.run_steps.specs.Views.{part};
 
 use crate::function_nodes::{
     all_different_with, bounded_with, knapsack_with, multi_knapsack_with, places_with,
@@ -14,11 +14,12 @@ use crate::function_nodes::{
 use crate::kept::{kept_cells, kept_set};
 use cbl_base::Place;
 use checked_tree::{Builtin, Typed};
+use form_parts::terms::term_cells;
+use form_parts::values::number_of;
+use run_steps::inside::Defining;
+use run_steps::solvers_of_runs::Built;
+use run_steps::state_of_runs::{InTerm, Outside, State};
 use run_values::Stop;
-use term_forms::evaluating::{number_of, term_cells};
-use term_forms::solvers_of_runs::Built;
-use term_forms::state_of_runs::{InTerm, Outside, State};
-use term_forms::steps_of_runs::Defining;
 
 /// `alldifferent(x)`
 #[tactic(auto, unfolding(comet_meaning::specs::ConstraintForms::all_different_form))]

@@ -2,19 +2,19 @@
 ghost use Rattle.std.specs.Prelude.{◌≡◌, ℕ, List};
 ghost use Rattle.comet_meaning.specs.ConstraintForms as forms;
 ghost use Rattle.comet_meaning.specs.Program.{level};
-ghost use Rattle.term_forms.specs.OfRunState.Views.{state_seen};
-ghost use Rattle.term_forms.specs.OfRunSteps.Does.{Does};
-ghost use Rattle.term_forms.specs.OfRunSteps.Views.{generators_seen, part, part_or_none};
+ghost use Rattle.run_steps.specs.OfRunState.Views.{state_seen};
+ghost use Rattle.run_steps.specs.Does.{Does};
+ghost use Rattle.run_steps.specs.Views.{generators_seen, part, part_or_none};
 
 use crate::operator_nodes::join;
 use cbl_base::Place;
 use checked_tree::{Generator, Typed};
 use comet_syntax::tree::Aggregate;
+use form_parts::aggregates::bodies_of;
+use run_steps::inside::Defining;
+use run_steps::solvers_of_runs::Built;
+use run_steps::state_of_runs::{Outside, State};
 use run_values::Stop;
-use term_forms::aggregates::bodies_of;
-use term_forms::solvers_of_runs::Built;
-use term_forms::state_of_runs::{Outside, State};
-use term_forms::steps_of_runs::Defining;
 
 /// `and(..) c` and `or(..) c`. The names of the generators end with it.
 pub(crate) fn joining_term<O: Outside, W: Defining<O>>(

@@ -6,20 +6,20 @@ ghost use Rattle.comet_meaning.specs.Outcome.{give};
 ghost use Rattle.comet_meaning.specs.Program.{level};
 ghost use Rattle.comet_meaning.specs.State as states;
 ghost use Rattle.comet_meaning.specs.Values.{members_of};
-ghost use Rattle.term_forms.specs.OfRunOutside.Told.{Told};
-ghost use Rattle.term_forms.specs.OfRunState.Views.{state_seen};
-ghost use Rattle.term_forms.specs.OfRunSteps.Does.{Does};
-ghost use Rattle.term_forms.specs.OfRunSteps.Following.{Follows};
-ghost use Rattle.term_forms.specs.OfRunSteps.Views.{part};
+ghost use Rattle.run_steps.specs.OfRunOutside.Told.{Told};
+ghost use Rattle.run_steps.specs.OfRunState.Views.{state_seen};
+ghost use Rattle.run_steps.specs.Does.{Does};
+ghost use Rattle.run_steps.specs.Following.{Follows};
+ghost use Rattle.run_steps.specs.Views.{part};
 ghost use Rattle.run_values.specs.Views.{cells_seen, value_seen};
 
 use cbl_base::IntSet;
 use checked_tree::Typed;
+use form_parts::values::value_of;
+use run_steps::inside::Within;
+use run_steps::state_of_runs::{Outside, State};
 use run_values::{Cells, Stop, Value};
 use std::alloc::Global;
-use term_forms::evaluating::value_of;
-use term_forms::state_of_runs::{Outside, State};
-use term_forms::steps_of_runs::Within;
 
 /// An array that is kept.
 #[tactic(auto, unfolding(comet_meaning::specs::ConstraintForms::kept_cells))]

@@ -7,7 +7,6 @@
 
 mod calls;
 pub mod constraints;
-pub mod defining;
 mod function_nodes;
 mod functions;
 mod joinings;

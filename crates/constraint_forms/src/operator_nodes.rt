@@ -5,19 +5,19 @@ ghost use Rattle.comet_meaning.specs.ConstraintForms.{combination_op, joining_op
 ghost use Rattle.comet_meaning.specs.State as states;
 ghost use Rattle.comet_meaning.specs.TermForms.{bodies_of, node_form};
 ghost use Rattle.constraint_forms.specs.Steps.{negated, related};
-ghost use Rattle.term_forms.specs.OfRunSteps.Does.{Does};
-ghost use Rattle.term_forms.specs.OfRunSteps.Following.{Follows};
-ghost use Rattle.term_forms.specs.Bodies.{body_seen};
+ghost use Rattle.run_steps.specs.Does.{Does};
+ghost use Rattle.run_steps.specs.Following.{Follows};
+ghost use Rattle.form_parts.specs.Bodies.{body_seen};
 
 use cbl_base::Place;
 use cbl_operations::Op;
 use cbl_violations::Constraint;
 use comet_syntax::tree::{Aggregate, ChainOperator, Comparison};
+use form_parts::bodies::{Body, terms_in};
+use run_steps::solvers_of_runs::Built;
 use run_values::Stop;
 use std::alloc::Global;
-use term_forms::bodies::{Body, terms_in};
-use term_forms::nodes::{node_of, node_of_one, node_of_two};
-use term_forms::solvers_of_runs::Built;
+use term_nodes::nodes::{node_of, node_of_one, node_of_two};
 
 /// `a == b` and its like, of both terms: `>` and `>=` are `<` and `<=` of the sides exchanged.
 fn relation_of(

@@ -3,19 +3,19 @@ ghost use Rattle.std.specs.Prelude.{◌≡◌, ℕ, List, [], ◌∷◌};
 ghost use Rattle.comet_meaning.specs.ConstraintForms as forms;
 ghost use Rattle.comet_meaning.specs.Program.{level};
 ghost use Rattle.constraint_forms.specs.Steps.{members_node};
-ghost use Rattle.term_forms.specs.OfRunState.Views.{state_seen};
-ghost use Rattle.term_forms.specs.OfRunSteps.Does.{Does};
-ghost use Rattle.term_forms.specs.OfRunSteps.Views.{links_seen, part};
+ghost use Rattle.run_steps.specs.OfRunState.Views.{state_seen};
+ghost use Rattle.run_steps.specs.Does.{Does};
+ghost use Rattle.run_steps.specs.Views.{links_seen, part};
 
 use crate::operator_nodes::{combine, negate, relate_with};
 use cbl_base::Place;
 use checked_tree::{Link, Typed};
 use comet_syntax::tree::{ChainOperator, Comparison};
+use form_parts::terms::{constraint_part, single_term};
+use run_steps::inside::Defining;
+use run_steps::solvers_of_runs::Built;
+use run_steps::state_of_runs::{Outside, State};
 use run_values::Stop;
-use term_forms::evaluating::{constraint_part, single_term};
-use term_forms::solvers_of_runs::Built;
-use term_forms::state_of_runs::{Outside, State};
-use term_forms::steps_of_runs::Defining;
 
 /// `a == b` and its like.
 #[tactic(auto, unfolding(comet_meaning::specs::ConstraintForms::relation_form))]

@@ -1,3 +1,1 @@
 pub mod ObjectLaws
-pub mod OfRunObjects
-pub mod OfRunSteps

@@ -13,7 +13,7 @@ use Rattle.comet_meaning.specs.Parts.{term, value}
 use Rattle.comet_meaning.specs.State.{State}
 use Rattle.comet_meaning.specs.Systems.{make_objective}
 use Rattle.comet_meaning.specs.Values.{Distribution, Nothing, Value, bounds_of, solver_of}
-use Rattle.expression_forms.specs.OfRunSteps.Views.{part}
+use Rattle.run_steps.specs.Views.{part}
 
 module _ (l : Level) (make : ℕ → Act Value) (s : State) where
   pub made_in_one : (es : List Typed) (a : Typed) → length es ≡ 1 → a ≡ get_or es 0 a → made_in l make (map seen es) s ≡ (value l (part a) >>= λ v. make (solver_of v)) s

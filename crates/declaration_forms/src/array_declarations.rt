@@ -1,31 +1,23 @@
 //! Declarations of arrays with dimensions.
 ghost use Rattle.std.specs.Prelude.{◌≡◌, ◌≤◌, ◌*◌, suc, ℕ, ℤ, List, [], IfOk, map, nat_le, option_map, slice_get};
 ghost use Rattle.std.specs.Option.{option_copied};
-ghost use Rattle.cbl_base.specs.declared.faults.Limit.TheVariants as limits;
-ghost use Rattle.cbl_base.specs.declared.faults.RunFault.TheVariants.{TooMany};
 ghost use Rattle.checked_tree.specs.Actions.{dimension_of, start_of};
 ghost use Rattle.checked_tree.specs.Shape.{seen};
 ghost use Rattle.comet_meaning.specs.Declarations.{array_form, dimensions_form, listed_form, next_cell, numbers_form, put_named, start_number, each_cell, every_cell};
 ghost use Rattle.comet_meaning.specs.Declarations as meaning;
-ghost use Rattle.comet_meaning.specs.Limits.{most_cells};
-ghost use Rattle.comet_meaning.specs.Outcome.{unless};
 ghost use Rattle.comet_meaning.specs.Program.{level};
-ghost use Rattle.comet_meaning.specs.State as states;
-ghost use Rattle.comet_meaning.specs.Values.{size_of};
-ghost use Rattle.expression_forms.specs.OfRunSteps.Does.{Does};
-ghost use Rattle.expression_forms.specs.OfRunSteps.Extents.{along, at_index, capped, extent_seen};
-ghost use Rattle.expression_forms.specs.OfRunState.Views.{state_seen};
-ghost use Rattle.expression_forms.specs.OfRunValues.Did.{Did};
-ghost use Rattle.expression_forms.specs.OfRunValues.Views.{bounds_seen, cells_seen};
+ghost use Rattle.run_steps.specs.Does.{Does};
+ghost use Rattle.run_effects.specs.Extents.{along, at_index, extent_seen};
+ghost use Rattle.run_steps.specs.OfRunState.Views.{state_seen};
 
 use cbl_base::Place;
 use checked_tree::{Dimension, Slot, Start, Typed, Way};
-use expression_forms::expressions::{bounds_of, number_of, value_of};
-use expression_forms::state_of_runs::{Outside, State};
-use expression_forms::steps_of_runs::{
-    Extent, Within, cell_count, make_array, push_number, put_named, take_list,
-};
-use expression_forms::values_of_runs::Stop;
+use form_parts::values::{bounds_of, number_of, value_of};
+use run_effects::cells::{Extent, cell_count, put_named};
+use run_effects::effects::{make_array, push_number, take_list};
+use run_steps::inside::Within;
+use run_steps::state_of_runs::{Outside, State};
+use run_values::Stop;
 
 /// An array with dimensions: these are evaluated first, and then each cell gets its number.
 #[tactic(auto, unfolding(comet_meaning::specs::Declarations::array_form))]
@@ -36,12 +28,12 @@ pub fn declare_array<O: Outside, W: Within<O>>(
     at: Place,
     slot: Slot,
     dimensions: &[Dimension],
-    start: &Option<Start>,
+    start: &Option<Box<Start>>,
 ) -> Result<(), Stop>
     requires ready { W.is_ready inside.now }
     ensures did { Does (λ _. tt) result (state_seen s.new (O.told out.new))
         (array_form (level (W.code inside.now) (W.depth inside.now)) at slot
-        (map dimension_of dimensions.now) (option_map start_of start.now)
+        (map dimension_of dimensions.now) (option_map (λ x. start_of x.value) start.now)
         (state_seen s.old (O.told out.old))) }
 {
     let extents = extents_of(s, out, inside, dimensions)?;
@@ -84,22 +76,25 @@ fn first_numbers<O: Outside, W: Within<O>>(
     at: Place,
     count: u128,
     extents: &[Extent],
-    start: &Option<Start>,
+    start: &Option<Box<Start>>,
 ) -> Result<Vec<i64>, Stop>
     requires ready { W.is_ready inside.now }
     requires known { count ≡ meaning.cell_count (map extent_seen extents.now) }
     ensures did { Does (λ numbers. numbers.items) result (state_seen s.new (O.told out.new))
         (numbers_form (level (W.code inside.now) (W.depth inside.now)) at
-        (map extent_seen extents.now) (option_map start_of start.now)
+        (map extent_seen extents.now) (option_map (λ x. start_of x.value) start.now)
         (state_seen s.old (O.told out.old))) }
 {
     match start {
         None => fill_all(s, out, inside, at, count, None, extents),
-        Some(start) => match start.way {
-            Way::List => listed_numbers(s, out, inside, at, count, &start.value),
-            Way::Each => fill_all(s, out, inside, at, count, Some(&start.value), extents),
-            Way::Define => fill_all(s, out, inside, at, count, Some(&start.value), extents),
-        },
+        Some(start) => {
+            let start: &Start = start;
+            match start.way {
+                Way::List => listed_numbers(s, out, inside, at, count, &start.value),
+                Way::Each => fill_all(s, out, inside, at, count, Some(&start.value), extents),
+                Way::Define => fill_all(s, out, inside, at, count, Some(&start.value), extents),
+            }
+        }
     }
 }
 

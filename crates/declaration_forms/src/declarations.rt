@@ -5,24 +5,24 @@ ghost use Rattle.checked_tree.specs.Shape.{seen, whole};
 ghost use Rattle.comet_meaning.specs.Declarations.{scalar_form};
 ghost use Rattle.comet_meaning.specs.Variables.{beginning_form, domain_form, single_form, started_form, variable_form};
 ghost use Rattle.comet_meaning.specs.Program.{level};
-ghost use Rattle.expression_forms.specs.OfRunSteps.Does.{Does};
-ghost use Rattle.expression_forms.specs.OfRunSteps.Parts.{begun_number};
-ghost use Rattle.expression_forms.specs.OfRunSolvers.Views.{beginning_seen};
-ghost use Rattle.expression_forms.specs.OfRunState.Views.{state_seen};
-ghost use Rattle.expression_forms.specs.OfRunValues.Views.{bounds_seen};
+ghost use Rattle.run_steps.specs.Does.{Does};
+ghost use Rattle.run_steps.specs.Parts.{begun_number};
+ghost use Rattle.run_steps.specs.OfRunSolvers.Views.{beginning_seen};
+ghost use Rattle.run_steps.specs.OfRunState.Views.{state_seen};
+ghost use Rattle.run_values.specs.Views.{bounds_seen};
 
 use crate::variable_arrays::declare_variables;
 use cbl_base::Place;
 use checked_tree::{Kind, Slot, Start, Typed, Variable, Way};
-use expression_forms::expressions::{bounds_of, number_of, value_of};
-use expression_forms::parts::single_term;
-use expression_forms::solvers_of_runs::Beginning;
-use expression_forms::state_of_runs::{Outside, State};
-use expression_forms::steps_of_runs::{
-    Defining, Within, as_defined, as_free, begin_variable, begins_with, declare_value,
-    variable_kind,
-};
-use expression_forms::values_of_runs::{Bounds, Stop, first_value};
+use form_parts::terms::single_term;
+use form_parts::values::{bounds_of, number_of, value_of};
+use run_effects::declaring::{as_defined, as_free, begin_variable, begins_with, variable_kind};
+use run_effects::effects::declare_value;
+use run_steps::inside::{Defining, Within};
+use run_steps::solvers_of_runs::Beginning;
+use run_steps::state_of_runs::{Outside, State};
+use run_values::values::first_value;
+use run_values::{Bounds, Stop};
 use term_model::VarKind;
 
 /// A name of one value, or of an array that is copied.
@@ -34,16 +34,17 @@ pub fn declare<O: Outside, W: Within<O>>(
     at: Place,
     slot: Slot,
     kind: Kind,
-    start: &Option<Typed>,
+    start: &Option<Box<Typed>>,
 ) -> Result<(), Stop>
     requires ready { W.is_ready inside.now }
     ensures did { Does (λ _. tt) result (state_seen s.new (O.told out.new))
         (scalar_form (level (W.code inside.now) (W.depth inside.now)) at slot kind
-        (option_map seen start.now) (state_seen s.old (O.told out.old))) }
+        (option_map (λ x. seen x.value) start.now) (state_seen s.old (O.told out.old))) }
 {
     match start {
         None => s.put(slot, first_value(s.alloc, kind)),
         Some(value) => {
+            let value: &Typed = value;
             let place = value.place;
             let value = value_of(s, out, inside, value);
             declare_value(s, out, at, place, slot, kind, value)

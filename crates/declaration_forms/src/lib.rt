@@ -7,10 +7,5 @@
 
 pub mod array_declarations;
 pub mod declarations;
-pub mod evaluating;
-pub mod noticing;
 pub mod objects;
-pub mod objects_of_runs;
-pub mod state_of_runs;
-pub mod steps_of_runs;
 mod variable_arrays;

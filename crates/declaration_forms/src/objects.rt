@@ -6,20 +6,21 @@ ghost use Rattle.comet_meaning.specs.Declarations.{object_form};
 ghost use Rattle.comet_meaning.specs.Program.{level};
 ghost use Rattle.comet_meaning.specs.Solutions.{make_solution};
 ghost use Rattle.comet_meaning.specs.Systems.{make_sum, make_system};
-ghost use Rattle.expression_forms.specs.OfRunSteps.Does.{Does};
-ghost use Rattle.expression_forms.specs.OfRunState.Views.{state_seen};
-ghost use Rattle.expression_forms.specs.OfRunValues.Views.{value_seen};
+ghost use Rattle.run_steps.specs.Does.{Does};
+ghost use Rattle.run_steps.specs.OfRunState.Views.{state_seen};
+ghost use Rattle.run_values.specs.Views.{value_seen};
 
 use cbl_base::Place;
 use checked_tree::{Kind, Slot, Typed};
-use expression_forms::expressions::value_of;
-use expression_forms::parts::single_term;
-use expression_forms::state_of_runs::{Outside, State};
-use expression_forms::steps_of_runs::{
-    Defining, Within, distribution_made, input_made, objective_made, put_made, selector_made,
-    solution_made, solver_made, sum_made, system_made,
+use form_parts::terms::single_term;
+use form_parts::values::value_of;
+use run_effects::effects::{
+    distribution_made, input_made, objective_made, put_made, selector_made, solution_made,
+    solver_made, sum_made, system_made,
 };
-use expression_forms::values_of_runs::{Stop, Value};
+use run_steps::inside::{Defining, Within};
+use run_steps::state_of_runs::{Outside, State};
+use run_values::{Stop, Value};
 
 /// A name gets a new object of this kind: a system, a sum and a solution are made in the solver that stands among the
 /// arguments, an objective of the term there, and a distribution of the range there. Where it is no object nothing is done.

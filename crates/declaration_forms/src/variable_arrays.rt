@@ -6,22 +6,23 @@ ghost use Rattle.comet_meaning.specs.Declarations as meaning;
 ghost use Rattle.comet_meaning.specs.Declarations.{each_cell, every_cell};
 ghost use Rattle.comet_meaning.specs.Program.{level};
 ghost use Rattle.comet_meaning.specs.Variables.{cells_form, listed_cell, listed_cells, next_cell, several_form};
-ghost use Rattle.expression_forms.specs.OfRunState.Views.{state_seen};
-ghost use Rattle.expression_forms.specs.OfRunSteps.Does.{Does};
-ghost use Rattle.expression_forms.specs.OfRunSteps.Extents.{along, at_index, extent_seen};
-ghost use Rattle.expression_forms.specs.OfRunSteps.Operands.{exact_list, variable_cell};
+ghost use Rattle.run_steps.specs.OfRunState.Views.{state_seen};
+ghost use Rattle.run_steps.specs.Does.{Does};
+ghost use Rattle.run_effects.specs.Extents.{along, at_index, extent_seen};
+ghost use Rattle.run_steps.specs.Operands.{exact_list, variable_cell};
 
 use crate::array_declarations::extents_of;
 use crate::declarations::{beginning_of, domain_of};
 use cbl_base::{Place, VarId};
 use checked_tree::{Slot, Typed, Variable, Way};
-use expression_forms::expressions::value_of;
-use expression_forms::state_of_runs::{Outside, State};
-use expression_forms::steps_of_runs::{
-    Defining, Extent, begins_with, cell_count, declared, make_variables, push_variable, put_named,
-    take_numbers, variable_kind, with_index,
+use form_parts::values::value_of;
+use run_effects::cells::{Extent, cell_count, put_named, with_index};
+use run_effects::declaring::{
+    begins_with, declared, make_variables, push_variable, take_numbers, variable_kind,
 };
-use expression_forms::values_of_runs::Stop;
+use run_steps::inside::Defining;
+use run_steps::state_of_runs::{Outside, State};
+use run_values::Stop;
 use term_model::VarDecl;
 
 /// How the variables of an array are made: the place of the declaration, what each is declared as, and their numbers

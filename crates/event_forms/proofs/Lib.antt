@@ -1,3 +1,1 @@
 pub mod QueueLaws
-pub mod OfRunObjects
-pub mod OfRunSteps

@@ -19,7 +19,7 @@ use Rattle.event_forms.specs.Bindings.{bound_by}
 use Rattle.event_forms.specs.declared.closures.Binding.{Binding}
 use Rattle.run_steps.specs.Does.{Ends}
 use Rattle.run_steps.proofs.Exits.{ends_passes}
-use Rattle.run_steps.specs.OfRunValues.declared.stop.Stop.{Stop}
+use Rattle.run_values.specs.declared.stop.Stop.{Stop}
 
 -- ---- a statement that runs later
 

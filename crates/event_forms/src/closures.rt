@@ -7,12 +7,12 @@ ghost use Rattle.run_steps.specs.OfRunSearch.Searches.{closure_seen};
 ghost use Rattle.run_steps.specs.OfRunState.Views.{state_seen};
 ghost use Rattle.run_steps.specs.Does.{Does};
 ghost use Rattle.run_steps.specs.OfRunOutside.Told.{Told};
-ghost use Rattle.run_steps.specs.OfRunValues.Did.{Did};
+ghost use Rattle.run_values.specs.Did.{Did};
 
 use checked_tree::EventSlots;
 use run_steps::inside::Within;
 use run_steps::state_of_runs::{Closure, Outside, State};
-use run_steps::values_of_runs::{Stop, Value};
+use run_values::{Stop, Value};
 use std::mem;
 
 /// The cells of the old and the new value of a variable, with these values.

@@ -6,11 +6,7 @@
 #![tactic(auto)]
 
 mod closures;
-pub mod objects_of_runs;
 mod queue;
-pub mod solvers_of_runs;
-pub mod state_of_runs;
-pub mod steps_of_runs;
 
 pub use closures::{Binding, run_closure};
 pub use queue::{behind_block, behind_commit, behind_restore, run_queue};

@@ -14,7 +14,7 @@ ghost use Rattle.run_steps.specs.OfRunState.Views.{state_seen};
 ghost use Rattle.run_steps.specs.Does.{Does};
 ghost use Rattle.run_steps.specs.Following.{Follows};
 ghost use Rattle.run_steps.specs.Views.{flow_seen};
-ghost use Rattle.run_steps.specs.OfRunValues.Views.{value_seen};
+ghost use Rattle.run_values.specs.Views.{value_seen};
 
 use crate::closures::{Binding, run_closure};
 use cbl_base::Place;
@@ -22,7 +22,7 @@ use checked_tree::EventSlots;
 use run_steps::code::Flow;
 use run_steps::inside::Within;
 use run_steps::state_of_runs::{Event, Outside, State, Target};
-use run_steps::values_of_runs::{Stop, Value};
+use run_values::{Stop, Value};
 
 /// Runs the queue, where no commit does: the events in order, and those that come while their handlers run.
 pub fn run_queue<O: Outside, W: Within<O>>(

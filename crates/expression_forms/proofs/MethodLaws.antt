@@ -20,8 +20,8 @@ use Rattle.comet_meaning.proofs.Endings.{went_then, Passes, passes_to}
 use Rattle.comet_meaning.proofs.Rows.{at_next, at_end}
 use Rattle.run_values.specs.declared.values.Value.{Value as declared}
 use Rattle.run_values.specs.Views.{value_seen}
-use Rattle.event_forms.specs.OfRunSteps.Views.{part}
-use Rattle.event_forms.proofs.OfRunSteps.Forms.{map_push}
+use Rattle.run_steps.specs.Views.{part}
+use Rattle.run_steps.proofs.Forms.{map_push}
 
 -- a method that posts and restores nothing
 pub method_called : (l : Level) (at : Place) (m : Method) (o : Shape) (es : List Shape) (s : State) → (m ≡ methods.Post → ⊥) → (m ≡ methods.PostPart → ⊥) → (m ≡ methods.Restore → ⊥) → method_form l at m o es s ≡ called_form l at m o es s

@@ -1,26 +1,16 @@
 -- What is posted: the first argument, and behind it a weight where there is one.
-use Rattle.std.proofs.Common.{◌≡◌, ◌∙◌, ◌-◌, refl, sym, ap, ℕ, pos, true, false, Some, None, List, [], ◌∷◌, length, take, drop, get_or, Bool, if◌then◌else◌, arith}
+use Rattle.std.proofs.Common.{◌≡◌, ◌∙◌, ◌-◌, refl, sym, ap, ℕ, pos, Some, None, List, [], ◌∷◌, length, take, drop, get_or, arith}
 use Rattle.std.proofs.lemmas.List.{take_rest}
 use Rattle.cbl_base.specs.declared.place.Place.{Place}
 use Rattle.checked_tree.specs.declared.expressions.Typed.{Typed}
 use Rattle.checked_tree.specs.Shape.{Shape}
 use Rattle.comet_meaning.specs.Values.{Nothing}
 use Rattle.comet_meaning.specs.State.{State}
-use Rattle.comet_meaning.specs.Outcome.{Went, give, ◌>>=◌}
+use Rattle.comet_meaning.specs.Outcome.{Went}
 use Rattle.comet_meaning.specs.Levels.{Level}
-use Rattle.comet_meaning.specs.Parts.{number, truth, term, constraint, broken}
+use Rattle.comet_meaning.specs.Parts.{number}
 use Rattle.comet_meaning.specs.Posting.{weight_form, user_name, post_one, post_named, post_either, post_constraint, post_part}
-use Rattle.event_forms.specs.OfRunSteps.Views.{part, row}
-
--- a part of a constraint, by whether it holds incremental variables
-
-pub constraint_moves : (l : Level) (e : Typed) (s : State) → e.moving ≡ true → constraint l (part e) s ≡ term l (part e) s
-unfolding constraint
-constraint_moves l e s h = ap (λ (b : Bool). (if b then term l (part e) else (truth l (part e) >>= λ held. give (broken held))) s) h
-
-pub constraint_stays : (l : Level) (e : Typed) (s : State) → e.moving ≡ false → constraint l (part e) s ≡ (truth l (part e) >>= λ held. give (broken held)) s
-unfolding constraint
-constraint_stays l e s h = ap (λ (b : Bool). (if b then term l (part e) else (truth l (part e) >>= λ held. give (broken held))) s) h
+use Rattle.run_steps.specs.Views.{part, row}
 
 -- the first of expressions in a row, and those behind it
 pub row_split : (es : List Typed) (a : Typed) → (length es ≡ 0 → ⊥) → a ≡ get_or es 0 a → row es ≡ part a ∷ row (take (length es - 1) (drop 1 es))

@@ -10,7 +10,7 @@ use Rattle.checked_tree.specs.declared.expressions.Typed.{Typed}
 use Rattle.checked_tree.specs.Shape as shapes
 use Rattle.checked_tree.specs.Shape.{seen, wholes}
 use Rattle.comet_meaning.specs.Posting.{text_of, user_name}
-use Rattle.event_forms.specs.OfRunSteps.Views.{part, row}
+use Rattle.run_steps.specs.Views.{part, row}
 use Rattle.expression_forms.specs.UserSteps.{name_of_call}
 
 -- of a call it is told by the function and the arguments

@@ -1,7 +1,1 @@
 pub mod UserSteps
-pub mod OfRunObjects
-pub mod OfRunOutside
-pub mod OfRunSolvers
-pub mod OfRunState
-pub mod OfRunSteps
-pub mod OfRunValues

@@ -3,20 +3,20 @@ ghost use Rattle.std.specs.Prelude.{◌≡◌, ℕ, List, [], map};
 ghost use Rattle.comet_meaning.specs.Aggregates as aggregates;
 ghost use Rattle.comet_meaning.specs.Generators.{each_tuple};
 ghost use Rattle.comet_meaning.specs.Outcome.{always};
-ghost use Rattle.comet_meaning.specs.Parts as parts;
 ghost use Rattle.comet_meaning.specs.Program.{level};
-ghost use Rattle.event_forms.specs.OfRunSteps.Does.{Does};
-ghost use Rattle.event_forms.specs.OfRunSteps.Views.{generators_seen, part, part_or_none};
-ghost use Rattle.event_forms.specs.OfRunState.Views.{state_seen};
+ghost use Rattle.run_steps.specs.Does.{Does};
+ghost use Rattle.run_steps.specs.Views.{generators_seen, part, part_or_none};
+ghost use Rattle.run_steps.specs.OfRunState.Views.{state_seen};
 ghost use Rattle.run_values.specs.Views.{element_seen, value_seen};
 
-use crate::expressions::{truth_of, value_of};
-use crate::tuples::next_tuple;
 use cbl_base::Place;
 use checked_tree::{Generator, Typed};
 use comet_syntax::tree::Aggregate;
-use event_forms::state_of_runs::{Outside, State};
-use event_forms::steps_of_runs::{Tuples, Within, pending_of};
+use form_parts::tuples::next_tuple;
+use form_parts::values::{passes, value_of};
+use run_steps::inside::Within;
+use run_steps::state_of_runs::{Outside, State};
+use run_steps::tuples::{Tuples, pending_of};
 use run_values::aggregates::{Element, aggregate_value, push_element};
 use run_values::{Stop, Value};
 
@@ -113,23 +113,4 @@ fn add_element<O: Outside, W: Within<O>>(
     }
     let value = value_of(s, out, inside, body)?;
     push_element(elements, at, aggregate, key, value)
-}
-
-/// Whether a condition holds, as it does where it is left out.
-#[tactic(auto, unfolding(comet_meaning::specs::Parts::condition))]
-fn passes<O: Outside, W: Within<O>>(
-    s: &mut State,
-    out: &mut O,
-    inside: &W,
-    condition: &Option<Box<Typed>>,
-) -> Result<bool, Stop>
-    requires ready { W.is_ready inside.now }
-    ensures did { Does (λ b. b) result (state_seen s.new (O.told out.new))
-        (parts.condition (level (W.code inside.now) (W.depth inside.now))
-        (part_or_none condition.now) (state_seen s.old (O.told out.old))) }
-{
-    match condition {
-        None => Ok(true),
-        Some(test) => truth_of(s, out, inside, test),
-    }
 }

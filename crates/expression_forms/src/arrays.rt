@@ -5,17 +5,19 @@ ghost use Rattle.comet_meaning.specs.Arrays as arrays;
 ghost use Rattle.comet_meaning.specs.Builtins as builtins;
 ghost use Rattle.comet_meaning.specs.Expressions as expressions;
 ghost use Rattle.comet_meaning.specs.Program.{level};
-ghost use Rattle.event_forms.specs.OfRunSteps.Does.{Does};
-ghost use Rattle.event_forms.specs.OfRunSteps.Parts.{plain_builtin};
-ghost use Rattle.event_forms.specs.OfRunSteps.Views.{part, row};
-ghost use Rattle.event_forms.specs.OfRunState.Views.{state_seen};
+ghost use Rattle.run_steps.specs.Does.{Does};
+ghost use Rattle.run_steps.specs.Parts.{plain_builtin};
+ghost use Rattle.run_steps.specs.Views.{part, row};
+ghost use Rattle.run_steps.specs.OfRunState.Views.{state_seen};
 ghost use Rattle.run_values.specs.Views.{value_seen};
 
-use crate::expressions::{number_of, value_of, values_of};
+use crate::expressions::values_of;
 use cbl_base::Place;
 use checked_tree::{Builtin, Typed};
-use event_forms::state_of_runs::{Outside, State};
-use event_forms::steps_of_runs::{Within, call_builtin, count_in_array, index_array, index_grid};
+use form_parts::values::{number_of, value_of};
+use run_steps::inside::Within;
+use run_steps::operands::{call_builtin, count_in_array, index_array, index_grid};
+use run_steps::state_of_runs::{Outside, State};
 use run_values::operators::{row_of_values, set_of_values};
 use run_values::{Stop, Value};
 

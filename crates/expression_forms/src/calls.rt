@@ -3,18 +3,17 @@ ghost use Rattle.std.specs.Prelude.{◌≡◌, ℕ, List, [], Option, Some, map}
 ghost use Rattle.checked_tree.specs.Tasks.{function_of};
 ghost use Rattle.comet_meaning.specs.Calls as calls;
 ghost use Rattle.comet_meaning.specs.Program.{level};
-ghost use Rattle.event_forms.specs.OfRunSteps.Does.{Does};
-ghost use Rattle.event_forms.specs.OfRunSteps.Views.{code_seen, part, row};
-ghost use Rattle.event_forms.specs.OfRunState.Views.{state_seen};
+ghost use Rattle.run_steps.specs.Does.{Does};
+ghost use Rattle.run_steps.specs.Views.{code_seen, part, row};
+ghost use Rattle.run_steps.specs.OfRunState.Views.{state_seen};
 ghost use Rattle.run_values.specs.Views.{value_seen};
 
 use crate::expressions::value_as;
 use cbl_base::Place;
 use checked_tree::{Function, Kind, Typed};
-use event_forms::state_of_runs::{Outside, State};
-use event_forms::steps_of_runs::{
-    Code, Within, function_at, given, is_handed_itself, is_pure, parameter_at,
-};
+use run_steps::code::{Code, function_at, given, is_handed_itself, is_pure, parameter_at};
+use run_steps::inside::Within;
+use run_steps::state_of_runs::{Outside, State};
 use run_values::{Stop, Value};
 use std::mem;
 

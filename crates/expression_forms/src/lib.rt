@@ -8,16 +8,9 @@
 pub mod aggregates;
 pub mod arrays;
 pub mod calls;
+pub mod constants;
 pub mod expressions;
 mod methods;
-pub mod noticing;
-pub mod objects_of_runs;
 pub mod operators;
-pub mod parts;
 mod posting;
-pub mod solvers_of_runs;
-pub mod state_of_runs;
-pub mod steps_of_runs;
-pub mod tuples;
 mod user_posting;
-pub mod values_of_runs;

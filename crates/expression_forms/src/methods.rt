@@ -3,18 +3,19 @@ ghost use Rattle.std.specs.Prelude.{◌≡◌, ℕ, List, [], map, nat_lt};
 ghost use Rattle.comet_meaning.specs.Methods as methods;
 ghost use Rattle.comet_meaning.specs.Methods.{called_form, method_form, object_value, restore_form, variables_asked};
 ghost use Rattle.comet_meaning.specs.Program.{level};
-ghost use Rattle.event_forms.specs.OfRunSteps.Does.{Does};
-ghost use Rattle.event_forms.specs.OfRunSteps.Views.{part, row};
-ghost use Rattle.event_forms.specs.OfRunState.Views.{state_seen};
+ghost use Rattle.run_steps.specs.Does.{Does};
+ghost use Rattle.run_steps.specs.Views.{part, row};
+ghost use Rattle.run_steps.specs.OfRunState.Views.{state_seen};
 ghost use Rattle.run_values.specs.Views.{value_seen};
 
-use crate::expressions::value_of;
 use crate::posting::{post_constraint, post_part};
 use cbl_base::Place;
 use checked_tree::{Method, Typed};
 use event_forms::behind_restore;
-use event_forms::state_of_runs::{Outside, State};
-use event_forms::steps_of_runs::{Defining, Within, call_on};
+use form_parts::values::value_of;
+use run_steps::inside::{Defining, Within};
+use run_steps::operands::call_on;
+use run_steps::state_of_runs::{Outside, State};
 use run_values::{Stop, Value};
 
 /// A call of a method. A constraint or a term is posted as it is, handlers run behind a `restore`, and of the arguments of

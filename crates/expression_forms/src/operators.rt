@@ -1,19 +1,20 @@
 //! What operators give.
 ghost use Rattle.std.specs.Prelude.{◌≡◌, ℕ, List, []};
-ghost use Rattle.checked_tree.specs.Shape.{shape_of_link};
 ghost use Rattle.comet_meaning.specs.Operators as operators;
 ghost use Rattle.comet_meaning.specs.Program.{level};
-ghost use Rattle.event_forms.specs.OfRunSteps.Does.{Does};
-ghost use Rattle.event_forms.specs.OfRunSteps.Views.{links_seen, part};
-ghost use Rattle.event_forms.specs.OfRunState.Views.{state_seen};
+ghost use Rattle.run_steps.specs.Does.{Does};
+ghost use Rattle.run_steps.specs.Views.{links_seen, part};
+ghost use Rattle.run_steps.specs.OfRunState.Views.{state_seen};
 ghost use Rattle.run_values.specs.Views.{value_seen};
 
-use crate::expressions::{number_of, truth_of, value_as, value_of};
+use crate::expressions::value_as;
 use cbl_base::Place;
 use checked_tree::{Kind, Link, Typed};
 use comet_syntax::tree::{Comparison, UnaryOperator};
-use event_forms::state_of_runs::{Outside, State};
-use event_forms::steps_of_runs::{Within, apply_unary, join_operand};
+use form_parts::values::{number_of, truth_of, value_of};
+use run_steps::inside::Within;
+use run_steps::operands::{apply_unary, join_operand};
+use run_steps::state_of_runs::{Outside, State};
 use run_values::operators::{compare, decides};
 use run_values::{Bounds, Stop, Value};
 

@@ -2,18 +2,19 @@
 ghost use Rattle.std.specs.Prelude.{◌≡◌, ◌∷◌, ℕ, List};
 ghost use Rattle.comet_meaning.specs.Posting as posting;
 ghost use Rattle.comet_meaning.specs.Program.{level};
-ghost use Rattle.event_forms.specs.OfRunSteps.Does.{Does};
-ghost use Rattle.event_forms.specs.OfRunSteps.Views.{part, row};
-ghost use Rattle.event_forms.specs.OfRunState.Views.{state_seen};
+ghost use Rattle.run_steps.specs.Does.{Does};
+ghost use Rattle.run_steps.specs.Views.{part, row};
+ghost use Rattle.run_steps.specs.OfRunState.Views.{state_seen};
 ghost use Rattle.run_values.specs.Views.{value_seen};
 
-use crate::expressions::{number_of, value_of};
-use crate::parts::{constraint_part, single_term};
 use crate::user_posting::{add_named, user_name};
 use cbl_base::Place;
 use checked_tree::Typed;
-use event_forms::state_of_runs::{Outside, State};
-use event_forms::steps_of_runs::{Defining, Within, post_with};
+use form_parts::terms::{constraint_part, single_term};
+use form_parts::values::{number_of, value_of};
+use run_steps::inside::{Defining, Within};
+use run_steps::operands::post_with;
+use run_steps::state_of_runs::{Outside, State};
 use run_values::{Stop, Value};
 
 /// `post` of a system: the constraint, and its weight where it has one.

@@ -4,20 +4,20 @@ ghost use Rattle.comet_meaning.specs.Posting as posting;
 ghost use Rattle.comet_meaning.specs.Program.{level};
 ghost use Rattle.comet_meaning.specs.TakingUsers.{take_user};
 ghost use Rattle.expression_forms.specs.UserSteps.{name_of_call, user_behind, user_posted_with};
-ghost use Rattle.event_forms.specs.OfRunState.Views.{state_seen};
-ghost use Rattle.event_forms.specs.OfRunSteps.Does.{Does};
-ghost use Rattle.event_forms.specs.OfRunSteps.Following.{Follows};
-ghost use Rattle.event_forms.specs.OfRunSteps.Views.{part, row};
+ghost use Rattle.run_steps.specs.OfRunState.Views.{state_seen};
+ghost use Rattle.run_steps.specs.Does.{Does};
+ghost use Rattle.run_steps.specs.Following.{Follows};
+ghost use Rattle.run_steps.specs.Views.{part, row};
 ghost use Rattle.run_values.specs.Views.{value_seen};
 
-use crate::expressions::value_of;
-use crate::parts::term_cells;
 use crate::posting::weight_of;
 use cbl_base::Place;
 use checked_tree::{Builtin, Form, Typed};
-use event_forms::solvers_of_runs::{Built, user_fits};
-use event_forms::state_of_runs::{Outside, State};
-use event_forms::steps_of_runs::Defining;
+use form_parts::terms::term_cells;
+use form_parts::values::value_of;
+use run_steps::inside::Defining;
+use run_steps::solvers_of_runs::{Built, user_fits};
+use run_steps::state_of_runs::{Outside, State};
 use run_values::{Stop, Value};
 
 /// The bytes of a text, and none of anything else.

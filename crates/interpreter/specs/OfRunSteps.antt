@@ -1,4 +1,4 @@
 -- What callers cite of run_steps.
-pub use Rattle.statement_forms.specs.OfRunSteps.Does
-pub use Rattle.statement_forms.specs.OfRunSteps.Views
-pub use Rattle.statement_forms.specs.OfRunSteps.declared
+pub use Rattle.run_steps.specs.Does
+pub use Rattle.run_steps.specs.Views
+pub use Rattle.run_steps.specs.declared

@@ -5,24 +5,26 @@ ghost use Rattle.comet_meaning.specs.InTerms.{is_constraint};
 ghost use Rattle.comet_meaning.specs.Limits.{most_depth};
 ghost use Rattle.comet_meaning.specs.Loops.{tasks_form};
 ghost use Rattle.comet_meaning.specs.Program.{level};
-ghost use Rattle.statement_forms.specs.OfRunState.InTerms.{in_term_seen};
-ghost use Rattle.statement_forms.specs.OfRunState.Targets.{target_seen};
-ghost use Rattle.statement_forms.specs.OfRunState.Views.{state_seen};
-ghost use Rattle.statement_forms.specs.OfRunSteps.Does.{Does};
-ghost use Rattle.statement_forms.specs.OfRunSteps.Views.{code_seen, flow_seen, part};
-ghost use Rattle.statement_forms.specs.OfRunValues.Views.{value_seen};
+ghost use Rattle.run_steps.specs.OfRunState.InTerms.{in_term_seen};
+ghost use Rattle.run_steps.specs.OfRunState.Targets.{target_seen};
+ghost use Rattle.run_steps.specs.OfRunState.Views.{state_seen};
+ghost use Rattle.run_steps.specs.Does.{Does};
+ghost use Rattle.run_steps.specs.Views.{code_seen, flow_seen, part};
+ghost use Rattle.run_values.specs.Views.{value_seen};
 
 use cbl_base::RunFault;
 use cbl_base::limits::MAX_RUNNING_DEPTH;
 use checked_tree::{Kind, Task, Typed};
 use constraint_forms::constraints::constraint_form;
-use constraint_forms::defining::{constant_term, moving_term};
-use statement_forms::evaluating::evaluate_form;
-use statement_forms::state_of_runs::{InTerm, Outside, State, Target};
+use expression_forms::constants::constant_term;
+use expression_forms::expressions::evaluate_form;
+use run_steps::code::{Code, Flow};
+use run_steps::inside::Inside;
+use run_steps::state_of_runs::{InTerm, Outside, State, Target};
+use run_values::{Stop, Value};
 use statement_forms::statements::{execute_act, execute_all};
-use statement_forms::steps_of_runs::{Code, Flow, Inside};
-use statement_forms::targets::target_of_form;
-use statement_forms::values_of_runs::{Stop, Value};
+use term_forms::terms::moving_term;
+use write_forms::targets::target_of_form;
 
 /// How many statements and expressions may be executed inside each other.
 const MOST_DEPTH: u32 = MAX_RUNNING_DEPTH;

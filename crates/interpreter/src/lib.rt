@@ -10,4 +10,4 @@
 pub mod levels;
 
 pub use levels::{evaluate, run};
-pub use statement_forms::steps_of_runs::{Code, Flow};
+pub use run_steps::code::{Code, Flow};

@@ -11,11 +11,8 @@ pub mod AggregateLaws
 pub mod Stops
 pub mod Trees
 pub mod Steps
-pub mod Filling
 pub mod Visiting
 pub mod Behind
 pub mod PlainLaws
-pub mod ListLaws
-pub mod VariableLaws
 pub mod ShortLaws
 pub mod OfRunObjects

@@ -8,10 +8,10 @@ use Rattle.comet_syntax.specs.declared.tree.expressions.Extreme.{Extreme}
 use Rattle.comet_syntax.specs.declared.tree.statements.WithMode.{WithMode}
 use Rattle.checked_tree.specs.declared.expressions.Slot.{Slot}
 use Rattle.checked_tree.specs.declared.expressions.Typed.{Typed}
-use Rattle.checked_tree.specs.declared.expressions.Generator.{Generator}
 use Rattle.checked_tree.specs.declared.statements.Action.{Action}
-use Rattle.checked_tree.specs.declared.statements.Counter.{Counter}
+use Rattle.checked_tree.specs.declared.statements.Choice.{Choice}
 use Rattle.checked_tree.specs.declared.statements.EventSlots.{EventSlots}
+use Rattle.checked_tree.specs.declared.statements.Head.{Head}
 use Rattle.checked_tree.specs.declared.statements.Act.TheOpen as layers
 use Rattle.checked_tree.specs.declared.statements.Act.TheVariants as trees
 use Rattle.checked_tree.specs.declared.statements.Act.TheFolds.{fold-roll-Act}
@@ -45,27 +45,27 @@ pub act_while : (t : Typed) (b : Box Task Global) → work_of_act (trees.While t
 unfolding work_of_act work_of
 act_while t b = ap work_of_act (sym (trees.rolls-While t b)) ∙ fold-roll-Act Work Work act_layer task_layer (layers.While t b)
 
-pub act_for : (c : Option Counter) (t : Option Typed) (x : Option Action) (b : Box Task Global) → work_of_act (trees.For c t x b) ≡ works.counting (option_map counter_of c) (option_map seen t) (option_map deed_of x) (work_of b.value)
+pub act_for : (h : Box Head Global) (b : Box Task Global) → work_of_act (trees.For h b) ≡ works.counting (option_map counter_of h.value.counter) (option_map seen h.value.test) (option_map deed_of h.value.step) (work_of b.value)
 unfolding work_of_act work_of
-act_for c t x b = ap work_of_act (sym (trees.rolls-For c t x b)) ∙ fold-roll-Act Work Work act_layer task_layer (layers.For c t x b)
+act_for h b = ap work_of_act (sym (trees.rolls-For h b)) ∙ fold-roll-Act Work Work act_layer task_layer (layers.For h b)
 
-pub act_for_all : (gs : Vec Generator Global) (c : Option Typed) (b : Box Task Global) → work_of_act (trees.ForAll gs c b) ≡ works.for_all (map shape_of_generator gs.items) (option_map seen c) (work_of b.value)
+pub act_for_all : (c : Box Choice Global) (b : Box Task Global) → work_of_act (trees.ForAll c b) ≡ works.for_all (map shape_of_generator c.value.generators.items) (option_map seen c.value.condition) (work_of b.value)
 unfolding work_of_act work_of
-act_for_all gs c b = ap work_of_act (sym (trees.rolls-ForAll gs c b)) ∙ fold-roll-Act Work Work act_layer task_layer (layers.ForAll gs c b)
+act_for_all c b = ap work_of_act (sym (trees.rolls-ForAll c b)) ∙ fold-roll-Act Work Work act_layer task_layer (layers.ForAll c b)
 
-pub act_select : (gs : Vec Generator Global) (c : Option Typed) (b : Box Task Global) → work_of_act (trees.Select gs c b) ≡ works.selecting (map shape_of_generator gs.items) (option_map seen c) (work_of b.value)
+pub act_select : (c : Box Choice Global) (b : Box Task Global) → work_of_act (trees.Select c b) ≡ works.selecting (map shape_of_generator c.value.generators.items) (option_map seen c.value.condition) (work_of b.value)
 unfolding work_of_act work_of
-act_select gs c b = ap work_of_act (sym (trees.rolls-Select gs c b)) ∙ fold-roll-Act Work Work act_layer task_layer (layers.Select gs c b)
+act_select c b = ap work_of_act (sym (trees.rolls-Select c b)) ∙ fold-roll-Act Work Work act_layer task_layer (layers.Select c b)
 
-pub act_select_by : (x : Extreme) (gs : Vec Generator Global) (c : Option Typed) (k : Typed) (b : Box Task Global) → work_of_act (trees.SelectBy x gs c k b) ≡ works.selecting_by x (map shape_of_generator gs.items) (option_map seen c) (seen k) (work_of b.value)
+pub act_select_by : (x : Extreme) (c : Box Choice Global) (k : Box Typed Global) (b : Box Task Global) → work_of_act (trees.SelectBy x c k b) ≡ works.selecting_by x (map shape_of_generator c.value.generators.items) (option_map seen c.value.condition) (seen k.value) (work_of b.value)
 unfolding work_of_act work_of
-act_select_by x gs c k b = ap work_of_act (sym (trees.rolls-SelectBy x gs c k b)) ∙ fold-roll-Act Work Work act_layer task_layer (layers.SelectBy x gs c k b)
+act_select_by x c k b = ap work_of_act (sym (trees.rolls-SelectBy x c k b)) ∙ fold-roll-Act Work Work act_layer task_layer (layers.SelectBy x c k b)
 
 pub act_neighbor : (k : Typed) (s : Slot) (b : Arc (Box Task Global) Global) → work_of_act (trees.Neighbor k s b) ≡ works.submitting (seen k) s (work_of b.value.value)
 unfolding work_of_act work_of
 act_neighbor k s b = ap work_of_act (sym (trees.rolls-Neighbor k s b)) ∙ fold-roll-Act Work Work act_layer task_layer (layers.Neighbor k s b)
 
-pub act_whenever : (v : Typed) (ns : Option EventSlots) (b : Arc (Box Task Global) Global) → work_of_act (trees.Whenever v ns b) ≡ works.watching (seen v) ns (work_of b.value.value)
+pub act_whenever : (v : Box Typed Global) (ns : Option EventSlots) (b : Arc (Box Task Global) Global) → work_of_act (trees.Whenever v ns b) ≡ works.watching (seen v.value) ns (work_of b.value.value)
 unfolding work_of_act work_of
 act_whenever v ns b = ap work_of_act (sym (trees.rolls-Whenever v ns b)) ∙ fold-roll-Act Work Work act_layer task_layer (layers.Whenever v ns b)
 

@@ -4,7 +4,6 @@ pub mod OpenTuples
 pub mod Parts
 pub mod Returns
 pub mod Copies
-pub mod Extents
 pub mod Following
 pub mod Operands
 pub mod Plainly
@@ -15,4 +14,3 @@ pub mod OfRunOutside
 pub mod OfRunSearch
 pub mod OfRunSolvers
 pub mod OfRunState
-pub mod OfRunValues

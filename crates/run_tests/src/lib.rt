@@ -1,9 +1,7 @@
-//! What pure expressions give over a state that is made by hand, and whole runs over memory.
+//! Whole runs over memory.
 //!
 //! It has tests alone, so that the crates that they speak of are proved once and not twice.
 #![tactic(auto)]
 
 #[cfg(test)]
 mod runs;
-#[cfg(test)]
-mod values;

@@ -25,9 +25,9 @@ use Rattle.comet_meaning.proofs.GoingOn.{goes_back_in, goes_charge, goes_give, g
 use Rattle.comet_meaning.proofs.GoingParts.{LevelGoesOn, goes_bind}
 use Rattle.comet_meaning.proofs.GoingSearch.{goes_chosen, goes_key, goes_scanned}
 use Rattle.comet_meaning.proofs.Rows.{NamesLeft}
-use Rattle.declaration_forms.specs.OfRunSteps.Does.{Ends}
-use Rattle.declaration_forms.proofs.OfRunSteps.Forms.{generator_is}
-use Rattle.declaration_forms.proofs.OfRunSteps.Stops.{ended_then, stopped_then}
+use Rattle.run_steps.specs.Does.{Ends}
+use Rattle.run_steps.proofs.Forms.{generator_is}
+use Rattle.run_steps.proofs.Stops.{ended_then, stopped_then}
 use Rattle.run_values.specs.Did.{Did, Stopped}
 use Rattle.run_values.specs.declared.stop.Stop.{Stop}
 use Rattle.run_values.specs.declared.stop.Stop.TheVariants.{Cyclic, Fault, NoMemory, Output, Spent}

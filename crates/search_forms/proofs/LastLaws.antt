@@ -22,10 +22,10 @@ use Rattle.comet_meaning.proofs.Tuples.{each_in_is, pending_ends, pending_step}
 use Rattle.run_values.specs.Did.{Stopped}
 use Rattle.run_values.specs.declared.stop.Stop.{Stop}
 use Rattle.run_values.specs.declared.stop.Stop.TheVariants.{Fault, Spent, Cyclic, NoMemory, Output}
-use Rattle.declaration_forms.specs.OfRunSteps.Does.{Ends}
-use Rattle.declaration_forms.specs.OfRunSteps.OpenTuples.{SameLeft}
-use Rattle.declaration_forms.proofs.OfRunSteps.Exits.{ends_passes}
-use Rattle.declaration_forms.proofs.OfRunSteps.Forms.{generator_is}
+use Rattle.run_steps.specs.Does.{Ends}
+use Rattle.run_steps.specs.OpenTuples.{SameLeft}
+use Rattle.run_steps.proofs.Exits.{ends_passes}
+use Rattle.run_steps.proofs.Forms.{generator_is}
 use Rattle.search_forms.specs.Fronts.{values_behind}
 
 -- what stopped a part stopped the whole

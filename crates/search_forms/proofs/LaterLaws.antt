@@ -20,9 +20,9 @@ use Rattle.comet_meaning.proofs.Endings.{then_then, went_then}
 use Rattle.comet_meaning.proofs.GoingEvents.{goes_closed_over, goes_run_closure}
 use Rattle.comet_meaning.proofs.GoingOn.{goes_at, goes_give, goes_if, goes_look, goes_then, onward_refl}
 use Rattle.comet_meaning.proofs.GoingParts.{LevelGoesOn}
-use Rattle.declaration_forms.specs.OfRunState.SearchActs.{submitted, watched}
-use Rattle.declaration_forms.specs.OfRunSteps.Does.{Does, Ends}
-use Rattle.declaration_forms.proofs.OfRunSteps.Stops.{ended_then, stopped_then}
+use Rattle.run_steps.specs.OfRunState.SearchActs.{submitted, watched}
+use Rattle.run_steps.specs.Does.{Does, Ends}
+use Rattle.run_steps.proofs.Stops.{ended_then, stopped_then}
 use Rattle.run_values.specs.Views.{value_seen}
 use Rattle.run_values.specs.declared.values.Value as kept
 use Rattle.run_values.specs.declared.values.Value.TheVariants as variants

@@ -5,5 +5,3 @@ pub mod ScanLaws
 pub mod TieLaws
 pub mod ChoiceLaws
 pub mod LaterLaws
-pub mod OfRunObjects
-pub mod OfRunSteps

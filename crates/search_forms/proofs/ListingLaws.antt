@@ -17,10 +17,10 @@ use Rattle.comet_meaning.proofs.Endings.{went_then}
 use Rattle.comet_meaning.proofs.TupleSteps as steps
 use Rattle.comet_meaning.proofs.TupleStack.{IsGenerator, is_generator, tuples_open}
 use Rattle.run_values.specs.declared.stop.Stop.{Stop}
-use Rattle.declaration_forms.specs.OfRunSteps.Does.{Ends}
-use Rattle.declaration_forms.specs.OfRunSteps.OpenTuples.{candidates, Visits, Remains, Found}
-use Rattle.declaration_forms.proofs.OfRunSteps.Exits.{ends_passes}
-use Rattle.declaration_forms.proofs.OfRunSteps.Forms.{generator_is}
+use Rattle.run_steps.specs.Does.{Ends}
+use Rattle.run_steps.specs.OpenTuples.{candidates, Visits, Remains, Found}
+use Rattle.run_steps.proofs.Exits.{ends_passes}
+use Rattle.run_steps.proofs.Forms.{generator_is}
 use Rattle.search_forms.specs.Fronts.{behind_front, last_place}
 
 -- the candidates so far, and the outcome of all

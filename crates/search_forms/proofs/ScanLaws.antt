@@ -22,9 +22,9 @@ use Rattle.ls_select.specs.Parts.{part_of, stop_from}
 use Rattle.ls_select.specs.declared.part.Part.{Part}
 use Rattle.ls_select.specs.declared.scored.Scored.{Scored}
 use Rattle.ls_select.specs.declared.scored.Stop.{Stop as ScanStop}
-use Rattle.declaration_forms.specs.OfRunSteps.Does.{Ends}
-use Rattle.declaration_forms.proofs.OfRunSteps.Stops.{ended_then}
-use Rattle.declaration_forms.proofs.OfRunSteps.TupleLaws.{get_or_again}
+use Rattle.run_steps.specs.Does.{Ends}
+use Rattle.run_steps.proofs.Stops.{ended_then}
+use Rattle.run_steps.proofs.TupleLaws.{get_or_again}
 use Rattle.run_values.specs.declared.stop.Stop.{Stop}
 use Rattle.search_forms.specs.Asking.{want_of}
 use Rattle.search_forms.specs.Scans.{ScansTo, kept_of, rated_by}

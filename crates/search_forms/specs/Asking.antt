@@ -5,7 +5,7 @@ use Rattle.comet_syntax.specs.declared.tree.expressions.Extreme.TheVariants.{Min
 use Rattle.checked_tree.specs.Shape.{Shape, optional}
 use Rattle.ls_select.specs.declared.want.Want.{Want}
 use Rattle.ls_select.specs.declared.want.Want.TheVariants.{Any, Least, Greatest}
-use Rattle.declaration_forms.specs.OfRunSteps.Views.{part}
+use Rattle.run_steps.specs.Views.{part}
 use Rattle.search_forms.specs.declared.scanning.Asked.{Asked}
 
 -- which candidates are wanted

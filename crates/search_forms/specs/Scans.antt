@@ -8,7 +8,7 @@ use Rattle.ls_select.specs.declared.part.Part.{Part}
 use Rattle.ls_select.specs.declared.scored.End.{End}
 use Rattle.ls_select.specs.declared.scored.End.TheVariants.{Skipped, Kept, Stopped}
 use Rattle.ls_select.specs.declared.scored.Scored.{Scored}
-use Rattle.declaration_forms.specs.OfRunSteps.Does.{Ends}
+use Rattle.run_steps.specs.Does.{Ends}
 use Rattle.run_values.specs.declared.stop.Stop.{Stop}
 use Rattle.search_forms.specs.Tables.{candidates_seen}
 use Rattle.search_forms.specs.declared.scanning.Scanned.{Scanned}

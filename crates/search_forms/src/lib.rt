@@ -6,16 +6,10 @@
 #![tactic(auto)]
 
 mod candidates;
-pub mod declaring;
-pub mod evaluating;
 mod listing;
 mod moves;
-pub mod noticing;
-pub mod objects_of_runs;
 mod scanning;
 mod selectors;
-pub mod state_of_runs;
-pub mod steps_of_runs;
 mod watching;
 
 pub use moves::{call_move, execute_neighbor};

@@ -5,9 +5,9 @@ ghost use Rattle.comet_meaning.specs.Candidates as meaning;
 ghost use Rattle.comet_meaning.specs.Candidates.{candidates_form, last_form};
 ghost use Rattle.comet_meaning.specs.Program.{level};
 ghost use Rattle.comet_meaning.specs.State as states;
-ghost use Rattle.declaration_forms.specs.OfRunState.Views.{state_seen};
-ghost use Rattle.declaration_forms.specs.OfRunSteps.Does.{Does};
-ghost use Rattle.declaration_forms.specs.OfRunOutside.Told.{Told};
+ghost use Rattle.run_steps.specs.OfRunState.Views.{state_seen};
+ghost use Rattle.run_steps.specs.Does.{Does};
+ghost use Rattle.run_steps.specs.OfRunOutside.Told.{Told};
 ghost use Rattle.run_values.specs.Did.{Did, IsFaultOrMemory};
 ghost use Rattle.run_values.specs.Views.{value_seen};
 ghost use Rattle.run_values.specs.declared.stop.Stop.TheVariants.{NoMemory};
@@ -17,9 +17,11 @@ ghost use Rattle.search_forms.specs.Tables.{AreRows, candidates_seen};
 use crate::candidates::Candidates;
 use cbl_base::Place;
 use checked_tree::Generator;
-use declaration_forms::evaluating::{next_tuple, value_of};
-use declaration_forms::state_of_runs::{Outside, State};
-use declaration_forms::steps_of_runs::{Tuples, Within, pending_of, take_value};
+use form_parts::tuples::next_tuple;
+use form_parts::values::value_of;
+use run_steps::inside::Within;
+use run_steps::state_of_runs::{Outside, State};
+use run_steps::tuples::{Tuples, pending_of, take_value};
 use run_values::{Stop, Value};
 
 /// All candidates: the tuples of the generators, the last one fastest. A value of a generator before the last one costs a

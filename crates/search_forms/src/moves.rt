@@ -4,16 +4,17 @@ ghost use Rattle.checked_tree.specs.Shape.{seen};
 ghost use Rattle.checked_tree.specs.Tasks.{work_of};
 ghost use Rattle.comet_meaning.specs.Moves as moves;
 ghost use Rattle.comet_meaning.specs.Program.{level};
-ghost use Rattle.declaration_forms.specs.OfRunState.Views.{state_seen};
-ghost use Rattle.declaration_forms.specs.OfRunSteps.Does.{Does};
-ghost use Rattle.declaration_forms.specs.OfRunSteps.Views.{flow_seen};
+ghost use Rattle.run_steps.specs.OfRunState.Views.{state_seen};
+ghost use Rattle.run_steps.specs.Does.{Does};
+ghost use Rattle.run_steps.specs.Views.{flow_seen};
 ghost use Rattle.run_values.specs.Views.{value_seen};
 
 use checked_tree::{Later, Slot, Typed};
-use declaration_forms::evaluating::{number_of, value_of};
-use declaration_forms::noticing::run_closure;
-use declaration_forms::state_of_runs::{Outside, State};
-use declaration_forms::steps_of_runs::{Flow, Within};
+use event_forms::run_closure;
+use form_parts::values::{number_of, value_of};
+use run_steps::code::Flow;
+use run_steps::inside::Within;
+use run_steps::state_of_runs::{Outside, State};
 use run_values::{Stop, Value};
 
 /// A `neighbor`: its delta, and then the selector that a name has keeps the statement, where it keeps none yet or the delta

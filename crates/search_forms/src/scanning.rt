@@ -7,10 +7,10 @@ ghost use Rattle.comet_meaning.specs.Program.{level};
 ghost use Rattle.comet_meaning.specs.Selection as selection;
 ghost use Rattle.comet_meaning.specs.Selection.{Rated, rated_form, scanned};
 ghost use Rattle.ls_select.specs.Candidates.{stop_in};
-ghost use Rattle.declaration_forms.specs.OfRunState.Views.{state_seen};
-ghost use Rattle.declaration_forms.specs.OfRunSteps.Does.{Does};
-ghost use Rattle.declaration_forms.specs.OfRunSteps.Views.{part};
-ghost use Rattle.declaration_forms.specs.OfRunOutside.Told.{Told};
+ghost use Rattle.run_steps.specs.OfRunState.Views.{state_seen};
+ghost use Rattle.run_steps.specs.Does.{Does};
+ghost use Rattle.run_steps.specs.Views.{part};
+ghost use Rattle.run_steps.specs.OfRunOutside.Told.{Told};
 ghost use Rattle.run_values.specs.Did.{Did};
 ghost use Rattle.search_forms.specs.Asking.{condition_of, key_of, want_of};
 ghost use Rattle.search_forms.specs.Scans.{ScansTo, rated_by};
@@ -20,10 +20,10 @@ use crate::candidates::Candidates;
 use cbl_base::Place;
 use checked_tree::{Generator, Typed};
 use comet_syntax::tree::Extreme;
-use declaration_forms::evaluating::{condition, number_of};
-use declaration_forms::state_of_runs::{Outside, State};
-use declaration_forms::steps_of_runs::Within;
+use form_parts::values::{condition, number_of};
 use ls_select::{End, Part, Scored, Want};
+use run_steps::inside::Within;
+use run_steps::state_of_runs::{Outside, State};
 use run_values::{Stop, Value};
 
 /// What is asked of candidates: the condition, and the key; where none is asked each has the same one.

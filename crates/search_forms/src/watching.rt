@@ -4,13 +4,14 @@ ghost use Rattle.checked_tree.specs.Shape.{seen};
 ghost use Rattle.checked_tree.specs.Tasks.{work_of};
 ghost use Rattle.comet_meaning.specs.Events as events;
 ghost use Rattle.comet_meaning.specs.Program.{level};
-ghost use Rattle.declaration_forms.specs.OfRunState.Views.{state_seen};
-ghost use Rattle.declaration_forms.specs.OfRunSteps.Does.{Does};
-ghost use Rattle.declaration_forms.specs.OfRunSteps.Views.{flow_seen};
+ghost use Rattle.run_steps.specs.OfRunState.Views.{state_seen};
+ghost use Rattle.run_steps.specs.Does.{Does};
+ghost use Rattle.run_steps.specs.Views.{flow_seen};
 
 use checked_tree::{EventSlots, Later, Typed};
-use declaration_forms::state_of_runs::{Outside, State};
-use declaration_forms::steps_of_runs::{Flow, Within};
+use run_steps::code::Flow;
+use run_steps::inside::Within;
+use run_steps::state_of_runs::{Outside, State};
 use run_values::Stop;
 
 /// A `whenever`: the variable, and then a handler of it, which runs the statement.

@@ -5,16 +5,19 @@ ghost use Rattle.checked_tree.specs.Tasks.{work_of};
 ghost use Rattle.comet_meaning.specs.Levels as levels;
 ghost use Rattle.comet_meaning.specs.Loops.{for_all_form, visited};
 ghost use Rattle.comet_meaning.specs.Program.{level};
-ghost use Rattle.search_forms.specs.OfRunSteps.Does.{Does};
-ghost use Rattle.search_forms.specs.OfRunSteps.Views.{flow_seen};
-ghost use Rattle.search_forms.specs.OfRunState.Views.{state_seen};
+ghost use Rattle.run_steps.specs.Does.{Does};
+ghost use Rattle.run_steps.specs.Views.{flow_seen};
+ghost use Rattle.run_steps.specs.OfRunState.Views.{state_seen};
 
 use cbl_base::Place;
 use checked_tree::{Generator, Task, Typed};
+use form_parts::tuples::next_tuple;
+use form_parts::values::{condition, value_of};
+use run_steps::code::Flow;
+use run_steps::inside::Within;
+use run_steps::state_of_runs::{Outside, State};
+use run_steps::tuples::{Tuples, pending_of};
 use run_values::Stop;
-use search_forms::evaluating::{condition, next_tuple, value_of};
-use search_forms::state_of_runs::{Outside, State};
-use search_forms::steps_of_runs::{Flow, Tuples, Within, pending_of};
 
 /// A `forall`: the body for each tuple, to the first that returns.
 pub(crate) fn execute_for_all<O: Outside, W: Within<O>>(

@@ -5,14 +5,6 @@
 //! form says.
 #![tactic(auto)]
 
-pub mod evaluating;
 mod for_all;
 mod loops;
-mod printing;
-pub mod state_of_runs;
 pub mod statements;
-pub mod steps_of_runs;
-pub mod targets;
-mod together;
-pub mod values_of_runs;
-mod writes;

@@ -8,17 +8,19 @@ ghost use Rattle.comet_meaning.specs.Loops.{counter_form, for_form, repeated, tu
 ghost use Rattle.comet_meaning.specs.Loops as meaning;
 ghost use Rattle.comet_meaning.specs.Program.{level};
 ghost use Rattle.comet_meaning.specs.Statements.{step_of};
-ghost use Rattle.search_forms.specs.OfRunSteps.Does.{Does};
-ghost use Rattle.search_forms.specs.OfRunSteps.Views.{flow_seen, part};
-ghost use Rattle.search_forms.specs.OfRunState.Views.{state_seen};
+ghost use Rattle.run_steps.specs.Does.{Does};
+ghost use Rattle.run_steps.specs.Views.{flow_seen, part};
+ghost use Rattle.run_steps.specs.OfRunState.Views.{state_seen};
 
 use crate::statements::perform;
 use cbl_base::Place;
 use checked_tree::{Action, Counter, Task, Typed};
+use form_parts::values::{condition, number_of};
+use run_effects::effects::put_number;
+use run_steps::code::Flow;
+use run_steps::inside::{Around, Within};
+use run_steps::state_of_runs::{Outside, State};
 use run_values::Stop;
-use search_forms::evaluating::{condition, number_of};
-use search_forms::state_of_runs::{Outside, State};
-use search_forms::steps_of_runs::{Around, Flow, Within, put_number};
 
 #[tactic(auto, unfolding(comet_meaning::specs::Loops::while_form))]
 pub(crate) fn execute_while<O: Outside, W: Around<O>>(

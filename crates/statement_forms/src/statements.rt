@@ -3,30 +3,34 @@ ghost use Rattle.std.specs.Prelude.{◌≡◌, ℕ, List, map, option_map};
 ghost use Rattle.checked_tree.specs.Actions.{deed_of};
 ghost use Rattle.checked_tree.specs.Shape.{seen};
 ghost use Rattle.checked_tree.specs.Tasks.{work_of, work_of_act};
-ghost use Rattle.comet_meaning.specs.Limits.{most_depth};
 ghost use Rattle.comet_meaning.specs.Loops.{if_form, if_else_form, tasks_form};
 ghost use Rattle.comet_meaning.specs.Program.{level};
-ghost use Rattle.comet_meaning.specs.Statements.{action_form, alone_form, deed_form, meaning_of_form, return_form};
-ghost use Rattle.search_forms.specs.OfRunSteps.Does.{Does};
-ghost use Rattle.search_forms.specs.OfRunSteps.Views.{flow_seen};
-ghost use Rattle.search_forms.specs.OfRunState.Views.{state_seen};
+ghost use Rattle.comet_meaning.specs.Statements.{action_form, deed_form, meaning_of_form, return_form};
+ghost use Rattle.run_steps.specs.Does.{Does};
+ghost use Rattle.run_steps.specs.Views.{flow_seen};
+ghost use Rattle.run_steps.specs.OfRunState.Views.{state_seen};
 
 use crate::for_all::execute_for_all;
 use crate::loops::{execute_for, execute_while};
-use crate::printing::print_all;
-use crate::together::execute_together;
-use crate::writes::{step_target, swap_values, write_value};
 use cbl_base::Place;
 use cbl_base::limits::MAX_RUNNING_DEPTH;
-use checked_tree::{Act, Action, Task, Typed};
+use checked_tree::{Act, Action, Choice, Head, Task, Typed};
+use declaration_forms::array_declarations::declare_array;
+use declaration_forms::declarations::{declare, declare_variable};
+use declaration_forms::objects::declare_object;
+use form_parts::values::{truth_of, value_of};
+use run_effects::effects::{as_done, as_next, as_returned};
+use run_steps::code::Flow;
+use run_steps::inside::{Around, Within};
+use run_steps::leaves::returned;
+use run_steps::state_of_runs::{Outside, State};
 use run_values::Stop;
-use search_forms::declaring::{declare, declare_array, declare_object, declare_variable};
-use search_forms::evaluating::{truth_of, value_of};
-use search_forms::state_of_runs::{Outside, State};
-use search_forms::steps_of_runs::{Around, Flow, Within, as_done, as_next, as_returned, returned};
 use search_forms::{
     call_move, execute_neighbor, execute_select, execute_select_by, execute_whenever,
 };
+use write_forms::printing::print_all;
+use write_forms::together::execute_together;
+use write_forms::writes::{step_target, swap_values, write_value};
 
 /// How many statements and expressions may be executed inside each other.
 const MOST_DEPTH: u32 = MAX_RUNNING_DEPTH;
@@ -56,31 +60,62 @@ pub fn execute_act<O: Outside, W: Around<O>>(
             otherwise,
         } => execute_if_else(s, out, inside, test, then, otherwise),
         Act::While { test, body } => execute_while(s, out, inside, at, test, body),
-        Act::For {
-            counter,
-            test,
-            step,
-            body,
-        } => execute_for(s, out, inside, at, counter, test, step, body),
-        Act::ForAll {
-            generators,
-            condition,
-            body,
-        } => execute_for_all(s, out, inside, at, generators, condition, body),
-        Act::Select {
-            generators,
-            condition,
-            body,
-        } => execute_select(s, out, inside, at, generators, condition, body),
+        Act::For { head, body } => {
+            let head: &Head = head;
+            execute_for(
+                s,
+                out,
+                inside,
+                at,
+                &head.counter,
+                &head.test,
+                &head.step,
+                body,
+            )
+        }
+        Act::ForAll { choice, body } => {
+            let choice: &Choice = choice;
+            execute_for_all(
+                s,
+                out,
+                inside,
+                at,
+                &choice.generators,
+                &choice.condition,
+                body,
+            )
+        }
+        Act::Select { choice, body } => {
+            let choice: &Choice = choice;
+            execute_select(
+                s,
+                out,
+                inside,
+                at,
+                &choice.generators,
+                &choice.condition,
+                body,
+            )
+        }
         Act::SelectBy {
             extreme,
-            generators,
-            condition,
+            choice,
             key,
             body,
-        } => execute_select_by(
-            s, out, inside, at, *extreme, generators, condition, key, body,
-        ),
+        } => {
+            let choice: &Choice = choice;
+            execute_select_by(
+                s,
+                out,
+                inside,
+                at,
+                *extreme,
+                &choice.generators,
+                &choice.condition,
+                key,
+                body,
+            )
+        }
         Act::Neighbor {
             key,
             selector,

@@ -8,7 +8,7 @@ use Rattle.checked_tree.specs.Shape.{Shape}
 use Rattle.comet_meaning.specs.State.{State}
 use Rattle.comet_meaning.specs.Levels.{Level}
 use Rattle.comet_meaning.specs.TermForms.{builtin_term, count_term}
-use Rattle.expression_forms.specs.OfRunSteps.Views.{part, row}
+use Rattle.run_steps.specs.Views.{part, row}
 use Rattle.term_forms.specs.Steps.{plain_call}
 
 pub builtin_plain : (l : Level) (at : Place) (f : Builtin) (es : List Shape) (s : State) → (f ≡ builtins.Count → ⊥) → builtin_term l at f es s ≡ plain_call l at f es s

@@ -12,8 +12,8 @@ use Rattle.comet_meaning.specs.State.{State}
 use Rattle.comet_meaning.specs.Levels.{Level}
 use Rattle.comet_meaning.specs.TermForms.{joined_form, junction_form, links_term}
 use Rattle.comet_meaning.proofs.Rows.{items_rows}
-use Rattle.expression_forms.specs.OfRunSteps.Views.{links_seen}
-use Rattle.expression_forms.proofs.OfRunSteps.Forms.{link_is}
+use Rattle.run_steps.specs.Views.{links_seen}
+use Rattle.run_steps.proofs.Forms.{link_is}
 
 -- what a chain does behind an operand, by the operator that stands first
 by_or : (l : Level) (at : Place) (e : Shape) (rest : List Shape) (t : Term) (s : State) → links_term l (shapes.link chains.Or at e ∷ rest) t s ≡ junction_form l at chains.Or (shapes.link chains.Or at e ∷ rest) t s

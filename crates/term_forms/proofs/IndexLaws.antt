@@ -6,7 +6,7 @@ use Rattle.checked_tree.specs.Shape.{Shape}
 use Rattle.comet_meaning.specs.State.{State}
 use Rattle.comet_meaning.specs.Levels.{Level}
 use Rattle.comet_meaning.specs.TermForms.{element_term, picked_term, index_term, grid_term, picked_cell, cell_term}
-use Rattle.expression_forms.specs.OfRunSteps.Views.{part}
+use Rattle.run_steps.specs.Views.{part}
 
 module _ (l : Level) (at : Place) (a : Shape) (i : Typed) (s : State) where
   pub index_moves : i.moving ≡ true → index_term l at a (part i) s ≡ element_term l at a (part i) s

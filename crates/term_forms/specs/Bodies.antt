@@ -1,21 +1,12 @@
--- The bodies of an aggregate's tuples, as the meaning of programs has them. A rule of this project.
-use Rattle.std.specs.Prelude.{List, [], ◌∷◌, map}
+-- What the bodies of an aggregate's tuples give in a term. From the language.
+use Rattle.std.specs.Prelude.{List, [], ◌∷◌}
 use Rattle.cbl_base.specs.declared.place.Place.{Place}
 use Rattle.cbl_base.specs.declared.faults.RunFault.TheVariants.{EmptyRange}
 use Rattle.cbl_operations.specs.declared.op.Op.{Op}
-use Rattle.term_model.specs.declared.term.Term.{Term}
 use Rattle.comet_meaning.specs.Outcome.{Act, fault}
 use Rattle.comet_meaning.specs.TermForms as terms
 use Rattle.comet_meaning.specs.TermForms.{bodies_of, node_form, single}
 use Rattle.comet_meaning.specs.Terms.{InTerm}
-use Rattle.term_forms.specs.declared.bodies.Body.{Body}
-
-abbrev pub body_seen : Body → terms.Keyed
-body_seen x = record { key = x.key; term = x.term }
-
--- the terms alone
-abbrev pub body_terms : List Body → List Term
-body_terms xs = map (λ x. x.term) xs
 
 -- one operation of all bodies
 abbrev pub body_node : Place → Op → List terms.Keyed → Act InTerm

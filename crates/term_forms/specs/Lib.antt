@@ -1,5 +1,2 @@
 pub mod Bodies
 pub mod Steps
-pub mod OfRunOutside
-pub mod OfRunState
-pub mod OfRunSteps

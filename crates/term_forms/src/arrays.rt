@@ -2,21 +2,21 @@
 ghost use Rattle.std.specs.Prelude.{◌≡◌, ◌||◌, ℕ, List, []};
 ghost use Rattle.comet_meaning.specs.Program.{level};
 ghost use Rattle.comet_meaning.specs.TermForms as forms;
-ghost use Rattle.expression_forms.specs.OfRunState.InTerms.{in_term_seen};
-ghost use Rattle.expression_forms.specs.OfRunState.Views.{state_seen};
-ghost use Rattle.expression_forms.specs.OfRunSteps.Does.{Does};
-ghost use Rattle.expression_forms.specs.OfRunSteps.Views.{part, row};
+ghost use Rattle.run_steps.specs.OfRunState.InTerms.{in_term_seen};
+ghost use Rattle.run_steps.specs.OfRunState.Views.{state_seen};
+ghost use Rattle.run_steps.specs.Does.{Does};
+ghost use Rattle.run_steps.specs.Views.{part, row};
 
-use crate::nodes::{as_row, element_with, grid_with, pick, pick_twice};
 use crate::parts::terms_of;
 use cbl_base::Place;
 use checked_tree::Typed;
-use expression_forms::expressions::number_of;
-use expression_forms::parts::{single_term, term_cells};
-use expression_forms::solvers_of_runs::Built;
-use expression_forms::state_of_runs::{InTerm, Outside, State};
-use expression_forms::steps_of_runs::Defining;
+use form_parts::terms::{single_term, term_cells};
+use form_parts::values::number_of;
+use run_steps::inside::Defining;
+use run_steps::solvers_of_runs::Built;
+use run_steps::state_of_runs::{InTerm, Outside, State};
 use run_values::Stop;
+use term_nodes::nodes::{as_row, element_with, grid_with, pick, pick_twice};
 
 /// `a[i]`: where the index holds incremental variables an operation of it and all cells, and else the cell itself.
 #[tactic(auto, unfolding(comet_meaning::specs::TermForms::index_term))]

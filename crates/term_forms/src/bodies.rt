@@ -1,66 +1,24 @@
-//! The bodies of an aggregate's tuples in a term, and what they give.
+//! What the bodies of an aggregate's tuples give in a term.
 ghost use Rattle.std.specs.Prelude.{◌≡◌, List, IfErr, IfOk, map};
 ghost use Rattle.cbl_operations.specs.declared.op.Op.TheVariants.{Keyed};
 ghost use Rattle.comet_meaning.specs.State.{State};
 ghost use Rattle.comet_meaning.specs.TermForms as forms;
-ghost use Rattle.comet_meaning.specs.TermForms.{keys_of, with_keyed};
+ghost use Rattle.comet_meaning.specs.TermForms.{keys_of};
 ghost use Rattle.comet_syntax.specs.declared.tree.expressions.Aggregate.TheVariants.{All};
-ghost use Rattle.expression_forms.specs.OfRunState.InTerms.{in_term_seen};
-ghost use Rattle.expression_forms.specs.OfRunSteps.Does.{Does};
-ghost use Rattle.run_values.specs.Did.{Did, IsFaultOrMemory};
+ghost use Rattle.run_steps.specs.OfRunState.InTerms.{in_term_seen};
+ghost use Rattle.run_steps.specs.Does.{Does};
 ghost use Rattle.run_values.specs.declared.stop.Stop.TheVariants.{NoMemory};
-ghost use Rattle.term_forms.specs.Bodies.{body_node, body_seen, body_terms, extreme_node};
+ghost use Rattle.form_parts.specs.Bodies.{body_seen};
+ghost use Rattle.term_forms.specs.Bodies.{body_node, extreme_node};
 
-use crate::nodes::{as_in_term, node_of};
-use cbl_base::limits::MAX_CELLS;
-use cbl_base::{Limit, Numbers, Place, RunFault};
+use cbl_base::{Numbers, Place, RunFault};
 use cbl_operations::{KeyedOp, NaryOp, Op};
 use comet_syntax::tree::Aggregate;
-use expression_forms::solvers_of_runs::Built;
-use expression_forms::state_of_runs::{InTerm, TermCells};
+use form_parts::bodies::{Body, terms_in};
+use run_steps::state_of_runs::{InTerm, TermCells};
 use run_values::Stop;
 use std::alloc::Global;
-
-/// A body's term, with the value of the generator.
-#[derive(Drop)]
-pub struct Body {
-    pub key: i64,
-    pub term: Built,
-}
-
-/// Adds one more body. `TooMany` cells at the place exactly where an `all` has as many as an array has cells.
-pub fn push_body(
-    bodies: &mut Vec<Body>,
-    at: Place,
-    aggregate: Aggregate,
-    key: i64,
-    term: Built,
-) -> Result<(), Stop>
-    ensures did { (s : State) → Did (λ _. map body_seen bodies.new.items) result s
-        (with_keyed at aggregate key (map body_seen bodies.old.items) term s) }
-    ensures stop { IfErr result IsFaultOrMemory }
-{
-    match aggregate {
-        Aggregate::All => push_cell(bodies, at, key, term),
-        _ => {
-            bodies.push(Body { key, term })?;
-            Ok(())
-        }
-    }
-}
-
-/// Adds one more body of an `all`. `TooMany` cells at the place exactly where there are as many as an array has cells.
-fn push_cell(bodies: &mut Vec<Body>, at: Place, key: i64, term: Built) -> Result<(), Stop>
-    ensures did { (s : State) → Did (λ _. map body_seen bodies.new.items) result s
-        (with_keyed at All key (map body_seen bodies.old.items) term s) }
-    ensures stop { IfErr result IsFaultOrMemory }
-{
-    if MAX_CELLS <= bodies.len() {
-        return Err(Stop::Fault(at, RunFault::TooMany(Limit::Cells)));
-    }
-    bodies.push(Body { key, term })?;
-    Ok(())
-}
+use term_nodes::nodes::{as_in_term, node_of};
 
 /// What the bodies give: an `all` is an array of them, and any other aggregate one operation. `EmptyRange` at the place
 /// exactly where there is none of which one could be least or greatest.
@@ -84,18 +42,6 @@ pub fn aggregated(
         Aggregate::ArgMin => keyed_of(alloc, at, KeyedOp::ArgMin, bodies),
         Aggregate::ArgMax => keyed_of(alloc, at, KeyedOp::ArgMax, bodies),
     }
-}
-
-/// The terms of bodies. `NoMemory` where there is none for them; there is no other stop.
-pub fn terms_in(alloc: Global, bodies: Vec<Body>) -> Result<Vec<Built>, Stop>
-    ensures terms { IfOk result (λ terms. terms.items ≡ body_terms bodies.items) }
-    ensures memory { IfErr result (λ stop. stop ≡ NoMemory) }
-{
-    let mut terms = Vec::new(alloc);
-    for body in bodies {
-        terms.push(body.term)?;
-    }
-    Ok(terms)
 }
 
 /// The keys of bodies. `NoMemory` where there is none for them; there is no other stop.

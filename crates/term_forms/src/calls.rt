@@ -3,20 +3,20 @@ ghost use Rattle.std.specs.Prelude.{◌≡◌, ℕ, List, []};
 ghost use Rattle.checked_tree.specs.declared.expressions.Builtin.TheVariants.{Count};
 ghost use Rattle.comet_meaning.specs.Program.{level};
 ghost use Rattle.comet_meaning.specs.TermForms as forms;
-ghost use Rattle.expression_forms.specs.OfRunState.Views.{state_seen};
-ghost use Rattle.expression_forms.specs.OfRunSteps.Does.{Does};
-ghost use Rattle.expression_forms.specs.OfRunSteps.Views.{part, row};
+ghost use Rattle.run_steps.specs.OfRunState.Views.{state_seen};
+ghost use Rattle.run_steps.specs.Does.{Does};
+ghost use Rattle.run_steps.specs.Views.{part, row};
 ghost use Rattle.term_forms.specs.Steps.{plain_call};
 
-use crate::nodes::{call_with, count_with};
 use crate::parts::terms_of;
 use cbl_base::Place;
 use checked_tree::{Builtin, Typed};
-use expression_forms::parts::{single_term, term_cells};
-use expression_forms::solvers_of_runs::Built;
-use expression_forms::state_of_runs::{Outside, State};
-use expression_forms::steps_of_runs::Defining;
+use form_parts::terms::{single_term, term_cells};
+use run_steps::inside::Defining;
+use run_steps::solvers_of_runs::Built;
+use run_steps::state_of_runs::{Outside, State};
 use run_values::Stop;
+use term_nodes::nodes::{call_with, count_with};
 
 /// A call of a function of the language.
 pub fn builtin_term<O: Outside, W: Defining<O>>(

@@ -2,19 +2,19 @@
 ghost use Rattle.std.specs.Prelude.{◌≡◌, ℕ, List, [], ◌∷◌};
 ghost use Rattle.comet_meaning.specs.Program.{level};
 ghost use Rattle.comet_meaning.specs.TermForms as forms;
-ghost use Rattle.expression_forms.specs.OfRunState.Views.{state_seen};
-ghost use Rattle.expression_forms.specs.OfRunSteps.Does.{Does};
-ghost use Rattle.expression_forms.specs.OfRunSteps.Views.{links_seen, part};
+ghost use Rattle.run_steps.specs.OfRunState.Views.{state_seen};
+ghost use Rattle.run_steps.specs.Does.{Does};
+ghost use Rattle.run_steps.specs.Views.{links_seen, part};
 
-use crate::nodes::{compare_with, join_all, join_with, unary_of};
 use cbl_base::Place;
 use checked_tree::{Link, Typed};
 use comet_syntax::tree::{ChainOperator, Comparison, UnaryOperator};
-use expression_forms::parts::single_term;
-use expression_forms::solvers_of_runs::Built;
-use expression_forms::state_of_runs::{Outside, State};
-use expression_forms::steps_of_runs::Defining;
+use form_parts::terms::single_term;
+use run_steps::inside::Defining;
+use run_steps::solvers_of_runs::Built;
+use run_steps::state_of_runs::{Outside, State};
 use run_values::Stop;
+use term_nodes::nodes::{compare_with, join_all, join_with, unary_of};
 
 /// `-e` and `!e`
 #[tactic(auto, unfolding(comet_meaning::specs::TermForms::unary_term))]

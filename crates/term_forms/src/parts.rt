@@ -2,15 +2,15 @@
 ghost use Rattle.std.specs.Prelude.{◌≡◌, ℕ, List, [], ◌∷◌, ◌++◌};
 ghost use Rattle.comet_meaning.specs.Parts as parts;
 ghost use Rattle.comet_meaning.specs.Program.{level};
-ghost use Rattle.expression_forms.specs.OfRunState.Views.{state_seen};
-ghost use Rattle.expression_forms.specs.OfRunSteps.Does.{Does};
-ghost use Rattle.expression_forms.specs.OfRunSteps.Views.{part, row};
+ghost use Rattle.run_steps.specs.OfRunState.Views.{state_seen};
+ghost use Rattle.run_steps.specs.Does.{Does};
+ghost use Rattle.run_steps.specs.Views.{row};
 
 use checked_tree::Typed;
-use expression_forms::parts::single_term;
-use expression_forms::solvers_of_runs::Built;
-use expression_forms::state_of_runs::{Outside, State};
-use expression_forms::steps_of_runs::Defining;
+use form_parts::terms::single_term;
+use run_steps::inside::Defining;
+use run_steps::solvers_of_runs::Built;
+use run_steps::state_of_runs::{Outside, State};
 use run_values::Stop;
 
 /// The terms of parts, from the left.

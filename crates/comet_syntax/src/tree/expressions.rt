@@ -76,7 +76,6 @@ pub enum Aggregate {
 
 /// An expression.
 #[cycle(expression)]
-#[derive(Drop)]
 pub enum Expression {
     /// `test ? then : otherwise`. Its place is its first token's.
     Conditional {
@@ -158,6 +157,70 @@ pub enum Expression {
         place: Place,
         arguments: Vec<Argument>,
     },
+}
+
+// Written and not derived: so each crate above that lets an expression go makes one call, and doesn't
+// prove the release of its forms again.
+impl Drop for Expression {
+    #[cycle(release_expression)]
+    fn drop(self) {
+        match self {
+            Self::Conditional {
+                test: _,
+                then: _,
+                otherwise: _,
+            } => (),
+            Self::Chain { first: _, links: _ } => (),
+            Self::Comparison {
+                left: _,
+                comparison: _,
+                place: _,
+                right: _,
+            } => (),
+            Self::Range {
+                low: _,
+                place: _,
+                high: _,
+            } => (),
+            Self::Unary {
+                operator: _,
+                place: _,
+                operand: _,
+            } => (),
+            Self::Aggregate {
+                aggregate: _,
+                place: _,
+                generators: _,
+                body: _,
+            } => (),
+            Self::Postfix {
+                primary: _,
+                suffixes: _,
+            } => (),
+            Self::Number { value: _, place: _ } => (),
+            Self::Truth { value: _, place: _ } => (),
+            Self::Name(_) => (),
+            Self::Call {
+                name: _,
+                arguments: _,
+            } => (),
+            Self::Extreme {
+                extreme: _,
+                place: _,
+                left: _,
+                right: _,
+            } => (),
+            Self::Parentheses { place: _, inner: _ } => (),
+            Self::List {
+                place: _,
+                arguments: _,
+            } => (),
+            Self::Set {
+                place: _,
+                arguments: _,
+            } => (),
+        }
+    }
 }
 
 /// An operand of a chain behind the first one, with the operator before it. The place is the operator's.

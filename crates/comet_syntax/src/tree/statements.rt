@@ -4,7 +4,6 @@ use cbl_base::{Place, Text};
 
 /// A statement. The place is its first token's.
 #[cycle(statement)]
-#[derive(Drop)]
 pub enum Statement {
     Block(Block),
     /// `;`
@@ -84,6 +83,76 @@ pub enum Statement {
         domain: Box<Expression>,
         body: Box<Statement>,
     },
+}
+
+// Written and not derived, as that of an expression is, and by the same reason.
+impl Drop for Statement {
+    #[cycle(release_statement)]
+    fn drop(self) {
+        match self {
+            Self::Block(_) => (),
+            Self::Empty(_) => (),
+            Self::Declaration(_) => (),
+            Self::Simple(_) => (),
+            Self::Return { place: _, value: _ } => (),
+            Self::If {
+                place: _,
+                test: _,
+                then: _,
+                otherwise: _,
+            } => (),
+            Self::While {
+                place: _,
+                test: _,
+                body: _,
+            } => (),
+            Self::For {
+                place: _,
+                head: _,
+                body: _,
+            } => (),
+            Self::ForAll {
+                place: _,
+                generators: _,
+                body: _,
+            } => (),
+            Self::Select {
+                place: _,
+                generators: _,
+                body: _,
+            } => (),
+            Self::SelectBy {
+                place: _,
+                extreme: _,
+                generators: _,
+                key: _,
+                body: _,
+            } => (),
+            Self::Neighbor {
+                place: _,
+                key: _,
+                selector: _,
+                body: _,
+            } => (),
+            Self::Whenever {
+                place: _,
+                watched: _,
+                body: _,
+            } => (),
+            Self::With {
+                place: _,
+                mode: _,
+                solver: _,
+                body: _,
+            } => (),
+            Self::Parall {
+                place: _,
+                name: _,
+                domain: _,
+                body: _,
+            } => (),
+        }
+    }
 }
 
 /// `{ statements }`. The place is that of `{`.

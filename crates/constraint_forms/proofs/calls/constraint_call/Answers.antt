@@ -1,7 +1,7 @@
 use Rattle.std.proofs.Common.{◌∙◌, sym, subst, ap}
 use Rattle.comet_meaning.specs.Outcome.{Went}
-use Rattle.term_forms.specs.OfRunState.Views.{state_seen}
-use Rattle.term_forms.specs.OfRunSteps.Does.{Does}
+use Rattle.run_steps.specs.OfRunState.Views.{state_seen}
+use Rattle.run_steps.specs.Does.{Does}
 use Rattle.constraint_forms.proofs.CallLaws.{all_different_as, at_most_as, at_least_as, exactly_as, knapsack_as, multi_knapsack_as, sequence_as, call_of_others}
 use Rattle.constraint_forms.proofs.calls.constraint_call.Goals as goal
 

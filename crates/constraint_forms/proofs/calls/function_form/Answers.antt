@@ -1,5 +1,5 @@
 use Rattle.std.proofs.Common.{sym, subst}
-use Rattle.term_forms.specs.OfRunSteps.Does.{Does}
+use Rattle.run_steps.specs.Does.{Does}
 use Rattle.constraint_forms.proofs.CallLaws.{function_of_others}
 use Rattle.constraint_forms.proofs.calls.function_form.Goals as goal
 

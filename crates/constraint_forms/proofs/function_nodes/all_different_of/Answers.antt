@@ -1,8 +1,8 @@
 use Rattle.std.proofs.Common.{◌≡◌, arith, length}
 use Rattle.comet_meaning.proofs.GoingOn.{goes_charge, goes_then}
 use Rattle.comet_meaning.proofs.GoingTerms.{goes_node}
-use Rattle.term_forms.specs.OfRunState.Views.{state_seen}
-use Rattle.term_forms.proofs.OfRunSteps.Exits.{act_exit, after}
+use Rattle.run_steps.specs.OfRunState.Views.{state_seen}
+use Rattle.run_steps.proofs.Exits.{act_exit, after}
 use Rattle.constraint_forms.proofs.function_nodes.all_different_of.Goals as goal
 
 pub returns-in_err-charge : goal.returns-in_err-charge

@@ -1,5 +1,5 @@
 use Rattle.std.proofs.Common.{◌≡◌, sym, subst, arith, length}
-use Rattle.term_forms.specs.OfRunSteps.Does.{Does}
+use Rattle.run_steps.specs.Does.{Does}
 use Rattle.constraint_forms.proofs.TestLaws.{even_so, even_not}
 use Rattle.constraint_forms.proofs.function_nodes.even_of.Goals as goal
 

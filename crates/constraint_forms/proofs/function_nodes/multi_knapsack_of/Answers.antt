@@ -1,9 +1,9 @@
 use Rattle.std.proofs.Common.{◌≡◌, arith, length}
 use Rattle.comet_meaning.proofs.GoingOn.{goes_charge, goes_then, goes_unless}
 use Rattle.comet_meaning.proofs.GoingTerms.{goes_node}
-use Rattle.term_forms.specs.OfRunState.Views.{state_seen}
-use Rattle.term_forms.proofs.OfRunSteps.AggregateLaws.{memory_ends}
-use Rattle.term_forms.proofs.OfRunSteps.Exits.{act_exit, after, exit}
+use Rattle.run_steps.specs.OfRunState.Views.{state_seen}
+use Rattle.run_steps.proofs.AggregateLaws.{memory_ends}
+use Rattle.run_steps.proofs.Exits.{act_exit, after, exit}
 use Rattle.constraint_forms.proofs.function_nodes.multi_knapsack_of.Goals as goal
 
 pub returns-in_err-charge : goal.returns-in_err-charge

@@ -3,10 +3,10 @@ use Rattle.comet_meaning.proofs.GoingOn.{goes_charge, goes_give, goes_then}
 use Rattle.std.specs.Prelude.{Ok}
 use Rattle.comet_meaning.specs.Outcome.{◌>>=◌, charge, give}
 use Rattle.comet_meaning.specs.Terms as terms
-use Rattle.term_forms.specs.OfRunState.InTerms.{in_term_seen, term_cells_seen}
-use Rattle.term_forms.specs.OfRunState.Views.{state_seen}
-use Rattle.term_forms.specs.OfRunState.declared.standing.InTerm.TheVariants.{Several}
-use Rattle.term_forms.proofs.OfRunSteps.Exits.{act_exit, after}
+use Rattle.run_steps.specs.OfRunState.InTerms.{in_term_seen, term_cells_seen}
+use Rattle.run_steps.specs.OfRunState.Views.{state_seen}
+use Rattle.run_steps.specs.OfRunState.declared.standing.InTerm.TheVariants.{Several}
+use Rattle.run_steps.proofs.Exits.{act_exit, after}
 use Rattle.constraint_forms.proofs.function_nodes.places_of.Goals as goal
 
 pub returns-in_err-charge : goal.returns-in_err-charge

@@ -1,7 +1,7 @@
 use Rattle.comet_meaning.proofs.GoingOn.{goes_charge, goes_give, goes_then}
-use Rattle.term_forms.specs.OfRunState.InTerms.{in_term_seen, term_cells_seen}
+use Rattle.run_steps.specs.OfRunState.InTerms.{in_term_seen, term_cells_seen}
 use Rattle.constraint_forms.specs.Steps.{places_of}
-use Rattle.term_forms.proofs.OfRunSteps.Behind.{err_passes, ok_does}
+use Rattle.run_steps.proofs.Behind.{err_passes, ok_does}
 use Rattle.constraint_forms.proofs.function_nodes.places_with.Goals as goal
 
 pub returns-in-Err : goal.returns-in-Err

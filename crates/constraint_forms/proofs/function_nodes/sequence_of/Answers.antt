@@ -2,8 +2,8 @@ use Rattle.std.proofs.Common.{◌≡◌, arith, length, w64}
 use Rattle.std.proofs.lemmas.Int.{to_z-of_z}
 use Rattle.comet_meaning.proofs.GoingOn.{goes_charge, goes_then, goes_unless}
 use Rattle.comet_meaning.proofs.GoingTerms.{goes_node}
-use Rattle.term_forms.specs.OfRunState.Views.{state_seen}
-use Rattle.term_forms.proofs.OfRunSteps.Exits.{act_exit, after}
+use Rattle.run_steps.specs.OfRunState.Views.{state_seen}
+use Rattle.run_steps.proofs.Exits.{act_exit, after}
 use Rattle.constraint_forms.proofs.function_nodes.sequence_of.Goals as goal
 
 pub returns-in_err-charge : goal.returns-in_err-charge

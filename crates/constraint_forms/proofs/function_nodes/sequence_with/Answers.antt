@@ -2,10 +2,10 @@ use Rattle.std.proofs.Common.{ℤ, rules, w64, FitsSigned}
 use Rattle.std.proofs.lemmas.Int.{to_z-of_z}
 use Rattle.comet_meaning.proofs.GoingOn.{goes_charge, goes_then, goes_unless}
 use Rattle.comet_meaning.proofs.GoingTerms.{goes_node}
-use Rattle.term_forms.specs.OfRunState.InTerms.{term_cells_seen}
+use Rattle.run_steps.specs.OfRunState.InTerms.{term_cells_seen}
 use Rattle.term_model.specs.declared.term.Term.{Term}
 use Rattle.constraint_forms.specs.Steps.{sequence_node}
-use Rattle.term_forms.proofs.OfRunSteps.Behind.{err_passes, ok_does}
+use Rattle.run_steps.proofs.Behind.{err_passes, ok_does}
 use Rattle.constraint_forms.proofs.function_nodes.sequence_with.Goals as goal
 
 pub returns-in-Err : goal.returns-in-Err

@@ -1,6 +1,6 @@
 use Rattle.std.proofs.Common.{◌∙◌, sym, subst, w64}
 use Rattle.std.proofs.lemmas.Int.{to_z-of_z}
-use Rattle.term_forms.specs.OfRunSteps.Does.{Does}
+use Rattle.run_steps.specs.Does.{Does}
 use Rattle.constraint_forms.proofs.TestLaws.{window_so, window_not}
 use Rattle.constraint_forms.proofs.function_nodes.window_of.Goals as goal
 

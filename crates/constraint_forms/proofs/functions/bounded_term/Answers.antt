@@ -3,7 +3,7 @@ use Rattle.comet_meaning.proofs.GoingOn.{goes_then, goes_charge}
 use Rattle.comet_meaning.proofs.GoingParts.{goes_terms}
 use Rattle.comet_meaning.proofs.GoingStatements.{goes_level}
 use Rattle.comet_meaning.proofs.GoingTerms.{goes_node}
-use Rattle.term_forms.proofs.OfRunSteps.Exits.{after, call_exit}
+use Rattle.run_steps.proofs.Exits.{after, call_exit}
 use Rattle.constraint_forms.proofs.functions.bounded_term.Goals as goal
 
 pub returns-in_err-bounds : goal.returns-in_err-bounds

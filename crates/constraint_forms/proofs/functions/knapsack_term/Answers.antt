@@ -3,7 +3,7 @@ use Rattle.comet_meaning.proofs.GoingOn.{goes_then, goes_charge, goes_unless}
 use Rattle.comet_meaning.proofs.GoingParts.{goes_terms, goes_number}
 use Rattle.comet_meaning.proofs.GoingStatements.{goes_level}
 use Rattle.comet_meaning.proofs.GoingTerms.{goes_node}
-use Rattle.term_forms.proofs.OfRunSteps.Exits.{after, call_exit}
+use Rattle.run_steps.proofs.Exits.{after, call_exit}
 use Rattle.constraint_forms.proofs.functions.knapsack_term.Goals as goal
 
 pub returns-in_err-weights : goal.returns-in_err-weights

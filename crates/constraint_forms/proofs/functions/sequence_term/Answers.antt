@@ -6,8 +6,8 @@ use Rattle.comet_meaning.proofs.GoingConstraints.{goes_kept_set}
 use Rattle.comet_meaning.proofs.GoingParts.{goes_number}
 use Rattle.comet_meaning.proofs.GoingStatements.{goes_level}
 use Rattle.comet_meaning.proofs.GoingTerms.{goes_node}
-use Rattle.term_forms.specs.OfRunState.Views.{state_seen}
-use Rattle.term_forms.proofs.OfRunSteps.Exits.{after, call_exit}
+use Rattle.run_steps.specs.OfRunState.Views.{state_seen}
+use Rattle.run_steps.proofs.Exits.{after, call_exit}
 use Rattle.constraint_forms.proofs.functions.sequence_term.Goals as goal
 
 pub returns-in_err-cells : goal.returns-in_err-cells

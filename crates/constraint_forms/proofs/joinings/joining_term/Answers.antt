@@ -1,10 +1,10 @@
 use Rattle.std.proofs.Common.{sym, subst, map}
 use Rattle.comet_meaning.proofs.GoingConstraints.{goes_joining}
 use Rattle.comet_meaning.proofs.GoingStatements.{goes_level}
-use Rattle.term_forms.specs.OfRunState.Views.{state_seen}
-use Rattle.term_forms.specs.OfRunSteps.Does.{Does}
-use Rattle.term_forms.proofs.OfRunSteps.AggregateLaws.{memory_ends}
-use Rattle.term_forms.proofs.OfRunSteps.Exits.{exit}
+use Rattle.run_steps.specs.OfRunState.Views.{state_seen}
+use Rattle.run_steps.specs.Does.{Does}
+use Rattle.run_steps.proofs.AggregateLaws.{memory_ends}
+use Rattle.run_steps.proofs.Exits.{exit}
 use Rattle.run_values.specs.Views.{value_seen}
 use Rattle.constraint_forms.proofs.JoinLaws.{joining_ends, joining_went}
 use Rattle.constraint_forms.proofs.joinings.joining_term.Goals as goal

@@ -2,7 +2,7 @@ use Rattle.std.proofs.Common.{refl}
 use Rattle.comet_meaning.specs.Cells.{cells}
 use Rattle.comet_meaning.proofs.GoingOn.{goes_cells}
 use Rattle.run_values.specs.Views.{cells_seen, value_seen}
-use Rattle.term_forms.proofs.OfRunSteps.Behind.{err_passes, ok_acts}
+use Rattle.run_steps.proofs.Behind.{err_passes, ok_acts}
 use Rattle.constraint_forms.proofs.kept.as_cells.Goals as goal
 
 pub returns-in-Err : goal.returns-in-Err

@@ -3,7 +3,7 @@ use Rattle.comet_meaning.specs.Outcome.{give}
 use Rattle.comet_meaning.specs.Values.{members_of}
 use Rattle.comet_meaning.proofs.GoingOn.{goes_give}
 use Rattle.run_values.specs.Views.{value_seen}
-use Rattle.term_forms.proofs.OfRunSteps.Behind.{err_passes, ok_gives}
+use Rattle.run_steps.proofs.Behind.{err_passes, ok_gives}
 use Rattle.constraint_forms.proofs.kept.as_set.Goals as goal
 
 pub returns-in-Err : goal.returns-in-Err

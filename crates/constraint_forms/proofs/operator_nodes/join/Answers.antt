@@ -1,8 +1,8 @@
 use Rattle.std.proofs.Common.{◌∙◌}
 use Rattle.comet_meaning.proofs.GoingTerms.{goes_node}
-use Rattle.term_forms.proofs.OfRunSteps.AggregateLaws.{memory_ends}
-use Rattle.term_forms.proofs.OfRunSteps.Exits.{exit}
-use Rattle.term_forms.proofs.BodyLaws.{terms_seen}
+use Rattle.run_steps.proofs.AggregateLaws.{memory_ends}
+use Rattle.run_steps.proofs.Exits.{exit}
+use Rattle.form_parts.proofs.BodyLaws.{terms_seen}
 use Rattle.constraint_forms.proofs.operator_nodes.join.Goals as goal
 
 pub returns-in_err-terms : goal.returns-in_err-terms

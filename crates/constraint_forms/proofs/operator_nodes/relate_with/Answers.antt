@@ -1,7 +1,7 @@
 use Rattle.comet_meaning.proofs.GoingTerms.{goes_node}
 use Rattle.constraint_forms.specs.Steps.{related}
 use Rattle.term_model.specs.declared.term.Term.{Term}
-use Rattle.term_forms.proofs.OfRunSteps.Behind.{err_passes, ok_does}
+use Rattle.run_steps.proofs.Behind.{err_passes, ok_does}
 use Rattle.constraint_forms.proofs.operator_nodes.relate_with.Goals as goal
 
 pub returns-in-Err : goal.returns-in-Err

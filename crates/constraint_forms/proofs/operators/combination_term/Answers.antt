@@ -1,7 +1,7 @@
 use Rattle.comet_meaning.specs.ConstraintForms.{combination_form}
 use Rattle.comet_meaning.proofs.GoingConstraints.{goes_combined}
 use Rattle.comet_meaning.proofs.GoingStatements.{goes_level}
-use Rattle.term_forms.proofs.OfRunSteps.Exits.{after, call_exit}
+use Rattle.run_steps.proofs.Exits.{after, call_exit}
 use Rattle.constraint_forms.proofs.operators.combination_term.Goals as goal
 
 pub returns-in_err-term : goal.returns-in_err-term

@@ -1,5 +1,5 @@
 use Rattle.std.proofs.Common.{sym, subst}
-use Rattle.term_forms.specs.OfRunSteps.Does.{Does}
+use Rattle.run_steps.specs.Does.{Does}
 use Rattle.constraint_forms.proofs.MemberRows.{combined_none, combined_some}
 use Rattle.constraint_forms.proofs.operators.combined_term.Goals as goal
 

@@ -1,8 +1,8 @@
 use Rattle.comet_meaning.proofs.GoingConstraints.{goes_members}
 use Rattle.comet_meaning.proofs.GoingStatements.{goes_level}
 use Rattle.comet_meaning.proofs.Rows.{items_rows}
-use Rattle.term_forms.proofs.OfRunSteps.Exits.{ends_passes, exit, memory_exit}
-use Rattle.term_forms.proofs.OfRunSteps.Forms.{link_is}
+use Rattle.run_steps.proofs.Exits.{ends_passes, exit, memory_exit}
+use Rattle.run_steps.proofs.Forms.{link_is}
 use Rattle.constraint_forms.proofs.MemberRows.{members_start, members_end, members_onward, members_step, members_err}
 use Rattle.constraint_forms.proofs.operators.members_of.Goals as goal
 

@@ -2,8 +2,8 @@ use Rattle.std.proofs.Common.{[], ◌∷◌}
 use Rattle.checked_tree.specs.Shape.{shape_of_link}
 use Rattle.comet_meaning.specs.ConstraintForms.{members_form}
 use Rattle.comet_meaning.specs.Program.{level}
-use Rattle.term_forms.specs.OfRunState.Views.{state_seen}
-use Rattle.term_forms.specs.OfRunSteps.Views.{links_seen}
+use Rattle.run_steps.specs.OfRunState.Views.{state_seen}
+use Rattle.run_steps.specs.Views.{links_seen}
 use Rattle.constraint_forms.proofs.MemberRows.{MembersLeft}
 use Rattle.constraint_forms.proofs.operators.members_of.Given as goal
 

@@ -7,10 +7,10 @@ use Rattle.comet_meaning.proofs.GoingDeclarations.{goes_each_cell, goes_next_cel
 use Rattle.comet_meaning.specs.Program.{level}
 use Rattle.std.proofs.lemmas.Result.{err_from_is_err_and}
 use Rattle.comet_meaning.specs.Declarations.{next_cell}
-use Rattle.expression_forms.proofs.OfRunSteps.Stops.{stopped_then}
+use Rattle.run_steps.proofs.Stops.{stopped_then}
 use Rattle.std.specs.Option.{option_copied}
-use Rattle.expression_forms.specs.OfRunSteps.Extents.{extent_seen}
-use Rattle.expression_forms.proofs.OfRunSteps.Filling.{along_end, along_none, below, fits_next, reached, along_step, along_stop, cells_of_none, cells_of_some, far_falls}
+use Rattle.run_effects.specs.Extents.{extent_seen}
+use Rattle.run_effects.proofs.Filling.{along_end, along_none, below, fits_next, reached, along_step, along_stop, cells_of_none, cells_of_some, far_falls}
 use Rattle.declaration_forms.proofs.array_declarations.+fill.Goals as goal
 
 pub fill_at-returns-in_err-put_named : goal.fill_at-returns-in_err-put_named

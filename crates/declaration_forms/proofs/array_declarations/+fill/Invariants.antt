@@ -1,12 +1,12 @@
 use Rattle.std.proofs.Common.{◌+◌, ◌*◌, ℤ, List, map, length, ◌-ℤ◌, option_map}
 use Rattle.checked_tree.specs.Shape.{seen}
 use Rattle.comet_meaning.specs.Program.{level}
-use Rattle.expression_forms.specs.OfRunState.Views.{state_seen}
+use Rattle.run_steps.specs.OfRunState.Views.{state_seen}
 use Rattle.std.specs.Prelude.{nat_abs}
 use Rattle.std.specs.Option.{option_copied}
 use Rattle.comet_meaning.specs.Declarations.{next_cell}
-use Rattle.expression_forms.specs.OfRunSteps.Extents.{along, extent_seen}
-use Rattle.expression_forms.proofs.OfRunSteps.Filling.{AlongLeft}
+use Rattle.run_effects.specs.Extents.{along, extent_seen}
+use Rattle.run_effects.proofs.Filling.{AlongLeft}
 use Rattle.declaration_forms.proofs.array_declarations.+fill.Given as goal
 
 abbrev pub decreases-fill : goal.decreases-fill

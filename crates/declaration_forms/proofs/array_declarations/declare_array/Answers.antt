@@ -2,10 +2,10 @@ use Rattle.std.proofs.Common.{refl}
 use Rattle.comet_meaning.proofs.GoingOn.{goes_then, goes_new_array, goes_put, goes_unless}
 use Rattle.comet_meaning.proofs.GoingStatements.{goes_level}
 use Rattle.comet_meaning.proofs.GoingDeclarations.{goes_numbers}
-use Rattle.expression_forms.specs.OfRunState.Views.{state_seen}
+use Rattle.run_steps.specs.OfRunState.Views.{state_seen}
 use Rattle.std.proofs.lemmas.Result.{err_from_is_err_and}
 use Rattle.comet_meaning.specs.Declarations.{array_form}
-use Rattle.expression_forms.proofs.OfRunSteps.Stops.{ended_then, stopped_then}
+use Rattle.run_steps.proofs.Stops.{ended_then, stopped_then}
 use Rattle.declaration_forms.proofs.array_declarations.declare_array.Goals as goal
 
 pub returns-in_err-extents : goal.returns-in_err-extents

@@ -2,8 +2,8 @@ use Rattle.std.proofs.Common.{refl, arith}
 use Rattle.comet_meaning.proofs.GoingStatements.{goes_level}
 use Rattle.comet_meaning.proofs.Rows.{dimensions_end, dimensions_onward, dimensions_start, dimensions_step}
 use Rattle.std.proofs.lemmas.Result.{err_from_is_err_and}
-use Rattle.expression_forms.proofs.OfRunSteps.Steps.{dimensions_stop}
-use Rattle.expression_forms.proofs.OfRunSteps.Filling.{seen_push}
+use Rattle.run_steps.proofs.Steps.{dimensions_stop}
+use Rattle.run_effects.proofs.Filling.{seen_push}
 use Rattle.declaration_forms.proofs.array_declarations.extents_of.Goals as goal
 
 pub loop-dimension-init : goal.loop-dimension-init

@@ -1,10 +1,10 @@
 use Rattle.std.proofs.Common.{[], map}
 use Rattle.comet_meaning.specs.Program.{level}
 use Rattle.comet_meaning.proofs.Rows.{DimensionsLeft}
-use Rattle.expression_forms.specs.OfRunState.Views.{state_seen}
+use Rattle.run_steps.specs.OfRunState.Views.{state_seen}
 use Rattle.checked_tree.specs.Actions.{dimension_of}
 use Rattle.comet_meaning.specs.Declarations.{dimensions_form}
-use Rattle.expression_forms.specs.OfRunSteps.Extents.{extent_seen}
+use Rattle.run_effects.specs.Extents.{extent_seen}
 use Rattle.declaration_forms.proofs.array_declarations.extents_of.Given as goal
 
 -- the dimensions that are left, from here, give what all give

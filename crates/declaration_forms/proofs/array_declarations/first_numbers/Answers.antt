@@ -7,12 +7,12 @@ returns-in-None g c = record { did = rw c.in-None.is c.fill_all.ensures.did }
 
 pub returns-in-List : goal.returns-in-List
 unfolding numbers_form started_cells
-returns-in-List g c = record { did = rw (c.in-Some.is, c.in-List.is, ← c.requires.known) c.listed_numbers.ensures.did }
+returns-in-List g c = record { did = rw (c.in-Some.is, ← c.deref-start.ensures, c.in-List.is, ← c.requires.known) c.listed_numbers.ensures.did }
 
 pub returns-in-Each : goal.returns-in-Each
 unfolding numbers_form started_cells
-returns-in-Each g c = record { did = rw (c.in-Some.is, c.in-Each.is) c.fill_all-in-Each.ensures.did }
+returns-in-Each g c = record { did = rw (c.in-Some.is, ← c.deref-start.ensures, c.in-Each.is) c.fill_all-in-Each.ensures.did }
 
 pub returns-in-Define : goal.returns-in-Define
 unfolding numbers_form started_cells
-returns-in-Define g c = record { did = rw (c.in-Some.is, c.in-Define.is) c.fill_all-in-Define.ensures.did }
+returns-in-Define g c = record { did = rw (c.in-Some.is, ← c.deref-start.ensures, c.in-Define.is) c.fill_all-in-Define.ensures.did }

@@ -4,7 +4,7 @@ use Rattle.comet_meaning.proofs.GoingStatements.{goes_level}
 use Rattle.comet_meaning.proofs.GoingDeclarations.{goes_start_number}
 use Rattle.std.proofs.lemmas.Result.{err_from_is_err_and}
 use Rattle.comet_meaning.specs.Declarations.{next_cell}
-use Rattle.expression_forms.proofs.OfRunSteps.Stops.{stopped_then}
+use Rattle.run_steps.proofs.Stops.{stopped_then}
 use Rattle.declaration_forms.proofs.array_declarations.push_cell.Goals as goal
 
 pub returns-in_err-charge : goal.returns-in_err-charge

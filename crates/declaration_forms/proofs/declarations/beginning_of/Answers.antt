@@ -1,7 +1,7 @@
 use Rattle.std.proofs.Common.{sym, ap}
 use Rattle.comet_meaning.specs.Outcome.{Went}
 use Rattle.comet_meaning.specs.Variables.{beginning_form}
-use Rattle.expression_forms.specs.OfRunState.Views.{state_seen}
+use Rattle.run_steps.specs.OfRunState.Views.{state_seen}
 use Rattle.declaration_forms.proofs.declarations.beginning_of.Goals as goal
 
 pub returns-in-None : goal.returns-in-None

@@ -4,8 +4,8 @@ use Rattle.comet_meaning.proofs.GoingOn.{goes_then}
 use Rattle.comet_meaning.proofs.GoingStatements.{goes_level}
 use Rattle.comet_meaning.proofs.GoingVariables.{goes_beginning}
 use Rattle.std.proofs.lemmas.Result.{err_from_is_err_and}
-use Rattle.expression_forms.proofs.OfRunSteps.Goes.{goes_added_variable}
-use Rattle.expression_forms.proofs.OfRunSteps.Stops.{ended_then}
+use Rattle.run_steps.proofs.Goes.{goes_added_variable}
+use Rattle.run_steps.proofs.Stops.{ended_then}
 use Rattle.declaration_forms.proofs.declarations.declare_single.Goals as goal
 
 pub returns-in_err-domain : goal.returns-in_err-domain

@@ -1,8 +1,8 @@
 use Rattle.std.proofs.Common.{sym, subst, arith}
 use Rattle.comet_meaning.specs.Program.{level}
-use Rattle.expression_forms.specs.OfRunState.Views.{state_seen}
-use Rattle.expression_forms.specs.OfRunSteps.Does.{Does}
-use Rattle.expression_forms.proofs.OfRunSteps.VariableLaws.{variable_single, variable_several}
+use Rattle.run_steps.specs.OfRunState.Views.{state_seen}
+use Rattle.run_steps.specs.Does.{Does}
+use Rattle.run_effects.proofs.VariableLaws.{variable_single, variable_several}
 use Rattle.declaration_forms.proofs.declarations.declare_variable.Goals as goal
 
 pub returns-then-count-eq0 : goal.returns-then-count-eq0

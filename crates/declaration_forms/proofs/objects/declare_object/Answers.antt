@@ -1,6 +1,6 @@
 use Rattle.comet_meaning.specs.Declarations.{object_form}
 use Rattle.declaration_forms.proofs.ObjectLaws.{object_of_others}
-use Rattle.expression_forms.specs.OfRunState.Views.{state_seen}
+use Rattle.run_steps.specs.OfRunState.Views.{state_seen}
 use Rattle.declaration_forms.proofs.objects.declare_object.Goals as goal
 
 pub returns-in-Solver : goal.returns-in-Solver

@@ -1,5 +1,5 @@
 use Rattle.std.proofs.Common.{sym, subst}
-use Rattle.expression_forms.specs.OfRunSteps.Does.{Does}
+use Rattle.run_steps.specs.Does.{Does}
 use Rattle.declaration_forms.proofs.ObjectLaws.{made_of_no_range, made_of_one_range}
 use Rattle.declaration_forms.proofs.objects.new_distribution.Goals as goal
 

@@ -1,7 +1,7 @@
 use Rattle.std.proofs.Common.{sym, subst}
-use Rattle.expression_forms.specs.OfRunSteps.Does.{Does}
+use Rattle.run_steps.specs.Does.{Does}
 use Rattle.declaration_forms.proofs.ObjectLaws.{made_of_one, made_of_others}
-use Rattle.expression_forms.specs.OfRunState.Views.{state_seen}
+use Rattle.run_steps.specs.OfRunState.Views.{state_seen}
 use Rattle.declaration_forms.proofs.objects.new_objective.Goals as goal
 
 pub returns-then-arguments-ne1 : goal.returns-then-arguments-ne1

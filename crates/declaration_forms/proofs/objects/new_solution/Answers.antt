@@ -1,5 +1,5 @@
 use Rattle.std.proofs.Common.{sym, subst}
-use Rattle.expression_forms.specs.OfRunSteps.Does.{Does}
+use Rattle.run_steps.specs.Does.{Does}
 use Rattle.declaration_forms.proofs.ObjectLaws.{made_in_one, made_in_others}
 use Rattle.declaration_forms.proofs.objects.new_solution.Goals as goal
 

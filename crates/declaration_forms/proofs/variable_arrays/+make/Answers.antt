@@ -12,14 +12,14 @@ use Rattle.comet_meaning.proofs.GoingDeclarations.{goes_each_cell, goes_put_name
 use Rattle.comet_meaning.proofs.GoingStatements.{goes_level}
 use Rattle.comet_meaning.specs.Program.{level}
 use Rattle.std.proofs.lemmas.Result.{err_from_is_err_and}
-use Rattle.expression_forms.specs.OfRunState.Views.{state_seen}
-use Rattle.expression_forms.specs.OfRunSteps.Extents.{extent_seen}
-use Rattle.expression_forms.specs.OfRunSteps.Operands.{variable_cell}
-use Rattle.expression_forms.proofs.OfRunSteps.AggregateLaws.{memory_ends}
-use Rattle.expression_forms.proofs.OfRunSteps.Exits.{after, exit}
-use Rattle.expression_forms.proofs.OfRunSteps.Filling.{along_end, along_none, below, fits_next, reached, along_step, along_stop, cells_of_none, cells_of_some, far_falls}
-use Rattle.expression_forms.proofs.OfRunSteps.Goes.{goes_variable_cell}
-use Rattle.expression_forms.proofs.OfRunSteps.Stops.{stopped_then}
+use Rattle.run_steps.specs.OfRunState.Views.{state_seen}
+use Rattle.run_effects.specs.Extents.{extent_seen}
+use Rattle.run_steps.specs.Operands.{variable_cell}
+use Rattle.run_steps.proofs.AggregateLaws.{memory_ends}
+use Rattle.run_steps.proofs.Exits.{after, exit}
+use Rattle.run_effects.proofs.Filling.{along_end, along_none, below, fits_next, reached, along_step, along_stop, cells_of_none, cells_of_some, far_falls}
+use Rattle.run_steps.proofs.Goes.{goes_variable_cell}
+use Rattle.run_steps.proofs.Stops.{stopped_then}
 use Rattle.declaration_forms.proofs.variable_arrays.+make.Goals as goal
 
 -- the cells that some dimensions have, behind some indices

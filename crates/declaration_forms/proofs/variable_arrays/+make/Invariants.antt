@@ -2,10 +2,10 @@ use Rattle.std.proofs.Common.{◌+◌, ◌*◌, map, length, ◌-ℤ◌, option_
 use Rattle.std.specs.Prelude.{nat_abs}
 use Rattle.checked_tree.specs.Actions.{variable_of}
 use Rattle.comet_meaning.specs.Program.{level}
-use Rattle.expression_forms.specs.OfRunState.Views.{state_seen}
-use Rattle.expression_forms.specs.OfRunSteps.Extents.{along, extent_seen}
-use Rattle.expression_forms.specs.OfRunSteps.Operands.{variable_cell}
-use Rattle.expression_forms.proofs.OfRunSteps.Filling.{AlongLeft}
+use Rattle.run_steps.specs.OfRunState.Views.{state_seen}
+use Rattle.run_effects.specs.Extents.{along, extent_seen}
+use Rattle.run_steps.specs.Operands.{variable_cell}
+use Rattle.run_effects.proofs.Filling.{AlongLeft}
 use Rattle.declaration_forms.proofs.variable_arrays.+make.Given as goal
 
 abbrev pub decreases-make : goal.decreases-make

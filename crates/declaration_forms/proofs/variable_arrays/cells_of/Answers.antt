@@ -8,9 +8,9 @@ use Rattle.comet_meaning.specs.Levels.{Level}
 use Rattle.comet_meaning.specs.Program.{level}
 use Rattle.comet_meaning.specs.State.{State}
 use Rattle.comet_meaning.specs.Variables.{cells_form}
-use Rattle.expression_forms.specs.OfRunState.Views.{state_seen}
-use Rattle.expression_forms.specs.OfRunSteps.Does.{Does}
-use Rattle.expression_forms.specs.OfRunSteps.Extents.{extent_seen}
+use Rattle.run_steps.specs.OfRunState.Views.{state_seen}
+use Rattle.run_steps.specs.Does.{Does}
+use Rattle.run_effects.specs.Extents.{extent_seen}
 use Rattle.declaration_forms.proofs.variable_arrays.cells_of.Goals as goal
 
 -- cells by their start

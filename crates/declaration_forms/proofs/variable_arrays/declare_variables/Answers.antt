@@ -6,15 +6,15 @@ use Rattle.comet_meaning.specs.Variables.{cells_form, declared, several_form, va
 use Rattle.comet_meaning.proofs.GoingOn.{goes_then, goes_unless}
 use Rattle.comet_meaning.proofs.GoingStatements.{goes_level}
 use Rattle.comet_meaning.proofs.GoingVariables.{goes_domain, goes_variable_cells}
-use Rattle.expression_forms.specs.OfRunValues.Views.{bounds_seen}
-use Rattle.expression_forms.specs.OfRunState.Views.{state_seen}
+use Rattle.run_values.specs.Views.{bounds_seen}
+use Rattle.run_steps.specs.OfRunState.Views.{state_seen}
 use Rattle.std.proofs.lemmas.Result.{err_from_is_err_and}
-use Rattle.expression_forms.specs.OfRunSteps.declared.cells.Extent.{Extent}
-use Rattle.expression_forms.specs.OfRunSteps.Does.{Does}
-use Rattle.expression_forms.specs.OfRunSteps.Extents.{extent_seen}
-use Rattle.expression_forms.specs.OfRunSteps.Operands.{made_variables}
-use Rattle.expression_forms.proofs.OfRunSteps.Goes.{goes_made_variables}
-use Rattle.expression_forms.proofs.OfRunSteps.Stops.{ended_then, stopped_then}
+use Rattle.run_effects.specs.declared.cells.Extent.{Extent}
+use Rattle.run_steps.specs.Does.{Does}
+use Rattle.run_effects.specs.Extents.{extent_seen}
+use Rattle.run_steps.specs.Operands.{made_variables}
+use Rattle.run_steps.proofs.Goes.{goes_made_variables}
+use Rattle.run_steps.proofs.Stops.{ended_then, stopped_then}
 use Rattle.declaration_forms.proofs.variable_arrays.declare_variables.Goals as goal
 
 pub returns-in_err-extents : goal.returns-in_err-extents

@@ -1,9 +1,9 @@
 use Rattle.std.proofs.Common.{sym, subst}
 use Rattle.comet_meaning.proofs.GoingDeclarations.{goes_every_cell}
 use Rattle.comet_meaning.proofs.GoingVariables.{goes_listed_variable}
-use Rattle.expression_forms.specs.OfRunSteps.Does.{Does}
-use Rattle.expression_forms.proofs.OfRunSteps.Exits.{after, call_exit}
-use Rattle.expression_forms.proofs.OfRunSteps.VariableLaws.{listed_as}
+use Rattle.run_steps.specs.Does.{Does}
+use Rattle.run_steps.proofs.Exits.{after, call_exit}
+use Rattle.run_effects.proofs.VariableLaws.{listed_as}
 use Rattle.declaration_forms.proofs.variable_arrays.listed_cells.Goals as goal
 
 pub returns-in_err-numbers : goal.returns-in_err-numbers

@@ -1,6 +1,6 @@
 use Rattle.std.proofs.Common.{◌≡◌, sym, subst}
-use Rattle.expression_forms.specs.OfRunSteps.Does.{Does}
-use Rattle.expression_forms.proofs.OfRunSteps.Filling.{all_cells}
+use Rattle.run_steps.specs.Does.{Does}
+use Rattle.run_effects.proofs.Filling.{all_cells}
 use Rattle.declaration_forms.proofs.variable_arrays.make_all.Goals as goal
 
 pub returns : goal.returns

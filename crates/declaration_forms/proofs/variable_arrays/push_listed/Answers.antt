@@ -5,9 +5,9 @@ use Rattle.checked_tree.specs.Actions.{variable_of}
 use Rattle.comet_meaning.specs.Variables.{beginning_with, listed_cell, variable_kind}
 use Rattle.comet_meaning.proofs.GoingOn.{goes_charge}
 use Rattle.std.proofs.lemmas.Result.{err_from_is_err_and}
-use Rattle.expression_forms.specs.OfRunSolvers.Views.{beginning_seen}
-use Rattle.expression_forms.proofs.OfRunSteps.Goes.{goes_added_cell}
-use Rattle.expression_forms.proofs.OfRunSteps.Stops.{stopped_then}
+use Rattle.run_steps.specs.OfRunSolvers.Views.{beginning_seen}
+use Rattle.run_steps.proofs.Goes.{goes_added_cell}
+use Rattle.run_steps.proofs.Stops.{stopped_then}
 use Rattle.declaration_forms.proofs.variable_arrays.push_listed.Goals as goal
 
 pub returns-in_err-charge : goal.returns-in_err-charge

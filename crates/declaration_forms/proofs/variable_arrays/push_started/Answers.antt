@@ -5,8 +5,8 @@ use Rattle.comet_meaning.proofs.GoingOn.{goes_then, goes_charge}
 use Rattle.comet_meaning.proofs.GoingStatements.{goes_level}
 use Rattle.comet_meaning.proofs.GoingVariables.{goes_beginning}
 use Rattle.std.proofs.lemmas.Result.{err_from_is_err_and}
-use Rattle.expression_forms.proofs.OfRunSteps.Goes.{goes_added_cell}
-use Rattle.expression_forms.proofs.OfRunSteps.Stops.{stopped_then}
+use Rattle.run_steps.proofs.Goes.{goes_added_cell}
+use Rattle.run_steps.proofs.Stops.{stopped_then}
 use Rattle.declaration_forms.proofs.variable_arrays.push_started.Goals as goal
 
 pub returns-in_err-charge : goal.returns-in_err-charge

@@ -2,7 +2,7 @@
 use Rattle.comet_meaning.specs.Outcome.{give}
 use Rattle.comet_meaning.proofs.Endings.{went_then}
 use Rattle.comet_meaning.proofs.GoingOn.{goes_give}
-use Rattle.run_steps.specs.OfRunValues.Views.{value_seen}
+use Rattle.run_values.specs.Views.{value_seen}
 use Rattle.run_steps.proofs.Exits.{ends_passes}
 use Rattle.event_forms.proofs.queue.run_before_value.Goals as goal
 

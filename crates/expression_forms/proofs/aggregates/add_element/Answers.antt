@@ -1,15 +1,15 @@
 use Rattle.std.proofs.Common.{sym, subst, map, w64}
 use Rattle.std.proofs.lemmas.Int.{to_z-of_z}
-use Rattle.event_forms.proofs.OfRunSteps.AggregateLaws.{element_adds}
+use Rattle.run_steps.proofs.AggregateLaws.{element_adds}
 use Rattle.comet_meaning.specs.Aggregates.{element_form}
 use Rattle.comet_meaning.proofs.GoingExpressions.{goes_with_element}
 use Rattle.run_values.specs.Views.{element_seen, value_seen}
-use Rattle.event_forms.specs.OfRunSteps.Does.{Does}
+use Rattle.run_steps.specs.Does.{Does}
 use Rattle.comet_meaning.proofs.GoingOn.{goes_then, goes_give, goes_if}
 use Rattle.comet_meaning.proofs.GoingParts.{goes_value}
 use Rattle.comet_meaning.proofs.GoingStatements.{goes_level}
-use Rattle.event_forms.proofs.OfRunSteps.Exits.{act_does, call_exit}
-use Rattle.event_forms.specs.OfRunState.Views.{state_seen}
+use Rattle.run_steps.proofs.Exits.{act_does, call_exit}
+use Rattle.run_steps.specs.OfRunState.Views.{state_seen}
 use Rattle.expression_forms.proofs.aggregates.add_element.Goals as goal
 
 pub returns-in_err-passes : goal.returns-in_err-passes

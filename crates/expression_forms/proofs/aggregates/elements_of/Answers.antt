@@ -1,14 +1,14 @@
 use Rattle.std.proofs.Common.{◌<◌, arith, rules, map, w64, FitsSigned}
 use Rattle.std.specs.Prelude.{FitsSigned}
 use Rattle.std.proofs.lemmas.Int.{to_z-of_z}
-use Rattle.event_forms.proofs.OfRunSteps.AggregateLaws.{gathers, no_elements, elements_open, elements_end, element_added, element_ends, advances_none, all as all_elements}
+use Rattle.run_steps.proofs.AggregateLaws.{gathers, no_elements, elements_open, elements_end, element_added, element_ends, advances_none, all as all_elements}
 use Rattle.comet_meaning.proofs.GoingExpressions.{goes_element}
 use Rattle.run_values.specs.Views.{element_seen}
-use Rattle.event_forms.specs.OfRunSteps.Views.{part_or_none, part}
-use Rattle.event_forms.proofs.OfRunSteps.TupleLaws.{went_fuel}
+use Rattle.run_steps.specs.Views.{part_or_none, part}
+use Rattle.run_steps.proofs.TupleLaws.{went_fuel}
 use Rattle.comet_meaning.proofs.GoingStatements.{goes_level}
-use Rattle.event_forms.proofs.OfRunSteps.Exits.{exit}
-use Rattle.event_forms.specs.OfRunState.Views.{state_seen}
+use Rattle.run_steps.proofs.Exits.{exit}
+use Rattle.run_steps.specs.OfRunState.Views.{state_seen}
 use Rattle.expression_forms.proofs.aggregates.elements_of.Goals as goal
 
 pub returns-then-generators-eq0 : goal.returns-then-generators-eq0

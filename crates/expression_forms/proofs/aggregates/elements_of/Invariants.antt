@@ -1,12 +1,12 @@
-use Rattle.event_forms.proofs.OfRunSteps.AggregateLaws.{gathers}
-use Rattle.event_forms.specs.OfRunSteps.Views.{part_or_none, part, generators_seen}
+use Rattle.run_steps.proofs.AggregateLaws.{gathers}
+use Rattle.run_steps.specs.Views.{part_or_none, part, generators_seen}
 use Rattle.comet_meaning.specs.Aggregates.{element_form}
 use Rattle.comet_meaning.specs.Generators.{each_tuple}
 use Rattle.comet_meaning.specs.Outcome.{always}
-use Rattle.event_forms.specs.OfRunSteps.OpenTuples.{Remains, bounds_of, stack_seen}
+use Rattle.run_steps.specs.OpenTuples.{Remains, bounds_of, stack_seen}
 use Rattle.std.proofs.Common.{◌<◌, [], map, length}
 use Rattle.comet_meaning.specs.Program.{level}
-use Rattle.event_forms.specs.OfRunState.Views.{state_seen}
+use Rattle.run_steps.specs.OfRunState.Views.{state_seen}
 use Rattle.run_values.specs.Views.{element_seen}
 use Rattle.expression_forms.proofs.aggregates.elements_of.Given as goal
 

@@ -1,11 +1,11 @@
 use Rattle.std.proofs.Common.{sym, subst, map}
-use Rattle.event_forms.proofs.OfRunSteps.AggregateLaws.{aggregate_ends, aggregate_went, memory_ends}
+use Rattle.run_steps.proofs.AggregateLaws.{aggregate_ends, aggregate_went, memory_ends}
 use Rattle.comet_meaning.proofs.GoingExpressions.{goes_aggregate_value, goes_aggregate}
 use Rattle.run_values.specs.Views.{element_seen, value_seen}
-use Rattle.event_forms.specs.OfRunSteps.Does.{Does}
+use Rattle.run_steps.specs.Does.{Does}
 use Rattle.comet_meaning.proofs.GoingStatements.{goes_level}
-use Rattle.event_forms.proofs.OfRunSteps.Exits.{act_does, exit}
-use Rattle.event_forms.specs.OfRunState.Views.{state_seen}
+use Rattle.run_steps.proofs.Exits.{act_does, exit}
+use Rattle.run_steps.specs.OfRunState.Views.{state_seen}
 use Rattle.expression_forms.proofs.aggregates.evaluate_aggregate.Goals as goal
 
 pub returns-in_err-frame : goal.returns-in_err-frame

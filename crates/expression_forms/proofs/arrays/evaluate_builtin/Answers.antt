@@ -1,6 +1,6 @@
 use Rattle.std.proofs.Common.{sym, subst}
-use Rattle.event_forms.specs.OfRunSteps.Does.{Does}
-use Rattle.event_forms.proofs.OfRunSteps.Forms.{builtin_plain}
+use Rattle.run_steps.specs.Does.{Does}
+use Rattle.run_steps.proofs.Forms.{builtin_plain}
 use Rattle.expression_forms.proofs.arrays.evaluate_builtin.Goals as goal
 
 pub returns-in_default : goal.returns-in_default

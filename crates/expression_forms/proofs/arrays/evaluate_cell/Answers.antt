@@ -5,8 +5,8 @@ use Rattle.std.proofs.lemmas.Int.{to_z-of_z}
 use Rattle.comet_meaning.proofs.GoingOn.{goes_then}
 use Rattle.comet_meaning.proofs.GoingParts.{goes_number}
 use Rattle.comet_meaning.proofs.GoingStatements.{goes_level}
-use Rattle.event_forms.proofs.OfRunSteps.Exits.{after, call_exit}
-use Rattle.event_forms.proofs.OfRunSteps.Goes.{goes_indexed_twice}
+use Rattle.run_steps.proofs.Exits.{after, call_exit}
+use Rattle.run_steps.proofs.Goes.{goes_indexed_twice}
 use Rattle.expression_forms.proofs.arrays.evaluate_cell.Goals as goal
 
 pub returns-in_err-grid : goal.returns-in_err-grid

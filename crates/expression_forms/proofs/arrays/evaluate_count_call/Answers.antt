@@ -1,6 +1,6 @@
 use Rattle.std.proofs.Common.{sym, subst}
-use Rattle.event_forms.specs.OfRunSteps.Does.{Does}
-use Rattle.event_forms.proofs.OfRunSteps.Forms.{count_of_two, count_of_others}
+use Rattle.run_steps.specs.Does.{Does}
+use Rattle.run_steps.proofs.Forms.{count_of_two, count_of_others}
 use Rattle.expression_forms.proofs.arrays.evaluate_count_call.Goals as goal
 
 pub returns-then-arguments-ne2 : goal.returns-then-arguments-ne2

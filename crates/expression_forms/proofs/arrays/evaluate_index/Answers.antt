@@ -2,8 +2,8 @@ use Rattle.comet_meaning.specs.Arrays.{index_form}
 use Rattle.comet_meaning.proofs.GoingOn.{goes_then}
 use Rattle.comet_meaning.proofs.GoingParts.{goes_number}
 use Rattle.comet_meaning.proofs.GoingStatements.{goes_level}
-use Rattle.event_forms.proofs.OfRunSteps.Exits.{after, call_exit}
-use Rattle.event_forms.proofs.OfRunSteps.Goes.{goes_indexed}
+use Rattle.run_steps.proofs.Exits.{after, call_exit}
+use Rattle.run_steps.proofs.Goes.{goes_indexed}
 use Rattle.expression_forms.proofs.arrays.evaluate_index.Goals as goal
 
 pub returns-in_err-array : goal.returns-in_err-array

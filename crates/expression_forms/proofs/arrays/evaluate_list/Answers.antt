@@ -1,5 +1,5 @@
 use Rattle.comet_meaning.specs.Arrays.{list_form}
-use Rattle.event_forms.proofs.OfRunSteps.Exits.{gives, after}
+use Rattle.run_steps.proofs.Exits.{gives, after}
 use Rattle.expression_forms.proofs.arrays.evaluate_list.Goals as goal
 
 pub returns : goal.returns

@@ -1,6 +1,6 @@
 use Rattle.std.proofs.Common.{◌∙◌, sym, subst}
-use Rattle.event_forms.specs.OfRunSteps.Does.{Does}
-use Rattle.event_forms.proofs.OfRunSteps.Forms.{argument_itself, argument_valued}
+use Rattle.run_steps.specs.Does.{Does}
+use Rattle.run_steps.proofs.Forms.{argument_itself, argument_valued}
 use Rattle.expression_forms.proofs.calls.argument_of.Goals as goal
 
 pub returns-then-is_handed_itself : goal.returns-then-is_handed_itself

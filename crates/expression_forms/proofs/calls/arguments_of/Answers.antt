@@ -4,8 +4,8 @@ use Rattle.std.specs.Prelude.{slice_get}
 use Rattle.checked_tree.specs.Shape.{seen}
 use Rattle.comet_meaning.proofs.GoingStatements.{goes_level}
 use Rattle.comet_meaning.proofs.Rows.{items_wholes_of, arguments_start, arguments_end, parameters_end, arguments_step, arguments_err, arguments_onward}
-use Rattle.event_forms.proofs.OfRunSteps.Exits.{ends_passes, exit, memory_exit}
-use Rattle.event_forms.proofs.OfRunSteps.Forms.{arguments_pushed, past_end}
+use Rattle.run_steps.proofs.Exits.{ends_passes, exit, memory_exit}
+use Rattle.run_steps.proofs.Forms.{arguments_pushed, past_end}
 use Rattle.expression_forms.proofs.calls.arguments_of.Goals as goal
 
 pub loop-argument-init : goal.loop-argument-init

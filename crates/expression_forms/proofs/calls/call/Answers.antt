@@ -3,7 +3,7 @@ use Rattle.comet_meaning.proofs.GoingExpressions.{goes_handed, goes_body}
 use Rattle.run_values.specs.Views.{value_seen}
 use Rattle.comet_meaning.proofs.GoingOn.{goes_then, goes_charge}
 use Rattle.comet_meaning.proofs.GoingStatements.{goes_level}
-use Rattle.event_forms.proofs.OfRunSteps.Exits.{after, call_exit, act_exit}
+use Rattle.run_steps.proofs.Exits.{after, call_exit, act_exit}
 use Rattle.expression_forms.proofs.calls.call.Goals as goal
 
 pub returns-in_err-values : goal.returns-in_err-values

@@ -1,8 +1,8 @@
 use Rattle.std.proofs.Common.{map}
 use Rattle.run_values.specs.Views.{value_seen}
-use Rattle.event_forms.proofs.OfRunSteps.Exits.{exit}
-use Rattle.event_forms.specs.OfRunState.Views.{state_seen}
-use Rattle.event_forms.proofs.OfRunSteps.Forms.{body_went, body_ends}
+use Rattle.run_steps.proofs.Exits.{exit}
+use Rattle.run_steps.specs.OfRunState.Views.{state_seen}
+use Rattle.run_steps.proofs.Forms.{body_went, body_ends}
 use Rattle.comet_meaning.specs.Program.{level}
 use Rattle.checked_tree.specs.Tasks.{function_of}
 use Rattle.expression_forms.proofs.calls.execute_body.Goals as goal

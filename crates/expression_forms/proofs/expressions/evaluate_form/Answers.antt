@@ -1,7 +1,7 @@
 use Rattle.comet_meaning.specs.Expressions.{value_of_form}
 use Rattle.comet_meaning.proofs.GoingOn.{goes_look}
-use Rattle.event_forms.proofs.OfRunSteps.Exits.{act_does}
-use Rattle.event_forms.proofs.OfRunSteps.Shapes.{form_name, form_chain, form_list, form_set, form_aggregate, form_builtin, form_call, form_method}
+use Rattle.run_steps.proofs.Exits.{act_does}
+use Rattle.run_steps.proofs.Shapes.{form_name, form_chain, form_list, form_set, form_aggregate, form_builtin, form_call, form_method}
 use Rattle.expression_forms.proofs.expressions.evaluate_form.Goals as goal
 
 pub returns-in-Name : goal.returns-in-Name

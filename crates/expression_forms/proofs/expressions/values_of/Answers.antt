@@ -1,8 +1,8 @@
 use Rattle.checked_tree.specs.Shape.{seen}
 use Rattle.comet_meaning.proofs.GoingStatements.{goes_level}
 use Rattle.comet_meaning.proofs.Rows.{items_wholes_of, values_start, values_end, values_onward, values_step, values_err}
-use Rattle.event_forms.proofs.OfRunSteps.Exits.{ends_passes, exit, memory_exit}
-use Rattle.event_forms.proofs.OfRunSteps.Forms.{values_pushed}
+use Rattle.run_steps.proofs.Exits.{ends_passes, exit, memory_exit}
+use Rattle.run_steps.proofs.Forms.{values_pushed}
 use Rattle.expression_forms.proofs.expressions.values_of.Goals as goal
 
 pub loop-e-init : goal.loop-e-init

@@ -1,9 +1,9 @@
-use Rattle.event_forms.specs.OfRunSteps.Views.{part, row}
+use Rattle.run_steps.specs.Views.{part, row}
 use Rattle.std.proofs.Common.{[], map}
 use Rattle.comet_meaning.specs.Parts.{values}
 use Rattle.comet_meaning.specs.Program.{level}
 use Rattle.comet_meaning.proofs.Rows.{ValuesLeft}
-use Rattle.event_forms.specs.OfRunState.Views.{state_seen}
+use Rattle.run_steps.specs.OfRunState.Views.{state_seen}
 use Rattle.run_values.specs.Views.{value_seen}
 use Rattle.expression_forms.proofs.expressions.values_of.Given as goal
 

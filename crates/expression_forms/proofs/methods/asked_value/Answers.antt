@@ -1,5 +1,5 @@
 use Rattle.std.proofs.Common.{sym, subst}
-use Rattle.event_forms.specs.OfRunSteps.Does.{Does}
+use Rattle.run_steps.specs.Does.{Does}
 use Rattle.expression_forms.proofs.MethodLaws.{asked_read, asked_itself}
 use Rattle.expression_forms.proofs.methods.asked_value.Goals as goal
 

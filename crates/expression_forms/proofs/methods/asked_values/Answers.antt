@@ -1,7 +1,7 @@
 use Rattle.checked_tree.specs.Shape.{seen}
 use Rattle.comet_meaning.proofs.GoingStatements.{goes_level}
 use Rattle.comet_meaning.proofs.Rows.{items_wholes_of}
-use Rattle.event_forms.proofs.OfRunSteps.Exits.{ends_passes, exit, memory_exit}
+use Rattle.run_steps.proofs.Exits.{ends_passes, exit, memory_exit}
 use Rattle.expression_forms.proofs.MethodLaws.{asked_start, asked_end, asked_onward, asked_step, asked_err, asked_pushed}
 use Rattle.expression_forms.proofs.methods.asked_values.Goals as goal
 

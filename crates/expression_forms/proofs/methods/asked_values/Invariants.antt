@@ -1,8 +1,8 @@
-use Rattle.event_forms.specs.OfRunSteps.Views.{part, row}
+use Rattle.run_steps.specs.Views.{part, row}
 use Rattle.std.proofs.Common.{[], map}
 use Rattle.comet_meaning.specs.Methods.{asked_values}
 use Rattle.comet_meaning.specs.Program.{level}
-use Rattle.event_forms.specs.OfRunState.Views.{state_seen}
+use Rattle.run_steps.specs.OfRunState.Views.{state_seen}
 use Rattle.run_values.specs.Views.{value_seen}
 use Rattle.expression_forms.proofs.MethodLaws.{AskedLeft}
 use Rattle.expression_forms.proofs.methods.asked_values.Given as goal

@@ -2,7 +2,7 @@ use Rattle.comet_meaning.proofs.GoingExpressions.{goes_asked_values, goes_method
 use Rattle.comet_meaning.specs.Methods.{called_form}
 use Rattle.comet_meaning.proofs.GoingOn.{goes_then, goes_charge}
 use Rattle.comet_meaning.proofs.GoingStatements.{goes_level}
-use Rattle.event_forms.proofs.OfRunSteps.Exits.{after, call_exit}
+use Rattle.run_steps.proofs.Exits.{after, call_exit}
 use Rattle.expression_forms.proofs.methods.call_method.Goals as goal
 
 pub returns-in_err-value : goal.returns-in_err-value

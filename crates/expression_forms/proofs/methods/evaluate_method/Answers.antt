@@ -1,6 +1,6 @@
 use Rattle.std.proofs.Common.{sym, subst}
 use Rattle.comet_meaning.specs.Methods.{method_form}
-use Rattle.event_forms.specs.OfRunSteps.Does.{Does}
+use Rattle.run_steps.specs.Does.{Does}
 use Rattle.expression_forms.proofs.MethodLaws.{method_called}
 use Rattle.expression_forms.proofs.methods.evaluate_method.Goals as goal
 

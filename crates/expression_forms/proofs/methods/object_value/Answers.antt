@@ -1,7 +1,7 @@
 use Rattle.std.proofs.Common.{sym, subst}
 use Rattle.comet_meaning.specs.Methods.{object_value}
-use Rattle.event_forms.specs.OfRunSteps.Does.{Does}
-use Rattle.event_forms.proofs.OfRunSteps.Forms.{object_read}
+use Rattle.run_steps.specs.Does.{Does}
+use Rattle.run_steps.proofs.Forms.{object_read}
 use Rattle.expression_forms.proofs.methods.object_value.Goals as goal
 
 pub returns-in-Domain : goal.returns-in-Domain

@@ -1,7 +1,7 @@
 use Rattle.comet_meaning.specs.Operators.{chain_form}
 use Rattle.comet_meaning.proofs.GoingParts.{goes_links}
 use Rattle.comet_meaning.proofs.GoingStatements.{goes_level}
-use Rattle.event_forms.proofs.OfRunSteps.Exits.{call_exit}
+use Rattle.run_steps.proofs.Exits.{call_exit}
 use Rattle.expression_forms.proofs.operators.evaluate_chain.Goals as goal
 
 pub returns-in_err-value : goal.returns-in_err-value

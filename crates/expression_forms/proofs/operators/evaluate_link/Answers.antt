@@ -1,6 +1,6 @@
 use Rattle.std.proofs.Common.{◌∙◌, sym, subst}
-use Rattle.event_forms.specs.OfRunSteps.Does.{Does}
-use Rattle.event_forms.proofs.OfRunSteps.Forms.{link_goes_on}
+use Rattle.run_steps.specs.Does.{Does}
+use Rattle.run_steps.proofs.Forms.{link_goes_on}
 use Rattle.expression_forms.proofs.operators.evaluate_link.Goals as goal
 
 pub returns : goal.returns

@@ -1,7 +1,7 @@
 use Rattle.comet_meaning.proofs.GoingStatements.{goes_level}
 use Rattle.comet_meaning.proofs.Rows.{items_rows, links_start, links_end, links_step, links_err}
-use Rattle.event_forms.proofs.OfRunSteps.Exits.{ends_passes, exit}
-use Rattle.event_forms.proofs.OfRunSteps.Forms.{link_is}
+use Rattle.run_steps.proofs.Exits.{ends_passes, exit}
+use Rattle.run_steps.proofs.Forms.{link_is}
 use Rattle.expression_forms.proofs.operators.evaluate_links.Goals as goal
 
 pub loop-link-init : goal.loop-link-init

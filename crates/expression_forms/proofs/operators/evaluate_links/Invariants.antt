@@ -1,9 +1,9 @@
-use Rattle.event_forms.specs.OfRunSteps.Views.{links_seen}
+use Rattle.run_steps.specs.Views.{links_seen}
 use Rattle.checked_tree.specs.Shape.{shape_of_link}
 use Rattle.comet_meaning.specs.Operators.{links_form}
 use Rattle.comet_meaning.specs.Program.{level}
 use Rattle.comet_meaning.proofs.Rows.{LinksLeft}
-use Rattle.event_forms.specs.OfRunState.Views.{state_seen}
+use Rattle.run_steps.specs.OfRunState.Views.{state_seen}
 use Rattle.run_values.specs.Views.{value_seen}
 use Rattle.expression_forms.proofs.operators.evaluate_links.Given as goal
 

@@ -2,7 +2,7 @@ use Rattle.comet_meaning.specs.Operators.{range_form}
 use Rattle.comet_meaning.proofs.GoingOn.{goes_then, goes_give}
 use Rattle.comet_meaning.proofs.GoingParts.{goes_number}
 use Rattle.comet_meaning.proofs.GoingStatements.{goes_level}
-use Rattle.event_forms.proofs.OfRunSteps.Exits.{call_exit}
+use Rattle.run_steps.proofs.Exits.{call_exit}
 use Rattle.expression_forms.proofs.operators.evaluate_range.Goals as goal
 
 pub returns-in_err-low : goal.returns-in_err-low

@@ -1,7 +1,7 @@
 use Rattle.std.proofs.Common.{◌∙◌, ap, sym, subst}
 use Rattle.std.specs.Prelude.{option_map}
 use Rattle.run_values.specs.Views.{value_seen}
-use Rattle.event_forms.specs.OfRunSteps.Does.{Does}
+use Rattle.run_steps.specs.Does.{Does}
 use Rattle.expression_forms.proofs.PostLaws.{nameless_post, named_post}
 use Rattle.expression_forms.proofs.posting.add_constraint.Goals as goal
 

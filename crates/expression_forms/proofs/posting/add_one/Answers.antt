@@ -4,7 +4,7 @@ use Rattle.comet_meaning.proofs.GoingOn.{goes_then, goes_charge}
 use Rattle.comet_meaning.proofs.GoingParts.{goes_constraint}
 use Rattle.comet_meaning.proofs.GoingStatements.{goes_level}
 use Rattle.comet_meaning.proofs.GoingSystems.{goes_post}
-use Rattle.event_forms.proofs.OfRunSteps.Exits.{after, call_exit}
+use Rattle.run_steps.proofs.Exits.{after, call_exit}
 use Rattle.run_values.specs.Views.{value_seen}
 use Rattle.expression_forms.proofs.posting.add_one.Goals as goal
 

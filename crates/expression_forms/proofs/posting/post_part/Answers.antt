@@ -1,9 +1,9 @@
 use Rattle.std.proofs.Common.{sym, subst, ap}
 use Rattle.comet_meaning.specs.Program.{level}
 use Rattle.comet_meaning.specs.Posting.{post_part}
-use Rattle.event_forms.specs.OfRunState.Views.{state_seen}
-use Rattle.event_forms.specs.OfRunSteps.Does.{Does}
-use Rattle.event_forms.specs.OfRunSteps.Views.{part}
+use Rattle.run_steps.specs.OfRunState.Views.{state_seen}
+use Rattle.run_steps.specs.Does.{Does}
+use Rattle.run_steps.specs.Views.{part}
 use Rattle.expression_forms.proofs.PostLaws.{no_part, row_split}
 use Rattle.expression_forms.proofs.posting.post_part.Goals as goal
 

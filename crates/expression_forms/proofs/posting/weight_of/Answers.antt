@@ -1,5 +1,5 @@
 use Rattle.std.proofs.Common.{sym, subst}
-use Rattle.event_forms.specs.OfRunSteps.Does.{Does}
+use Rattle.run_steps.specs.Does.{Does}
 use Rattle.expression_forms.proofs.PostLaws.{no_weight, weight_there}
 use Rattle.expression_forms.proofs.posting.weight_of.Goals as goal
 

@@ -5,7 +5,7 @@ use Rattle.comet_meaning.proofs.GoingParts.{goes_terms}
 use Rattle.comet_meaning.proofs.GoingStatements.{goes_level}
 use Rattle.comet_meaning.proofs.GoingSystems.{goes_take_user}
 use Rattle.comet_meaning.proofs.GoingTerms.{goes_node}
-use Rattle.event_forms.proofs.OfRunSteps.Exits.{after, call_exit}
+use Rattle.run_steps.proofs.Exits.{after, call_exit}
 use Rattle.run_values.specs.Views.{value_seen}
 use Rattle.expression_forms.proofs.user_posting.add_named.Goals as goal
 

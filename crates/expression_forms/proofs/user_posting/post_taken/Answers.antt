@@ -3,9 +3,9 @@ use Rattle.std.specs.Prelude.{Err}
 use Rattle.comet_meaning.specs.Posting.{post_taken}
 use Rattle.comet_meaning.proofs.GoingExpressions.{goes_post_taken}
 use Rattle.run_values.specs.Views.{value_seen}
-use Rattle.event_forms.specs.OfRunState.Views.{state_seen}
-use Rattle.event_forms.proofs.OfRunSteps.Exits.{act_does}
-use Rattle.event_forms.proofs.OfRunSteps.Stops.{stays}
+use Rattle.run_steps.specs.OfRunState.Views.{state_seen}
+use Rattle.run_steps.proofs.Exits.{act_does}
+use Rattle.run_steps.proofs.Stops.{stays}
 use Rattle.expression_forms.proofs.user_posting.post_taken.Goals as goal
 
 pub returns-in-Ok : goal.returns-in-Ok

@@ -4,7 +4,7 @@ use Rattle.comet_meaning.specs.Posting.{post_taken}
 use Rattle.comet_meaning.proofs.GoingExpressions.{goes_post_taken}
 use Rattle.comet_meaning.proofs.GoingOn.{goes_charge}
 use Rattle.run_values.specs.Views.{value_seen}
-use Rattle.event_forms.proofs.OfRunSteps.Exits.{act_exit, after}
+use Rattle.run_steps.proofs.Exits.{act_exit, after}
 use Rattle.expression_forms.proofs.user_posting.post_user_behind.Goals as goal
 
 pub returns-in_err-charge : goal.returns-in_err-charge

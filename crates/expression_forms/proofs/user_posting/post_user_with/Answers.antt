@@ -3,7 +3,7 @@ use Rattle.std.proofs.lemmas.Int.{to_z-of_z}
 use Rattle.comet_meaning.proofs.GoingExpressions.{goes_post_taken}
 use Rattle.comet_meaning.proofs.GoingOn.{goes_then, goes_charge}
 use Rattle.run_values.specs.Views.{value_seen}
-use Rattle.event_forms.proofs.OfRunSteps.Behind.{err_passes, ok_does}
+use Rattle.run_steps.proofs.Behind.{err_passes, ok_does}
 use Rattle.expression_forms.specs.UserSteps.{user_posted_with}
 use Rattle.expression_forms.proofs.user_posting.post_user_with.Goals as goal
 

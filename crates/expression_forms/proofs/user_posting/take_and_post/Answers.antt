@@ -8,8 +8,8 @@ use Rattle.comet_meaning.proofs.GoingExpressions.{goes_post_taken, goes_weight}
 use Rattle.comet_meaning.proofs.GoingOn.{goes_then, goes_charge}
 use Rattle.comet_meaning.proofs.GoingStatements.{goes_level}
 use Rattle.comet_meaning.proofs.GoingTerms.{goes_node}
-use Rattle.event_forms.specs.OfRunState.Views.{state_seen}
-use Rattle.event_forms.proofs.OfRunSteps.Exits.{act_exit, after, call_exit}
+use Rattle.run_steps.specs.OfRunState.Views.{state_seen}
+use Rattle.run_steps.proofs.Exits.{act_exit, after, call_exit}
 use Rattle.run_values.specs.Views.{value_seen}
 use Rattle.expression_forms.proofs.user_posting.take_and_post.Goals as goal
 

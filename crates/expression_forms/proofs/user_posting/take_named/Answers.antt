@@ -1,7 +1,7 @@
 use Rattle.comet_meaning.proofs.GoingSystems.{goes_take_user}
-use Rattle.event_forms.specs.OfRunState.Views.{state_seen}
-use Rattle.event_forms.proofs.OfRunSteps.Exits.{act_does}
-use Rattle.event_forms.proofs.OfRunSteps.Stops.{stays}
+use Rattle.run_steps.specs.OfRunState.Views.{state_seen}
+use Rattle.run_steps.proofs.Exits.{act_does}
+use Rattle.run_steps.proofs.Stops.{stays}
 use Rattle.expression_forms.proofs.user_posting.take_named.Goals as goal
 
 pub returns : goal.returns

@@ -1,5 +1,5 @@
 use Rattle.std.proofs.Common.{refl}
-use Rattle.event_forms.proofs.OfRunSteps.Shapes.{form_index, form_cell, form_list, form_set, form_call, form_method, form_name, form_parentheses, form_unary, form_chain, form_compare, form_aggregate, form_builtin}
+use Rattle.run_steps.proofs.Shapes.{form_index, form_cell, form_list, form_set, form_call, form_method, form_name, form_parentheses, form_unary, form_chain, form_compare, form_aggregate, form_builtin}
 use Rattle.expression_forms.proofs.user_posting.text_of.Goals as goal
 
 pub returns-in-Index : goal.returns-in-Index

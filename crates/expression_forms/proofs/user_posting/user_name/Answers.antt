@@ -1,5 +1,5 @@
 use Rattle.std.proofs.Common.{refl, sym, ◌∙◌}
-use Rattle.event_forms.proofs.OfRunSteps.Shapes.{form_builtin, form_index, form_cell, form_list, form_set, form_call, form_method, form_name, form_parentheses, form_unary, form_chain, form_compare, form_aggregate}
+use Rattle.run_steps.proofs.Shapes.{form_builtin, form_index, form_cell, form_list, form_set, form_call, form_method, form_name, form_parentheses, form_unary, form_chain, form_compare, form_aggregate}
 use Rattle.expression_forms.proofs.UserPostLaws.{name_in_call}
 use Rattle.expression_forms.proofs.user_posting.user_name.Goals as goal
 

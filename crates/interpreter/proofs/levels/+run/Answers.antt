@@ -1,13 +1,13 @@
 use Rattle.std.proofs.Common.{◌∙◌, sym, subst, refl}
 use Rattle.comet_meaning.specs.Expressions.{value_of_expression}
 use Rattle.comet_meaning.specs.Writes.{target_of_expression}
-use Rattle.statement_forms.proofs.OfRunSteps.Stops.{stopped_then}
-use Rattle.statement_forms.proofs.OfRunSteps.Steps.{stmt_as, stmt_at_zero}
+use Rattle.run_steps.proofs.Stops.{stopped_then}
+use Rattle.run_steps.proofs.Steps.{stmt_as, stmt_at_zero}
 use Rattle.std.proofs.lemmas.Result.{err_from_is_err_and}
 use Rattle.comet_meaning.proofs.GoingOn.{goes_charge}
 use Rattle.comet_meaning.proofs.GoingStatements.{goes_level, goes_meaning_of_form}
-use Rattle.statement_forms.specs.OfRunSteps.Does.{Does}
-use Rattle.statement_forms.proofs.OfRunSteps.Levels.{expr_at_zero, expr_as, term_at_zero, term_constrains, term_moves, term_stays, target_at_zero, target_as}
+use Rattle.run_steps.specs.Does.{Does}
+use Rattle.run_steps.proofs.Levels.{expr_at_zero, expr_as, term_at_zero, term_constrains, term_moves, term_stays, target_at_zero, target_as}
 use Rattle.interpreter.proofs.levels.+run.Goals as goal
 
 pub evaluate-returns-then-room-eq0 : goal.evaluate-returns-then-room-eq0

@@ -1,5 +1,5 @@
 -- There is no value left, or the next one is added.
-use Rattle.declaration_forms.specs.OfRunSteps.OpenTuples.{pending_seen}
+use Rattle.run_steps.specs.OpenTuples.{pending_seen}
 use Rattle.run_values.specs.Views.{value_seen}
 use Rattle.search_forms.specs.Tables.{candidates_seen}
 use Rattle.search_forms.proofs.LastLaws.{values_open, values_end}

@@ -2,7 +2,7 @@
 use Rattle.std.proofs.Common.{◌≡◌, ◌+◌, ◌-◌, length}
 use Rattle.comet_meaning.specs.Limits.{most_candidates}
 use Rattle.comet_meaning.specs.State.{State}
-use Rattle.declaration_forms.specs.OfRunSteps.OpenTuples.{pending_seen}
+use Rattle.run_steps.specs.OpenTuples.{pending_seen}
 use Rattle.run_values.specs.Views.{value_seen}
 use Rattle.search_forms.specs.Fronts.{values_behind}
 use Rattle.search_forms.specs.Tables.{AreRows, candidates_seen}

@@ -3,9 +3,9 @@ use Rattle.std.proofs.Common.{◌∙◌, sym, subst, ap, arith, List}
 use Rattle.comet_meaning.specs.Candidates.{Candidate}
 use Rattle.comet_meaning.specs.Outcome.{Went}
 use Rattle.comet_meaning.specs.Program.{level}
-use Rattle.declaration_forms.specs.OfRunState.Views.{state_seen}
-use Rattle.declaration_forms.specs.OfRunSteps.Does.{Ends}
-use Rattle.declaration_forms.proofs.OfRunSteps.Exits.{exit}
+use Rattle.run_steps.specs.OfRunState.Views.{state_seen}
+use Rattle.run_steps.specs.Does.{Ends}
+use Rattle.run_steps.proofs.Exits.{exit}
 use Rattle.search_forms.proofs.ListingLaws.{no_generator, one_generator, several_generators}
 use Rattle.search_forms.proofs.listing.candidates_of.Goals as goal
 

@@ -5,9 +5,9 @@ use Rattle.checked_tree.specs.declared.expressions.Generator.{Generator}
 use Rattle.comet_meaning.specs.Program.{level}
 use Rattle.comet_meaning.proofs.GoingSearch.{goes_last}
 use Rattle.comet_meaning.proofs.GoingStatements.{goes_level}
-use Rattle.declaration_forms.specs.OfRunState.Views.{state_seen}
-use Rattle.declaration_forms.proofs.OfRunSteps.Exits.{exit}
-use Rattle.declaration_forms.proofs.OfRunSteps.TupleLaws.{went_fuel}
+use Rattle.run_steps.specs.OfRunState.Views.{state_seen}
+use Rattle.run_steps.proofs.Exits.{exit}
+use Rattle.run_steps.proofs.TupleLaws.{went_fuel}
 use Rattle.search_forms.specs.Tables.{candidates_seen}
 use Rattle.search_forms.proofs.ListingLaws.{list_added, list_ends, lists_end, lists_open, place_is}
 use Rattle.search_forms.proofs.listing.list_behind.Goals as goal

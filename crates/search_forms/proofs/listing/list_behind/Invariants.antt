@@ -3,8 +3,8 @@ use Rattle.std.proofs.Common.{◌+◌, ◌<◌, length, map}
 use Rattle.checked_tree.specs.Shape.{shape_of_generator}
 use Rattle.comet_meaning.specs.Program.{level}
 use Rattle.comet_meaning.proofs.GoingStatements.{goes_level}
-use Rattle.declaration_forms.specs.OfRunState.Views.{state_seen}
-use Rattle.declaration_forms.specs.OfRunSteps.OpenTuples.{Remains, bounds_of, stack_seen}
+use Rattle.run_steps.specs.OfRunState.Views.{state_seen}
+use Rattle.run_steps.specs.OpenTuples.{Remains, bounds_of, stack_seen}
 use Rattle.search_forms.specs.Fronts.{behind_front}
 use Rattle.search_forms.specs.Tables.{AreRows, candidates_seen}
 use Rattle.search_forms.proofs.ListingLaws.{lists}

@@ -3,9 +3,9 @@ use Rattle.std.proofs.Common.{sym, subst, map, List, ℤ}
 use Rattle.checked_tree.specs.Shape.{shape_of_generator}
 use Rattle.comet_meaning.specs.Program.{level}
 use Rattle.comet_meaning.proofs.GoingStatements.{goes_level}
-use Rattle.declaration_forms.specs.OfRunState.Views.{state_seen}
-use Rattle.declaration_forms.specs.OfRunSteps.Does.{Does}
-use Rattle.declaration_forms.proofs.OfRunSteps.Exits.{act_does, exit}
+use Rattle.run_steps.specs.OfRunState.Views.{state_seen}
+use Rattle.run_steps.specs.Does.{Does}
+use Rattle.run_steps.proofs.Exits.{act_does, exit}
 use Rattle.run_values.specs.Views.{value_seen}
 use Rattle.search_forms.specs.Tables.{candidates_seen}
 use Rattle.search_forms.proofs.LastLaws.{domain_ends, goes_values, known_ends, last_went}

@@ -1,9 +1,9 @@
 -- One more name's value, and all of them.
 use Rattle.std.proofs.Common.{◌∙◌, ap, rules, ◌++◌, ◌∷◌, [], ℤ, FitsSigned, w64}
 use Rattle.std.proofs.lemmas.Int.{to_z-of_z}
-use Rattle.declaration_forms.specs.OfRunState.Views.{state_seen}
+use Rattle.run_steps.specs.OfRunState.Views.{state_seen}
 use Rattle.search_forms.proofs.LastLaws.{value_more, values_known, values_many}
-use Rattle.declaration_forms.specs.OfRunOutside.Told.{nothing_told}
+use Rattle.run_steps.specs.OfRunOutside.Told.{nothing_told}
 use Rattle.search_forms.proofs.listing.values_now.Goals as goal
 
 pub loop-generator-preserved : goal.loop-generator-preserved

@@ -1,6 +1,6 @@
 -- The values that the names so far have.
 use Rattle.std.proofs.Common.{◌≡◌, ℕ, List, take}
-use Rattle.declaration_forms.specs.OfRunState.Views.{state_seen}
+use Rattle.run_steps.specs.OfRunState.Views.{state_seen}
 use Rattle.search_forms.proofs.LastLaws.{values_of}
 use Rattle.search_forms.proofs.listing.values_now.Given as goal
 

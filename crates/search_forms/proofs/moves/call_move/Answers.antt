@@ -1,7 +1,7 @@
 -- The move, and then what it is.
 use Rattle.comet_meaning.specs.Moves.{choose_form}
 use Rattle.comet_meaning.proofs.GoingStatements.{goes_level}
-use Rattle.declaration_forms.proofs.OfRunSteps.Exits.{after, call_exit}
+use Rattle.run_steps.proofs.Exits.{after, call_exit}
 use Rattle.search_forms.proofs.LaterLaws.{goes_called}
 use Rattle.search_forms.proofs.moves.call_move.Goals as goal
 

@@ -2,7 +2,7 @@
 use Rattle.std.proofs.Common.{refl, rules, w64}
 use Rattle.std.specs.Prelude.{FitsSigned}
 use Rattle.std.proofs.lemmas.Int.{to_z-of_z}
-use Rattle.declaration_forms.proofs.OfRunSteps.Exits.{exit}
+use Rattle.run_steps.proofs.Exits.{exit}
 use Rattle.search_forms.proofs.LaterLaws.{neighbor_ends, neighbor_unkept, neighbor_unseen, neighbor_went}
 use Rattle.search_forms.proofs.moves.execute_neighbor.Goals as goal
 

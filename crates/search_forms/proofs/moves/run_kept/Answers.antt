@@ -1,7 +1,7 @@
 -- What is kept runs.
 use Rattle.comet_meaning.proofs.GoingStatements.{goes_level}
-use Rattle.declaration_forms.proofs.OfRunSteps.AggregateLaws.{memory_ends}
-use Rattle.declaration_forms.proofs.OfRunSteps.Exits.{exit}
+use Rattle.run_steps.proofs.AggregateLaws.{memory_ends}
+use Rattle.run_steps.proofs.Exits.{exit}
 use Rattle.search_forms.proofs.LaterLaws.{goes_run_move, move_does, move_none}
 use Rattle.search_forms.proofs.moves.run_kept.Goals as goal
 

@@ -4,7 +4,7 @@ use Rattle.checked_tree.specs.Shape.{shape_of_generator}
 use Rattle.comet_meaning.proofs.Rows.{NamesLeft}
 use Rattle.comet_meaning.specs.Candidates.{named}
 use Rattle.comet_meaning.specs.Generators.{bind}
-use Rattle.declaration_forms.specs.OfRunState.Views.{state_seen}
+use Rattle.run_steps.specs.OfRunState.Views.{state_seen}
 use Rattle.search_forms.proofs.ChoiceLaws.{pair_bound}
 use Rattle.search_forms.proofs.scanning.bind_values.Given as goal
 

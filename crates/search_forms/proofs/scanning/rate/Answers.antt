@@ -3,7 +3,7 @@ use Rattle.std.proofs.Common.{rules, w64}
 use Rattle.std.specs.Prelude.{FitsSigned}
 use Rattle.std.proofs.lemmas.Int.{to_z-of_z}
 use Rattle.comet_meaning.proofs.GoingStatements.{goes_level}
-use Rattle.declaration_forms.proofs.OfRunSteps.Exits.{exit}
+use Rattle.run_steps.proofs.Exits.{exit}
 use Rattle.search_forms.proofs.ChoiceLaws.{rated_kept, rated_not, rated_unkeyed, rated_untested}
 use Rattle.search_forms.proofs.scanning.rate.Goals as goal
 

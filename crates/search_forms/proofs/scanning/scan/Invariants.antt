@@ -2,7 +2,7 @@ use Rattle.std.proofs.Common.{[], ℕ, List, map}
 use Rattle.checked_tree.specs.Shape.{shape_of_generator}
 use Rattle.comet_meaning.specs.Program.{level}
 use Rattle.comet_meaning.specs.Selection.{scanned}
-use Rattle.declaration_forms.specs.OfRunState.Views.{state_seen}
+use Rattle.run_steps.specs.OfRunState.Views.{state_seen}
 use Rattle.search_forms.specs.Asking.{condition_of, key_of}
 use Rattle.search_forms.specs.Tables.{candidates_seen}
 use Rattle.search_forms.proofs.ScanLaws.{Scanning}

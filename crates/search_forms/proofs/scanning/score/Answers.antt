@@ -2,8 +2,8 @@
 use Rattle.std.proofs.Common.{◌∙◌, [], arith, refl}
 use Rattle.comet_meaning.proofs.GoingSearch.{goes_rated}
 use Rattle.comet_meaning.proofs.GoingStatements.{goes_level}
-use Rattle.declaration_forms.proofs.OfRunSteps.Exits.{exit}
-use Rattle.declaration_forms.proofs.OfRunSteps.TupleLaws.{went_fuel}
+use Rattle.run_steps.proofs.Exits.{exit}
+use Rattle.run_steps.proofs.TupleLaws.{went_fuel}
 use Rattle.search_forms.proofs.ChoiceLaws.{generated_ends, generated_is, generated_unbound, generated_uncharged}
 use Rattle.search_forms.proofs.scanning.score.Goals as goal
 

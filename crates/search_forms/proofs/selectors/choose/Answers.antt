@@ -1,7 +1,7 @@
 -- The scan, and then one of the ties.
 use Rattle.std.proofs.Common.{sym, subst}
-use Rattle.declaration_forms.proofs.OfRunSteps.Exits.{exit, gives}
-use Rattle.declaration_forms.specs.OfRunSteps.Does.{Does}
+use Rattle.run_steps.proofs.Exits.{exit, gives}
+use Rattle.run_steps.specs.Does.{Does}
 use Rattle.search_forms.proofs.ChoiceLaws.{choice_ends, choice_is}
 use Rattle.search_forms.proofs.selectors.choose.Goals as goal
 

@@ -2,8 +2,8 @@
 use Rattle.std.proofs.Common.{refl}
 use Rattle.comet_meaning.proofs.GoingParts.{goes_bind}
 use Rattle.comet_meaning.proofs.GoingStatements.{goes_level}
-use Rattle.declaration_forms.proofs.OfRunSteps.Exits.{after, exit}
-use Rattle.declaration_forms.proofs.OfRunSteps.Stops.{stopped_then}
+use Rattle.run_steps.proofs.Exits.{after, exit}
+use Rattle.run_steps.proofs.Stops.{stopped_then}
 use Rattle.search_forms.proofs.selectors.execute_chosen.Goals as goal
 
 pub returns-in_err-bind_values-in-Some : goal.returns-in_err-bind_values-in-Some

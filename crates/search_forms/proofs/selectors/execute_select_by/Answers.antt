@@ -1,8 +1,8 @@
 -- The choice, and then the body.
 use Rattle.comet_meaning.specs.Selection.{select_by_form}
 use Rattle.comet_meaning.proofs.GoingStatements.{goes_level}
-use Rattle.declaration_forms.proofs.OfRunSteps.Exits.{after, call_exit}
-use Rattle.declaration_forms.proofs.OfRunSteps.Steps.{referred}
+use Rattle.run_steps.proofs.Exits.{after, call_exit}
+use Rattle.run_steps.proofs.Steps.{referred}
 use Rattle.search_forms.proofs.ChoiceLaws.{goes_body}
 use Rattle.search_forms.proofs.selectors.execute_select_by.Goals as goal
 

@@ -1,7 +1,7 @@
 -- The candidates, their scan, and the frame as it was.
 use Rattle.comet_meaning.proofs.GoingSearch.{goes_scan}
 use Rattle.comet_meaning.proofs.GoingStatements.{goes_level}
-use Rattle.declaration_forms.proofs.OfRunSteps.AggregateLaws.{memory_ends}
+use Rattle.run_steps.proofs.AggregateLaws.{memory_ends}
 use Rattle.search_forms.proofs.ChoiceLaws.{own_rows, scan_exit, scan_is, scan_unlisted, scan_unscored}
 use Rattle.search_forms.proofs.selectors.scan_all.Goals as goal
 

@@ -1,6 +1,6 @@
 -- The variable, and then its handler.
 use Rattle.std.proofs.Common.{refl}
-use Rattle.declaration_forms.proofs.OfRunSteps.Exits.{exit}
+use Rattle.run_steps.proofs.Exits.{exit}
 use Rattle.search_forms.proofs.LaterLaws.{whenever_ends, whenever_stops, whenever_went}
 use Rattle.search_forms.proofs.watching.execute_whenever.Goals as goal
 

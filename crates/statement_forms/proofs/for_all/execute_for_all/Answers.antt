@@ -1,4 +1,4 @@
-use Rattle.search_forms.proofs.OfRunSteps.Visiting.{visiting_none}
+use Rattle.run_steps.proofs.Visiting.{visiting_none}
 use Rattle.statement_forms.proofs.for_all.execute_for_all.Goals as goal
 
 pub returns-in-None : goal.returns-in-None

@@ -3,8 +3,8 @@ use Rattle.comet_meaning.proofs.GoingOn.{goes_give, goes_if}
 use Rattle.comet_meaning.proofs.GoingStatements.{goes_level}
 use Rattle.std.proofs.lemmas.Result.{err_from_is_err_and}
 use Rattle.comet_meaning.specs.Loops.{visited}
-use Rattle.search_forms.proofs.OfRunSteps.Steps.{referred}
-use Rattle.search_forms.proofs.OfRunSteps.Stops.{ended_then}
+use Rattle.run_steps.proofs.Steps.{referred}
+use Rattle.run_steps.proofs.Stops.{ended_then}
 use Rattle.statement_forms.proofs.for_all.visit.Goals as goal
 
 pub returns-in_err-holds : goal.returns-in_err-holds

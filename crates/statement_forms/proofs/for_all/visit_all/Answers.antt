@@ -6,7 +6,7 @@ use Rattle.comet_meaning.specs.Program.{level}
 use Rattle.checked_tree.specs.Tasks.{work_of}
 use Rattle.std.proofs.lemmas.Result.{err_from_is_err_and}
 use Rattle.comet_meaning.specs.Levels.{Next}
-use Rattle.search_forms.proofs.OfRunSteps.Visiting.{visiting_goes_on, visiting_returns, visiting_spends, visiting_starts, visiting_stays, visiting_stops}
+use Rattle.run_steps.proofs.Visiting.{visiting_goes_on, visiting_returns, visiting_spends, visiting_starts, visiting_stays, visiting_stops}
 use Rattle.statement_forms.proofs.for_all.visit_all.Goals as goal
 
 pub returns-in_err-domain : goal.returns-in_err-domain

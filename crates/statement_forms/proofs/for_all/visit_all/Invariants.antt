@@ -1,12 +1,12 @@
-use Rattle.search_forms.specs.OfRunSteps.OpenTuples.{Remains, bounds_of, stack_seen}
+use Rattle.run_steps.specs.OpenTuples.{Remains, bounds_of, stack_seen}
 use Rattle.std.proofs.Common.{◌<◌, map, length, option_map}
 use Rattle.checked_tree.specs.Shape.{optional, seen, shape_of_generator, whole}
 use Rattle.comet_meaning.specs.Program.{level}
-use Rattle.search_forms.specs.OfRunState.Views.{state_seen}
+use Rattle.run_steps.specs.OfRunState.Views.{state_seen}
 use Rattle.checked_tree.specs.Tasks.{work_of}
 use Rattle.comet_meaning.specs.Loops.{for_all_form}
 use Rattle.comet_meaning.proofs.GoingStatements.{goes_level}
-use Rattle.search_forms.proofs.OfRunSteps.Visiting.{visits}
+use Rattle.run_steps.proofs.Visiting.{visits}
 use Rattle.statement_forms.proofs.for_all.visit_all.Given as goal
 
 -- the tuples that are left, from here, are all from the start

@@ -2,8 +2,8 @@ use Rattle.comet_meaning.proofs.GoingEvents.{goes_repeated}
 use Rattle.comet_meaning.proofs.GoingStatements.{goes_level, goes_step, goes_turn}
 use Rattle.std.proofs.lemmas.Result.{err_from_is_err_and}
 use Rattle.comet_meaning.specs.Loops.{for_form}
-use Rattle.search_forms.proofs.OfRunSteps.Steps.{referred}
-use Rattle.search_forms.proofs.OfRunSteps.Stops.{ended_then}
+use Rattle.run_steps.proofs.Steps.{referred}
+use Rattle.run_steps.proofs.Stops.{ended_then}
 use Rattle.statement_forms.proofs.loops.execute_for.Goals as goal
 
 pub returns-in_err-start_counter : goal.returns-in_err-start_counter

@@ -2,7 +2,7 @@ use Rattle.std.proofs.Common.{refl}
 use Rattle.comet_meaning.proofs.GoingStatements.{goes_level, goes_step, goes_turn}
 use Rattle.std.proofs.lemmas.Result.{err_from_is_err_and}
 use Rattle.comet_meaning.proofs.Turns.{takes_turn, turn_takes}
-use Rattle.search_forms.proofs.OfRunSteps.Steps.{turn_ends, turn_goes_on, turn_spends, turn_stops}
+use Rattle.run_steps.proofs.Steps.{turn_ends, turn_goes_on, turn_spends, turn_stops}
 use Rattle.statement_forms.proofs.loops.repeat.Goals as goal
 
 pub turns-init : goal.turns-init

@@ -1,15 +1,15 @@
-use Rattle.search_forms.specs.OfRunSteps.Views.{part}
+use Rattle.run_steps.specs.Views.{part}
 use Rattle.std.proofs.Common.{Bor, option_map}
 use Rattle.checked_tree.specs.Shape.{optional}
 use Rattle.comet_meaning.specs.Program.{level}
-use Rattle.search_forms.specs.OfRunState.Views.{state_seen}
+use Rattle.run_steps.specs.OfRunState.Views.{state_seen}
 use Rattle.std.specs.Option.{option_copied}
 use Rattle.checked_tree.specs.Actions.{deed_of}
 use Rattle.checked_tree.specs.declared.expressions.Typed.{Typed}
 use Rattle.checked_tree.specs.Tasks.{work_of}
 use Rattle.comet_meaning.specs.Loops.{repeated, turn_form}
 use Rattle.comet_meaning.specs.Statements.{step_of}
-use Rattle.search_forms.proofs.OfRunSteps.Steps.{TurnsLeft}
+use Rattle.run_steps.proofs.Steps.{TurnsLeft}
 use Rattle.statement_forms.proofs.loops.repeat.Given as goal
 
 -- the turns that are left, from here, are the loop from the start

@@ -4,7 +4,7 @@ use Rattle.comet_meaning.proofs.GoingParts.{goes_condition}
 use Rattle.comet_meaning.proofs.GoingStatements.{goes_level, goes_behind_body, goes_step}
 use Rattle.std.proofs.lemmas.Result.{err_from_is_err_and}
 use Rattle.comet_meaning.specs.Loops.{turn_form}
-use Rattle.search_forms.proofs.OfRunSteps.Stops.{ended_then, stopped_then}
+use Rattle.run_steps.proofs.Stops.{ended_then, stopped_then}
 use Rattle.statement_forms.proofs.loops.turn.Goals as goal
 
 pub returns-in_err-charge : goal.returns-in_err-charge

@@ -1,7 +1,7 @@
 use Rattle.std.proofs.Common.{refl}
 use Rattle.comet_meaning.proofs.Rows.{tasks_row}
 use Rattle.comet_meaning.specs.Statements.{meaning_of_form}
-use Rattle.search_forms.proofs.OfRunSteps.Trees.{act_action, act_block, act_for, act_for_all, act_if, act_if_else, act_neighbor, act_parall, act_select, act_select_by, act_whenever, act_while, act_with}
+use Rattle.run_steps.proofs.Trees.{act_action, act_block, act_for, act_for_all, act_if, act_if_else, act_neighbor, act_parall, act_select, act_select_by, act_whenever, act_while, act_with}
 use Rattle.statement_forms.proofs.statements.execute_act.Goals as goal
 
 pub returns-in-Action : goal.returns-in-Action
@@ -26,19 +26,19 @@ returns-in-While g c = record { did = rw (c.in-While.is, act_while _ _, ← c.de
 
 pub returns-in-For : goal.returns-in-For
 unfolding meaning_of_form
-returns-in-For g c = record { did = rw (c.in-For.is, act_for _ _ _ _, ← c.deref-in-For.ensures) c.execute_for.ensures.did }
+returns-in-For g c = record { did = rw (c.in-For.is, act_for _ _, ← c.deref-head.ensures, ← c.deref-in-For.ensures) c.execute_for.ensures.did }
 
 pub returns-in-ForAll : goal.returns-in-ForAll
 unfolding meaning_of_form
-returns-in-ForAll g c = record { did = rw (c.in-ForAll.is, act_for_all _ _ _, ← c.deref-in-ForAll.ensures.value, ← c.deref-in-ForAll-2.ensures) c.execute_for_all.ensures.did }
+returns-in-ForAll g c = record { did = rw (c.in-ForAll.is, act_for_all _ _, ← c.deref-choice.ensures, ← c.deref-in-ForAll.ensures.value, ← c.deref-in-ForAll-2.ensures) c.execute_for_all.ensures.did }
 
 pub returns-in-Select : goal.returns-in-Select
 unfolding meaning_of_form
-returns-in-Select g c = record { did = rw (c.in-Select.is, act_select _ _ _, ← c.deref-in-Select.ensures.value, ← c.deref-in-Select-2.ensures) c.execute_select.ensures.did }
+returns-in-Select g c = record { did = rw (c.in-Select.is, act_select _ _, ← c.deref-choice-in-Select.ensures, ← c.deref-in-Select.ensures.value, ← c.deref-in-Select-2.ensures) c.execute_select.ensures.did }
 
 pub returns-in-SelectBy : goal.returns-in-SelectBy
 unfolding meaning_of_form
-returns-in-SelectBy g c = record { did = rw (c.in-SelectBy.is, act_select_by _ _ _ _ _, ← c.deref-in-SelectBy.ensures.value, ← c.deref-in-SelectBy-2.ensures) c.execute_select_by.ensures.did }
+returns-in-SelectBy g c = record { did = rw (c.in-SelectBy.is, act_select_by _ _ _ _, ← c.deref-choice-in-SelectBy.ensures, ← c.deref-in-SelectBy.ensures.value, ← c.deref-in-SelectBy-2.ensures, ← c.deref-in-SelectBy-3.ensures) c.execute_select_by.ensures.did }
 
 pub returns-in-Neighbor : goal.returns-in-Neighbor
 unfolding meaning_of_form
@@ -46,7 +46,7 @@ returns-in-Neighbor g c = record { did = rw (c.in-Neighbor.is, act_neighbor _ _ 
 
 pub returns-in-Whenever : goal.returns-in-Whenever
 unfolding meaning_of_form
-returns-in-Whenever g c = record { did = rw (c.in-Whenever.is, act_whenever _ _ _) c.execute_whenever.ensures.did }
+returns-in-Whenever g c = record { did = rw (c.in-Whenever.is, act_whenever _ _ _, ← c.deref-in-Whenever.ensures) c.execute_whenever.ensures.did }
 
 pub returns-in-With : goal.returns-in-With
 unfolding meaning_of_form

@@ -1,5 +1,5 @@
 use Rattle.std.proofs.Common.{sym}
-use Rattle.search_forms.proofs.OfRunSteps.Steps.{action_goes_on, action_returns}
+use Rattle.run_steps.proofs.Steps.{action_goes_on, action_returns}
 use Rattle.statement_forms.proofs.statements.execute_action.Goals as goal
 
 pub returns-in-Some : goal.returns-in-Some

@@ -2,7 +2,7 @@ use Rattle.std.proofs.Common.{refl, arith}
 use Rattle.comet_meaning.proofs.GoingStatements.{goes_level}
 use Rattle.comet_meaning.proofs.Rows.{tasks_end, tasks_return, tasks_start, tasks_step}
 use Rattle.std.proofs.lemmas.Result.{err_from_is_err_and}
-use Rattle.search_forms.proofs.OfRunSteps.Steps.{tasks_stop}
+use Rattle.run_steps.proofs.Steps.{tasks_stop}
 use Rattle.statement_forms.proofs.statements.execute_all.Goals as goal
 
 pub loop-task-init : goal.loop-task-init

@@ -1,7 +1,7 @@
 use Rattle.std.proofs.Common.{map}
 use Rattle.comet_meaning.specs.Program.{level}
 use Rattle.comet_meaning.proofs.Rows.{TasksLeft}
-use Rattle.search_forms.specs.OfRunState.Views.{state_seen}
+use Rattle.run_steps.specs.OfRunState.Views.{state_seen}
 use Rattle.checked_tree.specs.Tasks.{work_of}
 use Rattle.comet_meaning.specs.Loops.{tasks_form}
 use Rattle.statement_forms.proofs.statements.execute_all.Given as goal

@@ -2,7 +2,7 @@ use Rattle.comet_meaning.proofs.GoingOn.{goes_if}
 use Rattle.comet_meaning.proofs.GoingStatements.{goes_level}
 use Rattle.std.proofs.lemmas.Result.{err_from_is_err_and}
 use Rattle.comet_meaning.specs.Loops.{if_else_form}
-use Rattle.search_forms.proofs.OfRunSteps.Stops.{ended_then}
+use Rattle.run_steps.proofs.Stops.{ended_then}
 use Rattle.statement_forms.proofs.statements.execute_if_else.Goals as goal
 
 pub returns-in_err-test : goal.returns-in_err-test

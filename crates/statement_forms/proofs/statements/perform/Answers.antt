@@ -20,11 +20,11 @@ returns-in-Make g c = record { did = rw (c.in-Make.is, ← c.deref-in-Make.ensur
 
 pub returns-in-Write : goal.returns-in-Write
 unfolding deed_form deed_of
-returns-in-Write g c = record { did = rw c.in-Write.is c.write_value.ensures.did }
+returns-in-Write g c = record { did = rw (c.in-Write.is, ← c.deref-in-Write.ensures, ← c.deref-in-Write-2.ensures) c.write_value.ensures.did }
 
 pub returns-in-Swap : goal.returns-in-Swap
 unfolding deed_form deed_of
-returns-in-Swap g c = record { did = rw c.in-Swap.is c.swap_values.ensures.did }
+returns-in-Swap g c = record { did = rw (c.in-Swap.is, ← c.deref-in-Swap.ensures, ← c.deref-in-Swap-2.ensures) c.swap_values.ensures.did }
 
 pub returns-in-Step : goal.returns-in-Step
 unfolding deed_form deed_of

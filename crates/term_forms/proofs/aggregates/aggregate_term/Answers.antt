@@ -1,10 +1,10 @@
 use Rattle.std.proofs.Common.{sym, subst, map}
 use Rattle.comet_meaning.proofs.GoingTerms.{goes_aggregate_term}
 use Rattle.comet_meaning.proofs.GoingStatements.{goes_level}
-use Rattle.expression_forms.specs.OfRunState.Views.{state_seen}
-use Rattle.expression_forms.specs.OfRunSteps.Does.{Does}
-use Rattle.expression_forms.proofs.OfRunSteps.AggregateLaws.{memory_ends}
-use Rattle.expression_forms.proofs.OfRunSteps.Exits.{exit}
+use Rattle.run_steps.specs.OfRunState.Views.{state_seen}
+use Rattle.run_steps.specs.Does.{Does}
+use Rattle.run_steps.proofs.AggregateLaws.{memory_ends}
+use Rattle.run_steps.proofs.Exits.{exit}
 use Rattle.run_values.specs.Views.{value_seen}
 use Rattle.term_forms.proofs.BodyLaws.{aggregate_ends, aggregate_went}
 use Rattle.term_forms.proofs.aggregates.aggregate_term.Goals as goal

@@ -5,8 +5,8 @@ use Rattle.comet_meaning.specs.TermForms.{picked_cell}
 use Rattle.comet_meaning.proofs.GoingOn.{goes_then, goes_give, goes_found_at}
 use Rattle.comet_meaning.proofs.GoingParts.{goes_number}
 use Rattle.comet_meaning.proofs.GoingStatements.{goes_level}
-use Rattle.expression_forms.proofs.OfRunSteps.Exits.{after, call_exit}
-use Rattle.expression_forms.specs.OfRunState.Views.{state_seen}
+use Rattle.run_steps.proofs.Exits.{after, call_exit}
+use Rattle.run_steps.specs.OfRunState.Views.{state_seen}
 use Rattle.term_forms.proofs.arrays.picked_cell.Goals as goal
 
 pub returns-in_err-cells : goal.returns-in_err-cells

@@ -2,7 +2,7 @@ use Rattle.comet_meaning.specs.TermForms.{picked_term}
 use Rattle.comet_meaning.proofs.GoingOn.{goes_then, goes_give, goes_found_at}
 use Rattle.comet_meaning.proofs.GoingParts.{goes_number}
 use Rattle.comet_meaning.proofs.GoingStatements.{goes_level}
-use Rattle.expression_forms.proofs.OfRunSteps.Exits.{after, call_exit}
+use Rattle.run_steps.proofs.Exits.{after, call_exit}
 use Rattle.term_forms.proofs.arrays.picked_term.Goals as goal
 
 pub returns-in_err-cells : goal.returns-in_err-cells

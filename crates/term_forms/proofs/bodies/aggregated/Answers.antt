@@ -1,5 +1,5 @@
 use Rattle.std.proofs.Common.{sym, subst}
-use Rattle.expression_forms.specs.OfRunSteps.Does.{Does}
+use Rattle.run_steps.specs.Does.{Does}
 use Rattle.term_forms.proofs.BodyLaws.{least_as, greatest_as}
 use Rattle.term_forms.proofs.bodies.aggregated.Goals as goal
 

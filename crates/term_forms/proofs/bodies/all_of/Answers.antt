@@ -3,10 +3,10 @@ use Rattle.comet_meaning.specs.Outcome.{Went}
 use Rattle.comet_meaning.specs.Terms.{Several, term_row}
 use Rattle.comet_syntax.specs.declared.tree.expressions.Aggregate.TheVariants as aggregates
 use Rattle.comet_meaning.proofs.GoingTerms.{goes_aggregated}
-use Rattle.expression_forms.proofs.OfRunSteps.AggregateLaws.{memory_ends}
-use Rattle.expression_forms.proofs.OfRunSteps.Exits.{exit}
-use Rattle.term_forms.proofs.BodyLaws.{terms_seen}
-use Rattle.term_forms.specs.Bodies.{body_seen}
+use Rattle.run_steps.proofs.AggregateLaws.{memory_ends}
+use Rattle.run_steps.proofs.Exits.{exit}
+use Rattle.form_parts.proofs.BodyLaws.{terms_seen}
+use Rattle.form_parts.specs.Bodies.{body_seen}
 use Rattle.term_forms.proofs.bodies.all_of.Goals as goal
 
 pub returns-in_err-terms : goal.returns-in_err-terms

@@ -1,5 +1,5 @@
 use Rattle.std.proofs.Common.{◌≡◌, sym, subst, arith, length}
-use Rattle.expression_forms.specs.OfRunSteps.Does.{Does}
+use Rattle.run_steps.specs.Does.{Does}
 use Rattle.term_forms.proofs.BodyLaws.{extreme_none, extreme_some}
 use Rattle.term_forms.proofs.bodies.extreme_of.Goals as goal
 

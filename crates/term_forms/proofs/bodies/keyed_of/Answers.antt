@@ -1,7 +1,7 @@
 use Rattle.comet_meaning.proofs.GoingOn.{goes_then, goes_give}
 use Rattle.comet_meaning.proofs.GoingTerms.{goes_node}
-use Rattle.expression_forms.proofs.OfRunSteps.AggregateLaws.{memory_ends}
-use Rattle.expression_forms.proofs.OfRunSteps.Exits.{exit}
+use Rattle.run_steps.proofs.AggregateLaws.{memory_ends}
+use Rattle.run_steps.proofs.Exits.{exit}
 use Rattle.term_forms.proofs.bodies.keyed_of.Goals as goal
 
 pub returns-in_err-keys : goal.returns-in_err-keys

@@ -1,6 +1,6 @@
 use Rattle.std.proofs.Common.{◌≡◌, map, take}
 use Rattle.comet_meaning.specs.TermForms.{keys_of}
-use Rattle.term_forms.specs.Bodies.{body_seen}
+use Rattle.form_parts.specs.Bodies.{body_seen}
 use Rattle.term_forms.proofs.bodies.keys_in.Given as goal
 
 -- the keys of the bodies so far

@@ -1,9 +1,9 @@
 use Rattle.std.proofs.Common.{◌∙◌, sym, map}
 use Rattle.comet_meaning.proofs.GoingOn.{goes_then, goes_give}
 use Rattle.comet_meaning.proofs.GoingTerms.{goes_node}
-use Rattle.expression_forms.proofs.OfRunSteps.AggregateLaws.{memory_ends}
-use Rattle.expression_forms.proofs.OfRunSteps.Exits.{exit}
-use Rattle.term_forms.proofs.BodyLaws.{terms_seen}
+use Rattle.run_steps.proofs.AggregateLaws.{memory_ends}
+use Rattle.run_steps.proofs.Exits.{exit}
+use Rattle.form_parts.proofs.BodyLaws.{terms_seen}
 use Rattle.term_forms.proofs.bodies.operation_of.Goals as goal
 
 pub returns-in_err-terms : goal.returns-in_err-terms

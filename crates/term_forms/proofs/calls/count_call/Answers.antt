@@ -1,5 +1,5 @@
 use Rattle.std.proofs.Common.{sym, subst}
-use Rattle.expression_forms.specs.OfRunSteps.Does.{Does}
+use Rattle.run_steps.specs.Does.{Does}
 use Rattle.term_forms.proofs.CallLaws.{count_of_two, count_of_others}
 use Rattle.term_forms.proofs.calls.count_call.Goals as goal
 

@@ -1,7 +1,7 @@
 use Rattle.comet_meaning.specs.TermForms.{chain_term}
 use Rattle.comet_meaning.proofs.GoingTerms.{goes_links_term}
 use Rattle.comet_meaning.proofs.GoingStatements.{goes_level}
-use Rattle.expression_forms.proofs.OfRunSteps.Exits.{after, call_exit}
+use Rattle.run_steps.proofs.Exits.{after, call_exit}
 use Rattle.term_forms.proofs.operators.chain_term.Goals as goal
 
 pub returns-in_err-term : goal.returns-in_err-term

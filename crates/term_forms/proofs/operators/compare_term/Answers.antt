@@ -3,7 +3,7 @@ use Rattle.comet_meaning.proofs.GoingOn.{goes_then}
 use Rattle.comet_meaning.proofs.GoingParts.{goes_one_term}
 use Rattle.comet_meaning.proofs.GoingStatements.{goes_level}
 use Rattle.comet_meaning.proofs.GoingTerms.{goes_node}
-use Rattle.expression_forms.proofs.OfRunSteps.Exits.{after, call_exit}
+use Rattle.run_steps.proofs.Exits.{after, call_exit}
 use Rattle.term_forms.proofs.operators.compare_term.Goals as goal
 
 pub returns-in_err-left : goal.returns-in_err-left

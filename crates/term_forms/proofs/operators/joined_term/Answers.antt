@@ -1,8 +1,8 @@
 use Rattle.comet_meaning.proofs.GoingStatements.{goes_level}
 use Rattle.comet_meaning.proofs.Rows.{items_rows}
 use Rattle.comet_meaning.proofs.RowsOfTerms.{terms_start, terms_end, terms_step, terms_err}
-use Rattle.expression_forms.proofs.OfRunSteps.Exits.{ends_passes, exit}
-use Rattle.expression_forms.proofs.OfRunSteps.Forms.{link_is}
+use Rattle.run_steps.proofs.Exits.{ends_passes, exit}
+use Rattle.run_steps.proofs.Forms.{link_is}
 use Rattle.term_forms.proofs.operators.joined_term.Goals as goal
 
 pub loop-link-init : goal.loop-link-init

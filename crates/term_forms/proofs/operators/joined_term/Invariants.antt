@@ -2,8 +2,8 @@ use Rattle.checked_tree.specs.Shape.{shape_of_link}
 use Rattle.comet_meaning.specs.Program.{level}
 use Rattle.comet_meaning.specs.TermForms.{joined_form}
 use Rattle.comet_meaning.proofs.RowsOfTerms.{TermsLeft}
-use Rattle.expression_forms.specs.OfRunState.Views.{state_seen}
-use Rattle.expression_forms.specs.OfRunSteps.Views.{links_seen}
+use Rattle.run_steps.specs.OfRunState.Views.{state_seen}
+use Rattle.run_steps.specs.Views.{links_seen}
 use Rattle.term_forms.proofs.operators.joined_term.Given as goal
 
 -- the operands that are left, from here, give what all give

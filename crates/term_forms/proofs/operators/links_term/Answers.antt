@@ -1,5 +1,5 @@
 use Rattle.std.proofs.Common.{sym, subst}
-use Rattle.expression_forms.specs.OfRunSteps.Does.{Does}
+use Rattle.run_steps.specs.Does.{Does}
 use Rattle.term_forms.proofs.ChainLaws.{links_none, links_or, links_and, links_joined}
 use Rattle.term_forms.proofs.operators.links_term.Goals as goal
 

@@ -2,8 +2,8 @@ use Rattle.comet_meaning.proofs.GoingStatements.{goes_level}
 use Rattle.comet_meaning.proofs.GoingTerms.{goes_operands}
 use Rattle.comet_meaning.proofs.Rows.{items_rows}
 use Rattle.comet_meaning.proofs.RowsOfTerms.{operands_start, operands_end, operands_onward, operands_step, operands_err}
-use Rattle.expression_forms.proofs.OfRunSteps.Exits.{ends_passes, exit, memory_exit}
-use Rattle.expression_forms.proofs.OfRunSteps.Forms.{link_is}
+use Rattle.run_steps.proofs.Exits.{ends_passes, exit, memory_exit}
+use Rattle.run_steps.proofs.Forms.{link_is}
 use Rattle.term_forms.proofs.operators.operands_of.Goals as goal
 
 pub returns-in_err-push : goal.returns-in_err-push

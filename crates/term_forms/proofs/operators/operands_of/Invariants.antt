@@ -3,8 +3,8 @@ use Rattle.checked_tree.specs.Shape.{shape_of_link}
 use Rattle.comet_meaning.specs.Program.{level}
 use Rattle.comet_meaning.specs.TermForms.{operands_form}
 use Rattle.comet_meaning.proofs.RowsOfTerms.{OperandsLeft}
-use Rattle.expression_forms.specs.OfRunState.Views.{state_seen}
-use Rattle.expression_forms.specs.OfRunSteps.Views.{links_seen}
+use Rattle.run_steps.specs.OfRunState.Views.{state_seen}
+use Rattle.run_steps.specs.Views.{links_seen}
 use Rattle.term_forms.proofs.operators.operands_of.Given as goal
 
 -- the operands that are left, from here, give what all give

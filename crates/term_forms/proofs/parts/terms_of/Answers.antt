@@ -2,7 +2,7 @@ use Rattle.checked_tree.specs.Shape.{seen}
 use Rattle.comet_meaning.proofs.GoingStatements.{goes_level}
 use Rattle.comet_meaning.proofs.Rows.{items_wholes_of}
 use Rattle.comet_meaning.proofs.RowsOfTerms.{term_row_start, term_row_end, term_row_onward, term_row_step, term_row_err}
-use Rattle.expression_forms.proofs.OfRunSteps.Exits.{ends_passes, exit, memory_exit}
+use Rattle.run_steps.proofs.Exits.{ends_passes, exit, memory_exit}
 use Rattle.term_forms.proofs.parts.terms_of.Goals as goal
 
 pub loop-e-init : goal.loop-e-init

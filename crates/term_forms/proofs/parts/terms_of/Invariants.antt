@@ -2,8 +2,8 @@ use Rattle.std.proofs.Common.{[]}
 use Rattle.comet_meaning.specs.Parts.{each_term}
 use Rattle.comet_meaning.specs.Program.{level}
 use Rattle.comet_meaning.proofs.RowsOfTerms.{TermRowLeft}
-use Rattle.expression_forms.specs.OfRunState.Views.{state_seen}
-use Rattle.expression_forms.specs.OfRunSteps.Views.{part, row}
+use Rattle.run_steps.specs.OfRunState.Views.{state_seen}
+use Rattle.run_steps.specs.Views.{part, row}
 use Rattle.term_forms.proofs.parts.terms_of.Given as goal
 
 -- the parts that are left, from here, give what all give

@@ -1,8 +1,8 @@
 use Rattle.std.proofs.Common.{sym, ap}
 use Rattle.comet_meaning.specs.Outcome.{Went}
 use Rattle.comet_meaning.specs.TermForms.{moving_term}
-use Rattle.expression_forms.specs.OfRunState.Views.{state_seen}
-use Rattle.expression_forms.proofs.OfRunSteps.Shapes.{form_name, form_parentheses, form_unary, form_chain, form_compare, form_index, form_cell, form_list, form_set, form_aggregate, form_builtin, form_call, form_method}
+use Rattle.run_steps.specs.OfRunState.Views.{state_seen}
+use Rattle.run_steps.proofs.Shapes.{form_name, form_parentheses, form_unary, form_chain, form_compare, form_index, form_cell, form_list, form_set, form_aggregate, form_builtin, form_call, form_method}
 use Rattle.term_forms.proofs.terms.moving_term.Goals as goal
 
 pub returns-in-Name : goal.returns-in-Name

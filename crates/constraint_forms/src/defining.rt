@@ -1,2 +1,0 @@
-//! What callers use of `term_forms`.
-pub use term_forms::terms::{constant_term, moving_term};

@@ -1,4 +1,0 @@
-pub mod OfRunObjects
-pub mod OfRunOutside
-pub mod OfRunState
-pub mod OfRunSteps

@@ -1,2 +1,0 @@
--- What callers cite of run_outside.
-pub use Rattle.expression_forms.specs.OfRunOutside.Told

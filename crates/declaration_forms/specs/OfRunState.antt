@@ -1,5 +1,0 @@
--- What callers cite of run_state.
-pub use Rattle.expression_forms.specs.OfRunState.InTerms
-pub use Rattle.expression_forms.specs.OfRunState.SearchActs
-pub use Rattle.expression_forms.specs.OfRunState.Targets
-pub use Rattle.expression_forms.specs.OfRunState.Views

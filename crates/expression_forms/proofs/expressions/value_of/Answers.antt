@@ -1,4 +1,0 @@
-use Rattle.expression_forms.proofs.expressions.value_of.Goals as goal
-
-pub returns-in-Some : goal.returns-in-Some
-returns-in-Some g c = record { did = rw c.room.ensures at (c.in-Some.ensures.given (g.W.Within.code c.args.inside.now) (g.O.Outside.told c.args.out.now)) }

@@ -1,2 +1,0 @@
--- What callers cite of run_solvers.
-pub use Rattle.event_forms.specs.OfRunSolvers.Views

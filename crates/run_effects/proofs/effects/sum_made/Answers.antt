@@ -1,0 +1,13 @@
+use Rattle.std.proofs.Common.{refl}
+use Rattle.comet_meaning.specs.Systems.{make_sum}
+use Rattle.comet_meaning.specs.Values.{solver_of}
+use Rattle.comet_meaning.proofs.GoingSystems.{goes_make_sum}
+use Rattle.run_values.specs.Views.{value_seen}
+use Rattle.run_steps.proofs.Behind.{err_passes, ok_acts}
+use Rattle.run_effects.proofs.effects.sum_made.Goals as goal
+
+pub returns-in-Err : goal.returns-in-Err
+returns-in-Err g c = record { did = λ s. err_passes value_seen c.args.solver c.in-Err.stop _ (λ v. make_sum c.args.at (solver_of v)) c.in-Err.is (λ v. goes_make_sum _ _) }
+
+pub returns-in-Ok : goal.returns-in-Ok
+returns-in-Ok g c = record { did = λ s. ok_acts value_seen value_seen c.args.solver c.in-Ok.solver _ _ _ (λ v. make_sum c.args.at (solver_of v)) c.in-Ok.is (λ v. goes_make_sum _ _) c.make_sum.ensures.printed (c.make_sum.ensures.did s) }

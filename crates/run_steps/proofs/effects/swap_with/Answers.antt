@@ -1,4 +1,0 @@
-use Rattle.run_steps.proofs.effects.swap_with.Goals as goal
-
-pub returns-in-Moved : goal.returns-in-Moved
-returns-in-Moved g c = record { did = let printed = (g.O.Outside.told c.args.out.now) in rw c.in-Moved.is (c.swap.ensures.did); printed = c.swap.ensures.printed }

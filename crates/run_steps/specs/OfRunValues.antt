@@ -1,4 +1,0 @@
--- What callers cite of run_values.
-pub use Rattle.run_values.specs.Did
-pub use Rattle.run_values.specs.Views
-pub use Rattle.run_values.specs.declared

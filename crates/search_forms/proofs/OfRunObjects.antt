@@ -1,2 +1,0 @@
--- What callers cite of run_objects.
-pub use Rattle.declaration_forms.proofs.OfRunObjects.WithLaws

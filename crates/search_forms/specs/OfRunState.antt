@@ -1,4 +1,0 @@
--- What callers cite of run_state.
-pub use Rattle.declaration_forms.specs.OfRunState.InTerms
-pub use Rattle.declaration_forms.specs.OfRunState.Targets
-pub use Rattle.declaration_forms.specs.OfRunState.Views

@@ -1,2 +1,0 @@
-//! What callers use of `run_state`.
-pub use declaration_forms::state_of_runs::{InTerm, Outside, State, Target, print};

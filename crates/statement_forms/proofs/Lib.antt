@@ -1,2 +1,0 @@
-mod WriteLaws
-pub mod OfRunSteps

@@ -1,3 +1,0 @@
-pub mod OfRunState
-pub mod OfRunSteps
-pub mod OfRunValues

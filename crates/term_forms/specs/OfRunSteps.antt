@@ -1,4 +1,0 @@
--- What callers cite of run_steps.
-pub use Rattle.expression_forms.specs.OfRunSteps.Does
-pub use Rattle.expression_forms.specs.OfRunSteps.Following
-pub use Rattle.expression_forms.specs.OfRunSteps.Views
