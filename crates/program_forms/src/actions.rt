@@ -38,6 +38,26 @@ fn is_built_start(start: &Option<Start>) -> bool
     }
 }
 
+fn is_built_boxed(part: &Option<Box<Typed>>) -> bool
+    ensures { result ≡ built.is_built_option built.is_built_part
+        (option_map (λ x. seen x.value) part.now) }
+{
+    match part {
+        None => true,
+        Some(part) => is_built_part(part),
+    }
+}
+
+fn is_built_boxed_start(start: &Option<Box<Start>>) -> bool
+    ensures { result ≡ built.is_built_option built.is_started
+        (option_map (λ x. start_of x.value) start.now) }
+{
+    match start {
+        None => true,
+        Some(start) => is_built_part(&start.value),
+    }
+}
+
 fn is_built_variable(variable: &Variable) -> bool
     ensures { result ≡ built.is_built_variable (variable_of variable.now) }
 {
@@ -100,12 +120,12 @@ pub(crate) fn is_built_action(action: &Action) -> bool
 {
     match action {
         Action::Empty => true,
-        Action::Declare { start, .. } => is_built_option(start),
+        Action::Declare { start, .. } => is_built_boxed(start),
         Action::DeclareArray {
             dimensions,
             start,
             ..
-        } => are_built_dimensions(dimensions) && is_built_start(start),
+        } => are_built_dimensions(dimensions) && is_built_boxed_start(start),
         Action::DeclareVariable(variable) => is_built_variable(variable),
         Action::Make {
             kind,

@@ -8,7 +8,7 @@ ghost use Rattle.comet_meaning.specs.Built as built;
 
 use crate::actions::{is_built_action, is_built_option};
 use crate::expressions::{are_built_generators, is_built_part};
-use checked_tree::{Act, Action, Counter, Generator, Task, Typed};
+use checked_tree::{Act, Action, Choice, Counter, Head, Task};
 
 fn is_built_counter(counter: &Option<Counter>) -> bool
     ensures { result ≡ built.is_built_option (λ x.
@@ -29,13 +29,22 @@ fn is_built_step(step: &Option<Action>) -> bool
     }
 }
 
-#[tactic(auto, using(crate::proofs::Lists::built_rows))]
-fn is_built_head(generators: &[Generator], condition: &Option<Typed>) -> bool
-    ensures { result ≡ (list_all built.is_built_expression
-        (map shape_of_generator generators.now) && built.is_built_option built.is_built_part
-        (option_map seen condition.now)) }
+fn is_built_head(head: &Head) -> bool
+    ensures { result ≡ (built.is_built_option (λ x.
+        built.is_built_part x.start) (option_map counter_of head.now.counter)
+        && built.is_built_option built.is_built_part (option_map seen head.now.test)
+        && built.is_built_option built.is_built_deed (option_map deed_of head.now.step)) }
 {
-    are_built_generators(generators) && is_built_option(condition)
+    is_built_counter(&head.counter) && is_built_option(&head.test) && is_built_step(&head.step)
+}
+
+#[tactic(auto, using(crate::proofs::Lists::built_rows))]
+fn is_built_choice(choice: &Choice) -> bool
+    ensures { result ≡ (list_all built.is_built_expression
+        (map shape_of_generator choice.now.generators.items) && built.is_built_option
+        built.is_built_part (option_map seen choice.now.condition)) }
+{
+    are_built_generators(&choice.generators) && is_built_option(&choice.condition)
 }
 
 /// Whether a statement runs by now, with those in it.
@@ -62,32 +71,15 @@ fn is_built_act(act: &Act) -> bool
             otherwise,
         } => is_built_part(test) && is_built_task(then) && is_built_task(otherwise),
         Act::While { test, body } => is_built_part(test) && is_built_task(body),
-        Act::For {
-            counter,
-            test,
-            step,
-            body,
-        } => is_built_counter(counter)
-            && is_built_option(test)
-            && is_built_step(step)
-            && is_built_task(body),
-        Act::ForAll {
-            generators,
-            condition,
-            body,
-        } => is_built_head(generators, condition) && is_built_task(body),
-        Act::Select {
-            generators,
-            condition,
-            body,
-        } => is_built_head(generators, condition) && is_built_task(body),
+        Act::For { head, body } => is_built_head(head) && is_built_task(body),
+        Act::ForAll { choice, body } => is_built_choice(choice) && is_built_task(body),
+        Act::Select { choice, body } => is_built_choice(choice) && is_built_task(body),
         Act::SelectBy {
-            generators,
-            condition,
+            choice,
             key,
             body,
             ..
-        } => { is_built_head(generators, condition) && is_built_part(key) && is_built_task(body) }
+        } => is_built_choice(choice) && is_built_part(key) && is_built_task(body),
         Act::Neighbor { key, body, .. } => is_built_part(key) && is_built_task(body),
         Act::Whenever { variable, body, .. } => is_built_part(variable) && is_built_task(body),
         Act::With { body, .. } => is_built_task(body),

@@ -1,9 +1,13 @@
 //! Boxes, made beside what goes on.
 //!
-//! Each function is generic, so that for want of memory it lets a part go by one call, whatever the part holds.
-ghost use Rattle.std.specs.Prelude.{◌≡◌, [], ◌∷◌};
+//! Most are generic, so that for want of memory they let a part go by one call, whatever the part holds.
+ghost use Rattle.std.specs.Prelude.{◌≡◌, [], ◌∷◌, option_map};
+ghost use Rattle.checked_tree.specs.Shape.{seen};
+ghost use Rattle.checked_tree.specs.Actions.{start_of};
 ghost use Rattle.tree_makers.specs.Makes.{Makes};
 
+use checked_tree::expressions::Typed;
+use checked_tree::statements::Start;
 use checked_tree::stop::Stop;
 use std::alloc::Global;
 use std::sync::Arc;
@@ -62,6 +66,32 @@ pub(crate) fn box_three<T: Drop>(
     let ((second, third), first) = box_beside(alloc, (second, third), first)?;
     let (second, third) = box_both(alloc, second, third)?;
     Ok((first, second, third))
+}
+
+/// An expression in a box, where there is one.
+pub(crate) fn box_expression(alloc: Global, part: Option<Typed>) -> Result<Option<Box<Typed>>, Stop>
+    ensures { Makes (option_map (λ e. seen e.value)) result (option_map seen part) }
+{
+    match part {
+        None => Ok(None),
+        Some(part) => {
+            let part = Box::new(alloc, part)?;
+            Ok(Some(part))
+        }
+    }
+}
+
+/// First values in a box, where there are some.
+pub(crate) fn box_start(alloc: Global, start: Option<Start>) -> Result<Option<Box<Start>>, Stop>
+    ensures { Makes (option_map (λ s. start_of s.value)) result (option_map start_of start) }
+{
+    match start {
+        None => Ok(None),
+        Some(start) => {
+            let start = Box::new(alloc, start)?;
+            Ok(Some(start))
+        }
+    }
 }
 
 /// A list of two parts.

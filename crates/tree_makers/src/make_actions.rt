@@ -5,6 +5,8 @@ ghost use Rattle.checked_tree.specs.Shape.{seen};
 ghost use Rattle.checked_tree.specs.Actions as deeds;
 ghost use Rattle.checked_tree.specs.Actions.{deed_of, dimension_of, start_of, printed_of, variable_of};
 
+use crate::boxes::{box_both, box_expression, box_start};
+use crate::kept::beside;
 use checked_tree::expressions::{Slot, Typed};
 use checked_tree::kind::Kind;
 use checked_tree::statements::{Action, Dimension, Printed, Start, Variable};
@@ -20,28 +22,36 @@ pub fn make_nothing() -> Action
 }
 
 #[tactic(auto, unfolding(checked_tree::specs::Actions::deed_of))]
-pub fn make_declared(slot: Slot, kind: Kind, start: Option<Typed>) -> Action
-    ensures { deed_of result ≡ deeds.declaring slot kind (option_map seen start) }
+pub fn make_declared(
+    alloc: Global,
+    slot: Slot,
+    kind: Kind,
+    start: Option<Typed>,
+) -> Result<Action, Stop>
+    ensures { Makes deed_of result (deeds.declaring slot kind (option_map seen start)) }
 {
-    Action::Declare { slot, kind, start }
+    let start = box_expression(alloc, start)?;
+    Ok(Action::Declare { slot, kind, start })
 }
 
 #[tactic(auto, unfolding(checked_tree::specs::Actions::deed_of))]
 pub fn make_array(
+    alloc: Global,
     slot: Slot,
     kind: Kind,
     dimensions: Vec<Dimension>,
     start: Option<Start>,
-) -> Action
-    ensures { deed_of result ≡ deeds.declaring_array slot kind (map dimension_of dimensions.items)
-        (option_map start_of start) }
+) -> Result<Action, Stop>
+    ensures { Makes deed_of result (deeds.declaring_array slot kind
+        (map dimension_of dimensions.items) (option_map start_of start)) }
 {
-    Action::DeclareArray {
+    let (dimensions, start) = beside(dimensions, box_start(alloc, start))?;
+    Ok(Action::DeclareArray {
         slot,
         kind,
         dimensions,
         start,
-    }
+    })
 }
 
 #[tactic(auto, unfolding(checked_tree::specs::Actions::deed_of))]
@@ -64,21 +74,28 @@ pub fn make_object(slot: Slot, kind: Kind, arguments: Vec<Typed>) -> Action
 }
 
 #[tactic(auto, unfolding(checked_tree::specs::Actions::deed_of))]
-pub fn make_write(target: Typed, operator: WriteOperator, value: Typed) -> Action
-    ensures { deed_of result ≡ deeds.writing operator (seen target) (seen value) }
+pub fn make_write(
+    alloc: Global,
+    target: Typed,
+    operator: WriteOperator,
+    value: Typed,
+) -> Result<Action, Stop>
+    ensures { Makes deed_of result (deeds.writing operator (seen target) (seen value)) }
 {
-    Action::Write {
+    let (target, value) = box_both(alloc, target, value)?;
+    Ok(Action::Write {
         target,
         operator,
         value,
-    }
+    })
 }
 
 #[tactic(auto, unfolding(checked_tree::specs::Actions::deed_of))]
-pub fn make_swap(left: Typed, right: Typed) -> Action
-    ensures { deed_of result ≡ deeds.swapping (seen left) (seen right) }
+pub fn make_swap(alloc: Global, left: Typed, right: Typed) -> Result<Action, Stop>
+    ensures { Makes deed_of result (deeds.swapping (seen left) (seen right)) }
 {
-    Action::Swap { left, right }
+    let (left, right) = box_both(alloc, left, right)?;
+    Ok(Action::Swap { left, right })
 }
 
 #[tactic(auto, unfolding(checked_tree::specs::Actions::deed_of))]

@@ -4,7 +4,7 @@ ghost use Rattle.tree_makers.specs.Makes.{Makes};
 ghost use Rattle.checked_tree.specs.Shape as shapes;
 ghost use Rattle.checked_tree.specs.Shape.{shape_of, shape_of_link, shape_of_generator, optional, seen, whole, wholes, rows};
 
-use crate::boxes::{box_beside, box_both, box_three, list_both};
+use crate::boxes::{box_beside, box_both, box_expression, box_three, list_both};
 use cbl_base::{Place, Text};
 use checked_tree::expressions::{Builtin, Form, Generator, Link, Method, Slot, Typed};
 use checked_tree::stop::Stop;
@@ -210,18 +210,6 @@ pub fn make_generator(place: Place, slot: Slot, domain: Typed) -> Generator
     }
 }
 
-fn boxed(alloc: Global, condition: Option<Typed>) -> Result<Option<Box<Typed>>, Stop>
-    ensures { Makes (option_map (λ e. seen e.value)) result (option_map seen condition) }
-{
-    match condition {
-        None => Ok(None),
-        Some(condition) => {
-            let condition = Box::new(alloc, condition)?;
-            Ok(Some(condition))
-        }
-    }
-}
-
 #[tactic(auto, unfolding(checked_tree::specs::Shape::shape_of, checked_tree::specs::Shape::shape_of_generator))]
 pub fn make_aggregate(
     alloc: Global,
@@ -235,7 +223,7 @@ pub fn make_aggregate(
         (optional whole (option_map seen condition)) (whole (seen body))) }
 {
     let (condition, body) = box_beside(alloc, condition, body)?;
-    let condition = boxed(alloc, condition)?;
+    let condition = box_expression(alloc, condition)?;
     Ok(Form::Aggregate {
         aggregate,
         generators,

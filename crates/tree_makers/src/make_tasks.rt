@@ -6,10 +6,11 @@ ghost use Rattle.checked_tree.specs.Actions.{deed_of};
 ghost use Rattle.checked_tree.specs.Tasks as works;
 ghost use Rattle.checked_tree.specs.Tasks.{row_of, work_of, counter_of};
 
-use crate::boxes::share_beside;
+use crate::boxes::{box_beside, box_both, share_beside};
+use crate::kept::beside;
 use cbl_base::Place;
-use checked_tree::expressions::{Generator, Slot, Typed};
-use checked_tree::statements::{Act, Action, Counter, EventSlots, Task};
+use checked_tree::expressions::{Slot, Typed};
+use checked_tree::statements::{Act, Action, Choice, EventSlots, Head, Task};
 use checked_tree::stop::Stop;
 use comet_syntax::tree::{Extreme, WithMode};
 use std::alloc::Global;
@@ -78,93 +79,77 @@ pub fn make_while(place: Place, test: Typed, body: Box<Task>) -> Task
 }
 
 #[tactic(auto, unfolding(checked_tree::specs::Tasks::work_of_act, checked_tree::specs::Tasks::work_of))]
-pub fn make_for(
-    place: Place,
-    counter: Option<Counter>,
-    test: Option<Typed>,
-    step: Option<Action>,
-    body: Box<Task>,
-) -> Task
-    ensures { work_of result ≡ works.task place
-        (works.counting (option_map counter_of counter) (option_map seen test)
-        (option_map deed_of step) (work_of body.value)) }
+pub fn make_for(alloc: Global, place: Place, head: Head, body: Box<Task>) -> Result<Task, Stop>
+    ensures { Makes work_of result (works.task place
+        (works.counting (option_map counter_of head.counter) (option_map seen head.test)
+        (option_map deed_of head.step) (work_of body.value))) }
 {
-    Task {
+    let (body, head) = box_beside(alloc, body, head)?;
+    Ok(Task {
         place,
-        act: Act::For {
-            counter,
-            test,
-            step,
-            body,
-        },
-    }
+        act: Act::For { head, body },
+    })
 }
 
 #[tactic(auto, unfolding(checked_tree::specs::Tasks::work_of_act, checked_tree::specs::Tasks::work_of))]
 pub fn make_for_all(
+    alloc: Global,
     place: Place,
-    generators: Vec<Generator>,
-    condition: Option<Typed>,
+    choice: Choice,
     body: Box<Task>,
-) -> Task
-    ensures { work_of result ≡ works.task place
-        (works.for_all (map shape_of_generator generators.items) (option_map seen condition)
-        (work_of body.value)) }
+) -> Result<Task, Stop>
+    ensures { Makes work_of result (works.task place
+        (works.for_all (map shape_of_generator choice.generators.items)
+        (option_map seen choice.condition) (work_of body.value))) }
 {
-    Task {
+    let (body, choice) = box_beside(alloc, body, choice)?;
+    Ok(Task {
         place,
-        act: Act::ForAll {
-            generators,
-            condition,
-            body,
-        },
-    }
+        act: Act::ForAll { choice, body },
+    })
 }
 
 #[tactic(auto, unfolding(checked_tree::specs::Tasks::work_of_act, checked_tree::specs::Tasks::work_of))]
 pub fn make_select(
+    alloc: Global,
     place: Place,
-    generators: Vec<Generator>,
-    condition: Option<Typed>,
+    choice: Choice,
     body: Box<Task>,
-) -> Task
-    ensures { work_of result ≡ works.task place
-        (works.selecting (map shape_of_generator generators.items) (option_map seen condition)
-        (work_of body.value)) }
+) -> Result<Task, Stop>
+    ensures { Makes work_of result (works.task place
+        (works.selecting (map shape_of_generator choice.generators.items)
+        (option_map seen choice.condition) (work_of body.value))) }
 {
-    Task {
+    let (body, choice) = box_beside(alloc, body, choice)?;
+    Ok(Task {
         place,
-        act: Act::Select {
-            generators,
-            condition,
-            body,
-        },
-    }
+        act: Act::Select { choice, body },
+    })
 }
 
 #[tactic(auto, unfolding(checked_tree::specs::Tasks::work_of_act, checked_tree::specs::Tasks::work_of))]
 pub fn make_select_by(
+    alloc: Global,
     place: Place,
     extreme: Extreme,
-    generators: Vec<Generator>,
-    condition: Option<Typed>,
+    choice: Choice,
     key: Typed,
     body: Box<Task>,
-) -> Task
-    ensures { work_of result ≡ works.task place
-        (works.selecting_by extreme (map shape_of_generator generators.items)
-        (option_map seen condition) (seen key) (work_of body.value)) }
+) -> Result<Task, Stop>
+    ensures { Makes work_of result (works.task place
+        (works.selecting_by extreme (map shape_of_generator choice.generators.items)
+        (option_map seen choice.condition) (seen key) (work_of body.value))) }
 {
-    Task {
+    let (body, (choice, key)) = beside(body, box_both(alloc, choice, key))?;
+    Ok(Task {
         place,
         act: Act::SelectBy {
             extreme,
-            generators,
-            condition,
+            choice,
             key,
             body,
         },
-    }
+    })
 }
 
 #[tactic(auto, unfolding(checked_tree::specs::Tasks::work_of_act, checked_tree::specs::Tasks::work_of))]
@@ -200,6 +185,7 @@ pub fn make_whenever(
     ensures { Makes work_of result (works.task place
         (works.watching (seen variable) names (work_of body.value))) }
 {
+    let (body, variable) = box_beside(alloc, body, variable)?;
     let (variable, body) = share_beside(alloc, variable, body)?;
     Ok(Task {
         place,

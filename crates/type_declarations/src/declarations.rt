@@ -74,7 +74,7 @@ fn declare_scalar(
 {
     let slot = scope.slot_of(checker.count());
     let start = behind(checker.declare(name.text.as_slice(), kind), start)?;
-    Ok(make_declared(slot, kind, start))
+    make_declared(checker.alloc(), slot, kind, start)
 }
 
 /// A name of one value.
@@ -110,7 +110,7 @@ fn declare_array(
 {
     let slot = scope.slot_of(checker.count());
     let cells = behind(checker.declare(name.text.as_slice(), kind), cells)?;
-    Ok(make_array(slot, kind, cells.sizes, cells.start))
+    make_array(checker.alloc(), slot, kind, cells.sizes, cells.start)
 }
 
 /// An array of numbers.

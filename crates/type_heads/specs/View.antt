@@ -3,8 +3,8 @@ use Rattle.std.specs.Prelude.{map, option_map}
 use Rattle.checked_tree.specs.Shape.{seen, shape_of_generator}
 use Rattle.checked_tree.specs.Actions.{deed_of}
 use Rattle.checked_tree.specs.Tasks.{counter_of}
-use Rattle.type_heads.specs.declared.heads.Head.{Head}
-use Rattle.type_heads.specs.declared.heads.Choice.{Choice}
+use Rattle.checked_tree.specs.declared.statements.Head.{Head}
+use Rattle.checked_tree.specs.declared.statements.Choice.{Choice}
 use Rattle.type_heads.specs.Heads as heads
 
 -- the parts of a `for` before its body

@@ -18,8 +18,7 @@ ghost use Rattle.type_heads.specs.View.{head_of, choice_of};
 
 use cbl_base::Place;
 use checked_tree::{
-    Action, Cause, Counter, EventSlots, Generator as CheckedGenerator, Kind, Slot, Stop, Task,
-    Typed,
+    Action, Cause, Choice, Counter, EventSlots, Head, Kind, Slot, Stop, Task, Typed,
 };
 use comet_syntax::tree::{
     Declaration, Events, Expression, ForHead, ForStart, Generators, Name, Simple, Watched,
@@ -159,14 +158,6 @@ fn check_step(
     }
 }
 
-/// The parts of a `for` before its body.
-#[derive(Drop)]
-pub struct Head {
-    pub counter: Option<Counter>,
-    pub test: Option<Typed>,
-    pub step: Option<Action>,
-}
-
 fn head_fits(counter: &Option<Counter>, test: &Option<Typed>) -> bool
     ensures { result ≡ (heads.counter_fits (option_map counter_of counter.now) && heads.test_fits
         (option_map seen test.now)) }
@@ -220,13 +211,6 @@ pub fn check_head(
             step,
         },
     )
-}
-
-/// Generators with their condition.
-#[derive(Drop)]
-pub struct Choice {
-    pub generators: Vec<CheckedGenerator>,
-    pub condition: Option<Typed>,
 }
 
 /// Judges generators, and their condition in a scope of its own. Refused exactly as these are; `NoMemory` where

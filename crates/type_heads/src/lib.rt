@@ -6,7 +6,7 @@
 pub mod heads;
 
 pub use heads::{
-    Choice, Head, apart, check_acted, check_choice, check_declared, check_empty, check_head,
-    check_returned, check_shared, check_watched, condition_fault, declare_events, in_parall,
-    key_fault, truth_fault, write_name,
+    apart, check_acted, check_choice, check_declared, check_empty, check_head, check_returned,
+    check_shared, check_watched, condition_fault, declare_events, in_parall, key_fault,
+    truth_fault, write_name,
 };

@@ -208,7 +208,7 @@ fn check_write(
     let kept = behind(rule(place, fault), kept)?;
     let done = act_on(checker, place, scope, writing_doing(&kept.0), &roots);
     let (target, value) = behind(done, kept)?;
-    let action = make_write(target, operator, value);
+    let action = make_write(checker.alloc(), target, operator, value)?;
     Ok(Acted { place, action })
 }
 
@@ -251,7 +251,7 @@ fn check_swap(
     let (kept, roots) = beside(kept, roots)?;
     let done = act_on(checker, place, scope, through_doing(), &roots);
     let (left, right) = behind(done, kept)?;
-    let action = make_swap(left, right);
+    let action = make_swap(checker.alloc(), left, right)?;
     Ok(Acted { place, action })
 }
 

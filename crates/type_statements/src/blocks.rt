@@ -1,8 +1,9 @@
 //! Blocks.
-ghost use Rattle.std.specs.Prelude.{All, map, ◌<◌};
+ghost use Rattle.std.specs.Prelude.{All, map, ◌<◌, []};
 ghost use Rattle.comet_syntax.specs.declared.tree.statements.Block.{size-Block};
 ghost use Rattle.comet_syntax.specs.declared.tree.statements.Statement.{Statement, size-Statement};
 ghost use Rattle.checked_tree.specs.Tasks.{work_of};
+ghost use Rattle.tree_makers.specs.Makes.{Makes};
 ghost use Rattle.type_scopes.specs.Did.{Did};
 ghost use Rattle.type_statements.specs.Statements as statements;
 ghost use Rattle.type_statements.specs.Statements.{block_of, statement_of};
@@ -12,6 +13,7 @@ use crate::inside::Within;
 use cbl_base::Place;
 use checked_tree::{Stop, Task};
 use comet_syntax::tree::{Block, Statement};
+use std::alloc::Global;
 use tree_makers::make_tasks::make_block;
 use type_scopes::{Checker, Scope};
 
@@ -33,6 +35,14 @@ fn check_next<W: Within>(
     Ok(tasks)
 }
 
+/// An empty list with room for so many statements, so that a block of one takes no room for four.
+fn room_for(alloc: Global, count: usize) -> Result<Vec<Task>, Stop>
+    ensures { Makes (λ v. v.items) result [] }
+{
+    let room = Vec::with_capacity(alloc, count)?;
+    Ok(room)
+}
+
 #[tactic(auto, unfolding(crate::specs::Statements::tasks_form))]
 fn check_tasks<W: Within>(
     checker: &mut Checker,
@@ -44,7 +54,8 @@ fn check_tasks<W: Within>(
     ensures { Did tasks_of result checker.new
         (statements.tasks_form (map statement_of all.now) scope checker.old) }
 {
-    let mut tasks = Vec::new(checker.alloc());
+    let room = room_for(checker.alloc(), all.len())?;
+    let mut tasks = room;
     for statement in all {
         tasks = check_next(checker, scope, inside, statement, tasks)?;
     }

@@ -33,7 +33,7 @@ pub(crate) fn check_for<W: Within>(
     let head = check_head(checker, at, place, head)?;
     let (head, body) = beside(head, check_own(checker, at, inside, body))?;
     checker.close(count);
-    Ok(make_for(place, head.counter, head.test, head.step, body))
+    make_for(checker.alloc(), place, head, body)
 }
 
 #[tactic(auto, unfolding(crate::specs::Statements::for_all_form, crate::specs::Statements::for_all_within, crate::specs::Statements::within_own))]
@@ -57,5 +57,5 @@ pub(crate) fn check_for_all<W: Within>(
     let choice = behind(ruled, choice)?;
     let (choice, body) = beside(choice, check_own(checker, at, inside, body))?;
     checker.close(count);
-    Ok(make_for_all(place, choice.generators, choice.condition, body))
+    make_for_all(checker.alloc(), place, choice, body)
 }

@@ -38,7 +38,7 @@ pub(crate) fn check_select<W: Within>(
     let choice = behind(ruled, choice)?;
     let (choice, body) = beside(choice, check_own(checker, at, inside, body))?;
     checker.close(count);
-    Ok(make_select(place, choice.generators, choice.condition, body))
+    make_select(checker.alloc(), place, choice, body)
 }
 
 #[tactic(auto, unfolding(crate::specs::Statements::select_by_form, crate::specs::Statements::select_by_within, crate::specs::Statements::within_own))]
@@ -67,12 +67,5 @@ pub(crate) fn check_select_by<W: Within>(
     let (kept, body) = beside(kept, check_own(checker, at, inside, body))?;
     checker.close(count);
     let (choice, key) = kept;
-    Ok(make_select_by(
-        place,
-        extreme,
-        choice.generators,
-        choice.condition,
-        key,
-        body,
-    ))
+    make_select_by(checker.alloc(), place, extreme, choice, key, body)
 }
