@@ -1,5 +1,5 @@
 -- The parts of a constraint.
-use Rattle.std.proofs.Common.{◌≡◌, ◌-◌, ap, true, false, Bool, if◌then◌else◌}
+use Rattle.std.proofs.Common.{◌≡◌, ap, true, false, Bool, if◌then◌else◌}
 use Rattle.checked_tree.specs.declared.expressions.Typed.{Typed}
 use Rattle.comet_meaning.specs.State.{State}
 use Rattle.comet_meaning.specs.Outcome.{give, ◌>>=◌}
