@@ -1,1 +1,3 @@
+pub mod Declared
+pub mod Ran
 pub mod Replayed
