@@ -13,8 +13,8 @@ use Rattle.pool_monitor.specs.declared.request.DeskRequest.TheVariants.{Best, Po
 use Rattle.pool_monitor.specs.declared.request.PoolRequest.TheVariants.{Size}
 use Rattle.pool_monitor.specs.Desk.{DeskState, IsDeclared, desk_after, desk_answer}
 use Rattle.pool_monitor.specs.DeskLaws.{takes_same}
-use Rattle.parall_loop.specs.Iteration.{Next, Asks, Ends}
-use Rattle.loop_tests.specs.Asking.{report_of, add_of, is_yes, asks_of, asks_desk}
+use Rattle.parall_loop.specs.Iteration.{Asks, Ends}
+use Rattle.loop_tests.specs.Asking.{report_of, add_of, asks_of, asks_desk}
 
 pub declared : (monitors : List Monitor) (values : List ℤ) (k : ℕ) (replies : List Reply) (q : Request) → length monitors ≡ 1 → asks_of values k replies ≡ Asks q → board.IsDeclared monitors q
 declared monitors values k [] q one e = let is : report_of values k ≡ q = cc in subst (board.IsDeclared monitors) is (omega arith)
@@ -28,8 +28,7 @@ desk_declared desk values k (r ∷ s ∷ rs) q some_monitor some_pool e = let c 
 -- a legal history of a desk leaves its monitor and its pool declared
 pub both_declared : (desk left : DeskState) (history : List (Entry DeskRequest Reply)) → IsLegal IsDeclared desk_after desk_answer desk history → left ≡ fold_of desk_after desk history → length desk.board ≡ 1 → length desk.pools ≡ 1 → (0 < length left.board) × (0 < length left.pools)
 both_declared desk left history legal is one_board one_pool =
-    let some_monitor : 0 < length desk.board = omega arith in let some_pool : 0 < length desk.pools = omega arith in
-    (
+    let some_monitor : 0 < length desk.board = omega arith in let some_pool : 0 < length desk.pools = omega arith in (
       subst (λ (d : DeskState). 0 < length d.board) (sym is) (still IsDeclared desk_after desk_answer takes_same desk history (Best (Has 0)) legal some_monitor),
       subst (λ (d : DeskState). 0 < length d.pools) (sym is) (still IsDeclared desk_after desk_answer takes_same desk history (Pool (Size 0)) legal some_pool),
     )

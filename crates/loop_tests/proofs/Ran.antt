@@ -2,7 +2,7 @@
 use Rattle.std.proofs.Common.{◌≡◌, List, [], ◌∷◌, ◌++◌, refl, ap, sym, subst, ◌∙◌, append_assoc, Option, None, Some}
 use Rattle.std.proofs.lemmas.List.{append-nil}
 use Rattle.best_monitor.specs.declared.port.PortStop.{PortStop}
-use Rattle.best_monitor.specs.declared.port.PortStop.TheVariants.{NoMemory, Differs}
+use Rattle.best_monitor.specs.declared.port.PortStop.TheVariants.{NoMemory}
 use Rattle.best_monitor.specs.Port.{Odds, GoesOn, StopsAsTold}
 use Rattle.parall_loop.specs.Iteration.{Next, Asks, Ends, Follows, then_comes, with_asked, Runs, CutAsTold}
 use Rattle.parall_loop.proofs.Asking.{none_asked, one_asked, more_asked}
@@ -25,7 +25,7 @@ module _ {Q R T : Type 0} where
 
   pub asked_two : (asks : List R → Next Q T) (asked : List (Q × R)) (rest : Option (List (Q × R))) (q p : Q) (r s : R) (between : List (Q × R)) (rest_between : Option (List (Q × R))) (after : List (Q × R)) (left : Option (List (Q × R))) → Asked asks asked rest ((q, r) ∷ []) between rest_between → asks (r ∷ []) ≡ Asks p → after ≡ between ++ (p, s) ∷ [] → GoesOn rest_between p s left → Asked asks asked rest ((q, r) ∷ (p, s) ∷ []) after left
   asked_two asks asked rest q p r s between rest_between after left one second are goes = record {
-    follows = (one.follows.0, second, tt);
+    follows = (one.follows.0, (second, tt));
     are = are ∙ (ap (λ l. l ++ (p, s) ∷ []) one.are ∙ append_assoc asked ((q, r) ∷ []) ((p, s) ∷ []));
     goes = more_asked ((q, r) ∷ []) ((p, s) ∷ []) rest rest_between left one.goes (one_asked rest_between p s left goes);
   }

@@ -1,6 +1,6 @@
 -- What the loop of reports asks: each iteration reports its value, with the number behind its own as its list, and ends
 -- with whether the best was replaced. Over a desk it adds the same to a pool, and ends with whether that was kept, too.
-use Rattle.std.specs.Prelude.{ℕ, ℤ, pos, ◌+ℤ◌, Bool, true, false, Option, None, Some, Result, Ok, Err, List, [], ◌∷◌, slice_get}
+use Rattle.std.specs.Prelude.{ℕ, ℤ, pos, ◌+ℤ◌, Bool, false, Option, None, Some, Result, Ok, Err, List, [], ◌∷◌, slice_get}
 use Rattle.std.specs.Option.{unwrap_or}
 use Rattle.best_monitor.specs.declared.port.PortStop.{PortStop}
 use Rattle.best_monitor.specs.declared.request.Request.{Request}

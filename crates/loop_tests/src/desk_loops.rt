@@ -102,7 +102,8 @@ fn find_all<R: Threads + Wait + Sync>(
     values.extend_from_slice(&[4, 1, 0, 1])?;
     let body = Finds { alloc, values };
     let desk = desk_of_both(alloc)?;
-    run_loop(rt, alloc, &body, &OpenGate, 4, workers, desk)
+    let left = run_loop(rt, alloc, &body, &OpenGate, 4, workers, desk)?;
+    Ok(left)
 }
 
 // Whether the desk's best is 0 with the list [3], and its pool has this as the first of two.

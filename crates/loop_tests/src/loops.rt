@@ -1,5 +1,5 @@
 //! The loop of four reports over one monitor, and a gate that shows that iterations run beside each other.
-ghost use Rattle.std.specs.Prelude.{◌≡◌, ◌<◌, ◌≤◌, length, IfOk};
+ghost use Rattle.std.specs.Prelude.{◌≡◌, ◌≤◌, length, IfOk};
 ghost use Rattle.loop_tests.specs.Asking.{asks_of, report_of, is_yes, stop_of};
 
 use best_monitor::{Board, MonitorPort, PortStop, Reply, Request};
