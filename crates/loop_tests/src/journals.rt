@@ -115,7 +115,7 @@ struct Changed {
     is_line: bool,
 }
 
-static CHANGED: [Changed; 7] = [
+static CHANGED: [Changed; 12] = [
     Changed {
         line: 2,
         text: "loop 1024",
@@ -144,6 +144,31 @@ static CHANGED: [Changed; 7] = [
     Changed {
         line: 2,
         text: "loop",
+        is_line: false,
+    },
+    Changed {
+        line: 4,
+        text: "1 has 0 -> true",
+        is_line: true,
+    },
+    Changed {
+        line: 4,
+        text: "1 has 0 -> yes",
+        is_line: false,
+    },
+    Changed {
+        line: 5,
+        text: "4 has 0 -> true",
+        is_line: false,
+    },
+    Changed {
+        line: 6,
+        text: "-1 has 0 -> true",
+        is_line: false,
+    },
+    Changed {
+        line: 6,
+        text: "",
         is_line: false,
     },
     Changed {
