@@ -1,1 +1,4 @@
+pub mod Declared
+pub mod Opened
+pub mod Ran
 pub mod Replayed

@@ -1,4 +1,4 @@
-//! What seats and threads do with turns, claims, monitors, desks and journals.
+//! What seats and threads do with turns, claims, monitors, desks, loops and journals.
 //!
 //! It has tests alone, so that the crates that they speak of are proved once and not twice.
 #![tactic(auto)]
@@ -8,7 +8,11 @@ mod answers;
 #[cfg(test)]
 mod claims;
 #[cfg(test)]
+mod desk_loops;
+#[cfg(test)]
 mod journals;
+#[cfg(test)]
+mod loops;
 #[cfg(test)]
 mod monitors;
 #[cfg(test)]

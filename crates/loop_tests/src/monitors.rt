@@ -4,10 +4,10 @@ ghost use Rattle.best_monitor.specs.declared.request.Reply.{Reply};
 ghost use Rattle.best_turn.specs.Seats.{start_of, IsSeatOf, view_of};
 ghost use Rattle.best_monitor.specs.Board.{monitor_of};
 ghost use Rattle.best_monitor.specs.declared.request.Request.{Request};
-ghost use Rattle.best_monitor.specs.Port.{StopsAsTold, GoesAstray};
+ghost use Rattle.best_monitor.specs.Port.{StopsAsTold, GoesAstray, with_all, entries_for};
 
 use crate::answers::{Answer, answer_of};
-use best_monitor::{Board, MonitorPort, PortStop, Reply, Request};
+use best_monitor::{Board, MonitorPort, PortStop, Reply, Request, SeatPort};
 use best_turn::{Front, Replays, Seat, Turn};
 use cbl_base::{NoMemory, Numbers, Text};
 use std::alloc::Global;
@@ -220,6 +220,66 @@ fn two_threads_report_and_the_least_stays(rt: HostRuntime) -> Result<(), Fail> {
     };
     assert!(rt; matches!(best, Ok(Reply::Number(2001))));
     assert_eq!(rt; calls, 2000);
+    Ok(())
+}
+
+// Asks twice, through any port.
+fn ask_twice<P: MonitorPort<Board>>(
+    port: &mut P,
+    first: Request,
+    second: Request,
+) -> Result<Reply, PortStop>
+    requires { P.takes port.old first × P.takes port.old second }
+    ensures asked { IfOk result (λ r. (x : Reply) ×
+        (P.asked port.new ≡ P.asked port.old ++ (first, x) ∷ [] ++ (second, r) ∷ [])) }
+    ensures base { P.base port.new ≡ P.base port.old }
+{
+    port.ask(first)?;
+    let reply = port.ask(second)?;
+    Ok(reply)
+}
+
+// Two iterations ask twice each, one after the other, through ports over one seat. It then made the entries of
+// the first, and behind them those of the second.
+#[tactic(auto, using(best_monitor::proofs::Asked::seat_of_base))]
+fn ask_by_two_iterations<R: Wait>(
+    rt: &R,
+    turn: &Turn<Board>,
+    seat: Seat<Board>,
+    alloc: Global,
+) -> Option<Seat<Board>>
+    requires seat { IsSeatOf turn.now seat }
+    requires declared { 0 < length (start_of turn.now) }
+    ensures seat { IfSome result (λ s. IsSeatOf turn.now s ×
+        ((view_of s).rest ≡ (view_of seat).rest) ×
+        (length (view_of s).made ≡ length (view_of seat).made)) }
+    ensures order { IfSome result (λ s. (first second : List (Request × Reply)) ×
+        ((view_of s).made ≡ with_all (entries_for 1 second)
+        (with_all (entries_for 0 first) (view_of seat).made))) }
+{
+    let mut port = SeatPort::new(rt, turn, seat, 0);
+    let one = report(alloc, 5, &[1]).ok()?;
+    ask_twice(&mut port, one, Request::Has { monitor: 0 }).ok()?;
+    let seat = port.into_seat();
+    let mut port = SeatPort::new(rt, turn, seat, 1);
+    let two = report(alloc, 4, &[2]).ok()?;
+    ask_twice(&mut port, two, Request::Value { monitor: 0 }).ok()?;
+    Some(port.into_seat())
+}
+
+#[test]
+fn a_seat_keeps_the_order_of_its_iterations(rt: HostRuntime) -> Result<(), Fail> {
+    let board = board_of_one(rt.alloc())?;
+    let (turn, seat) = Turn::make(rt.alloc(), board)?;
+    let Some(seat) = ask_by_two_iterations(&rt, &turn, seat, rt.alloc()) else {
+        return Err(Fail::new("no memory"));
+    };
+    let (_, history) = turn.close(seat);
+    let iterations: [u32; 4] = [0, 0, 1, 1];
+    assert_eq!(rt; history.len(), 4);
+    for (entry, iteration) in history.iter().zip(iterations) {
+        assert_eq!(rt; entry.iteration, iteration);
+    }
     Ok(())
 }
 
