@@ -26,11 +26,11 @@ cause_of (Stopped (Faulted place fault)) = causes.Run place fault
 cause_of (Stopped (SpentAt place)) = causes.Spent place
 cause_of (Stopped (Cyclic place names)) = causes.Cyclic place names
 
--- the cause of a run over memory that ended so, where memory may have run out; memory never fails
+-- the cause of a run that ended so, where memory may have run out or a write may have failed
 abbrev pub cause_of_run : RunEnd → Cause
 cause_of_run ends.Done = causes.Done
 cause_of_run (ends.Cyclic place names) = causes.Cyclic place names
 cause_of_run (ends.Run place fault) = causes.Run place fault
 cause_of_run (ends.Spent place) = causes.Spent place
 cause_of_run ends.NoMemory = causes.NoMemory
-cause_of_run ends.Write = causes.NoMemory
+cause_of_run ends.Write = causes.Write

@@ -89,8 +89,8 @@ impl From<RunEnd> for Cause {
             RunEnd::Cyclic(place, names) => Cause::Cyclic(place, names),
             RunEnd::Run(place, fault) => Cause::Run(place, fault),
             RunEnd::Spent(place) => Cause::Spent(place),
-            // memory never fails, so over memory no run ends by its output
-            RunEnd::NoMemory | RunEnd::Write => Cause::NoMemory,
+            RunEnd::NoMemory => Cause::NoMemory,
+            RunEnd::Write => Cause::Write,
         }
     }
 }

@@ -16,13 +16,12 @@ use crate::job::{Job, front};
 use crate::line::say;
 use crate::report::{Cause, Report};
 use cbl_base::NoMemory;
-use cbl_io::{Files, Sink, write_all};
+use cbl_io::{Files, Sink};
 use checked_tree::Checked;
 use std::alloc::Global;
 use stmt_run::outside_of_runs::{HandedIn, handed_in};
-use stmt_run::run;
 use stmt_run::standing_of_runs::Standing;
-use stmt_run::state_of_runs::Bytes;
+use stream_run::run_to_sink;
 use user_constraint::LocalConstraint;
 
 /// Runs the program whose file the words name, writes what it prints to `out`, and a line that tells why
@@ -90,8 +89,8 @@ fn begin<U: LocalConstraint>(
     Standing::new(alloc, seed, fuel, text, users)
 }
 
-/// Runs a program with this seed, this fuel, this data and these users' constraints, and writes what it printed, whatever
-/// way it ended.
+/// Runs a program with this seed, this fuel, this data and these users' constraints, and writes what it prints as it comes,
+/// whatever way it ends.
 fn run_to<O: Sink, U: LocalConstraint>(
     alloc: Global,
     program: &Checked,
@@ -117,7 +116,7 @@ fn run_to<O: Sink, U: LocalConstraint>(
     }
 }
 
-/// Runs a program from a state on, and writes what it printed, whatever way it ended.
+/// Runs a program from a state on, and writes what it prints as it comes, whatever way it ends.
 fn run_from<O: Sink, U: LocalConstraint>(
     alloc: Global,
     program: &Checked,
@@ -133,13 +132,5 @@ fn run_from<O: Sink, U: LocalConstraint>(
         (programs.run (program_of program.now) (standing_seen standing [])).printed }
     ensures write { result.status ≡ 9 → HasRisen (O.faults out.old) (O.faults out.new) }
 {
-    let printed = Bytes {
-        bytes: Vec::new(alloc),
-    };
-    let ended = run(alloc, program, standing, printed);
-    let cause = Cause::from(ended.end);
-    match write_all(out, ended.out.bytes.as_slice()) {
-        Ok(()) => Report::of(cause),
-        Err(_) => Report::of(Cause::Write),
-    }
+    Report::of(Cause::from(run_to_sink(alloc, program, standing, out)))
 }

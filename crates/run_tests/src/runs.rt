@@ -38,7 +38,7 @@ fn run_words(
     let data = b"7".to_vec(alloc)?;
     let entries = vec![in alloc; (name, text.to_vec(alloc)?), (data_name, data)]?;
     let mut files = MemFiles::new(alloc, entries, Vec::new(alloc));
-    let mut sink = MemSink::new(alloc, 4096, most, failing)?;
+    let mut sink = MemSink::new(alloc, 131_072, most, failing)?;
     let mut err = MemSink::new(alloc, 4096, 4096, Vec::new(alloc))?;
     let users: Vec<Box<dyn UserConstraint>> = Vec::new(alloc);
     let report = comet_run(alloc, words, &mut files, &mut sink, &mut err, users);
@@ -54,8 +54,15 @@ fn form_fault(cause: &Cause) -> Option<(Place, FormCause)> {
 }
 
 fn run_text(alloc: Global, text: &[u8]) -> Result<Left, Fail> {
+    run_over(alloc, text, 131_072, Vec::new(alloc))
+}
+
+/// The same over a sink that takes `most` bytes a call and fails the listed calls.
+fn run_over(alloc: Global, text: &[u8], most: usize, failing: Vec<u64>) -> Result<Left, Fail>
+    requires { 0 < most }
+{
     let words = vec![in alloc; String::from_str(alloc, "p")?]?;
-    run_words(alloc, words.as_slice(), text, 4096, Vec::new(alloc))
+    run_words(alloc, words.as_slice(), text, most, failing)
 }
 
 #[test]
@@ -77,6 +84,67 @@ fn partial_writes_and_a_failing_sink(rt: HostRuntime) -> Result<(), Fail> {
     assert!(rt; matches!(left.report.cause, Cause::Write));
     assert!(rt; left.sink.bytes() == b"10\n".as_slice());
     assert!(rt; left.err.bytes() == b"comet: cannot write\n".as_slice());
+    Ok(())
+}
+
+/// A sink that takes a byte a call has got a byte for each call before the one that fails.
+#[test]
+fn a_sink_that_fails_has_got_what_came_before(rt: HostRuntime) -> Result<(), Fail> {
+    let alloc = rt.alloc();
+    let printed = b"10\n26\n".as_slice();
+    for call in 0..7u64 {
+        let left = run_over(alloc, SQUARE, 1, vec![in alloc; call]?)?;
+        let got = printed.len().min(call as usize);
+        assert_eq!(rt; left.report.status, if got < printed.len() { 9 } else { 0 });
+        assert!(rt; left.sink.bytes() == &printed[..got]);
+    }
+    Ok(())
+}
+
+/// A program whose output has so many bytes and is written in so many calls.
+struct Block {
+    text: &'static [u8],
+    bytes: usize,
+    calls: u64,
+}
+
+/// A full buffer is written at once, and what is left at the end, also where the run ends by a fault.
+static BLOCKS: [Block; 4] = [
+    Block {
+        text: b"int n = 0; while (n < 8192) { cout << \"12345678\"; n++; }",
+        bytes: 65_536,
+        calls: 1,
+    },
+    Block {
+        text: b"int n = 0; while (n < 8192) { cout << \"12345678\"; n++; } cout << 9;",
+        bytes: 65_537,
+        calls: 2,
+    },
+    Block {
+        text: b"int n = 0; while (n < 8192) { cout << \"12345678\"; n++; } cout << 9; n = 1 / 0;",
+        bytes: 65_537,
+        calls: 2,
+    },
+    Block {
+        text: b"",
+        bytes: 0,
+        calls: 0,
+    },
+];
+
+#[test]
+fn output_is_written_in_blocks(rt: HostRuntime) -> Result<(), Fail> {
+    let alloc = rt.alloc();
+    for block in &BLOCKS {
+        let left = run_over(alloc, block.text, 131_072, vec![in alloc; block.calls]?)?;
+        assert!(rt; left.report.status != 9);
+        assert_eq!(rt; left.sink.bytes().len(), block.bytes);
+        if let Some(last) = block.calls.checked_sub(1) {
+            let left = run_over(alloc, block.text, 131_072, vec![in alloc; last]?)?;
+            assert_eq!(rt; left.report.status, 9);
+            assert_eq!(rt; left.sink.bytes().len(), 65_536 * last as usize);
+        }
+    }
     Ok(())
 }
 

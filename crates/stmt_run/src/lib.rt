@@ -8,7 +8,6 @@ mod counted;
 mod execution;
 pub mod outside_of_runs;
 pub mod standing_of_runs;
-pub mod state_of_runs;
 
 pub use counted::CountedOut;
 pub use execution::{Ended, RunEnd, run};
