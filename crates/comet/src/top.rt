@@ -18,6 +18,7 @@ use crate::report::{Cause, Report};
 use cbl_base::NoMemory;
 use cbl_io::{Files, Sink};
 use checked_tree::Checked;
+use node_kinds::SolverNode;
 use std::alloc::Global;
 use stmt_run::outside_of_runs::{HandedIn, handed_in};
 use stmt_run::standing_of_runs::Standing;
@@ -77,13 +78,13 @@ fn refuse<E: Sink>(cause: Cause, err: &mut E) -> Report
 }
 
 /// The start of a run with this seed, this fuel, this data and these users' constraints.
-fn begin<U: LocalConstraint>(
+fn begin<N: SolverNode>(
     alloc: Global,
     seed: u64,
     fuel: u64,
     text: Vec<u8>,
-    users: Vec<HandedIn<U>>,
-) -> Standing<U>
+    users: Vec<HandedIn<N>>,
+) -> Standing<N>
     ensures { standing_seen result [] ≡ start_with users.items seed fuel text.items }
 {
     Standing::new(alloc, seed, fuel, text, users)
@@ -117,10 +118,10 @@ fn run_to<O: Sink, U: LocalConstraint>(
 }
 
 /// Runs a program from a state on, and writes what it prints as it comes, whatever way it ends.
-fn run_from<O: Sink, U: LocalConstraint>(
+fn run_from<O: Sink, N: SolverNode>(
     alloc: Global,
     program: &Checked,
-    standing: Standing<U>,
+    standing: Standing<N>,
     out: &mut O,
 ) -> Report
     ensures status { result.status ≡ status_of result.cause }

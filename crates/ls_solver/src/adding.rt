@@ -14,12 +14,12 @@ ghost use Rattle.term_model.specs.Subterms.{distinct_subterms};
 use crate::fault::SolverFault;
 use crate::solver::Solver;
 use cbl_base::{NoMemory, RunFault};
+use node_kinds::SolverNode;
 use solver_models::{ObjectiveId, SystemId, TotalId, names_given, push_member};
 use term_count::Subterms;
 use term_model::{Member, Term};
-use user_constraint::LocalConstraint;
 
-impl<U: LocalConstraint> Solver<U> {
+impl<N: SolverNode> Solver<N> {
     /// Whether a system or an objective, and all variables in a term, are this solver's.
     fn owns_member(&self, k: TotalId, term: &Term) -> bool
         ensures { result ≡ is_own_member self.now k term.now }

@@ -12,11 +12,11 @@ ghost use Rattle.term_model.specs.Wellformed.{HasDefinedSets};
 
 use crate::solver::Solver;
 use cbl_base::{NoMemory, VarId};
+use node_kinds::SolverNode;
 use solver_models::{are_marked_or_numbers, holds_user, is_number, is_of_kind};
 use term_model::{Term, VarKind, kind_at, term_kind};
-use user_constraint::LocalConstraint;
 
-impl<U: LocalConstraint> Solver<U> {
+impl<N: SolverNode> Solver<N> {
     /// The kind of a variable. `None` exactly where it isn't this solver's.
     pub fn kind(&self, x: VarId) -> Option<VarKind>
         ensures { option_map kind_of_var result ≡ own_kind self.now x }

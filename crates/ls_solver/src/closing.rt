@@ -8,10 +8,10 @@ use crate::fault::SolverFault;
 use crate::solver::Solver;
 use cbl_base::{NoMemory, RunFault};
 use model_values::ModelStop;
-use solver_models::{cycle_of, settled};
-use user_constraint::LocalConstraint;
+use node_kinds::SolverNode;
+use solver_models::{cycle_of, settled_first};
 
-impl<U: LocalConstraint> Solver<U> {
+impl<N: SolverNode> Solver<N> {
     /// Closes the solver, and evaluates all. Refused with `AlreadyClosed`. `Cyclic` comes exactly where variables depend
     /// on one another in a circle, and names the cycle that begins at the least variable on one, is shortest, and is
     /// first in the order of lists; with both the solver is as before. `At` is exactly the fault of the whole model,
@@ -44,7 +44,7 @@ impl<U: LocalConstraint> Solver<U> {
         requires acyclic { IsAcyclic self.old.model }
         ensures { Closes self.old self.new result }
     {
-        match settled(self.alloc, &mut self.users, &self.model, &self.assignment) {
+        match settled_first(self.alloc, &mut self.users, &self.model, &self.assignment) {
             Ok(values) => {
                 self.values = values;
                 self.closed = true;

@@ -11,11 +11,11 @@ use crate::solver::Solver;
 use cbl_base::{RunFault, Steps, VarId};
 use ls_events::VarChange;
 use model_values::ModelStop;
+use node_kinds::SolverNode;
 use solver_models::{Told, any_marked, are_moves_given, tell, write_moves};
 use std::sync::ledger::Ledger;
-use user_constraint::LocalConstraint;
 
-impl<U: LocalConstraint> Solver<U> {
+impl<N: SolverNode> Solver<N> {
     /// Why these moves can't be committed.
     fn commit_refusal(&self, moves: &[(VarId, i64)]) -> Option<RunFault>
         ensures { result ≡ commit_refusal self.now moves.now }

@@ -10,11 +10,11 @@ use crate::fault::SolverFault;
 use crate::solver::Solver;
 use cbl_base::limits::MAX_VARIABLES;
 use cbl_base::{Limit, NoMemory, RunFault, VarId};
+use node_kinds::SolverNode;
 use solver_models::push_variable;
 use term_model::{VarDecl, VarKind};
-use user_constraint::LocalConstraint;
 
-impl<U: LocalConstraint> Solver<U> {
+impl<N: SolverNode> Solver<N> {
     /// Why there can't be one more variable.
     fn variable_refusal(&self) -> Option<RunFault>
         ensures { result ≡ variable_refusal self.now }

@@ -12,13 +12,13 @@ use crate::fault::SolverFault;
 use crate::solver::Solver;
 use cbl_base::limits::{MAX_TERM_DEPTH, MAX_TERM_NODES};
 use cbl_base::{Limit, NoMemory, RunFault, VarId};
+use node_kinds::SolverNode;
 use solver_models::{counted_with, defines_given, is_within, mark, mark_at, push_definition};
 use std::mem;
 use term_count::Subterms;
 use term_model::{Definition, Term};
-use user_constraint::LocalConstraint;
 
-impl<U: LocalConstraint> Solver<U> {
+impl<N: SolverNode> Solver<N> {
     /// Why a variable can't have a definition, whatever the size of its term.
     pub fn early_refusal(&self, x: VarId, term: &Term) -> Option<RunFault>
         ensures { result ≡ early_refusal self.now x term.now }

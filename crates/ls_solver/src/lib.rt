@@ -25,6 +25,7 @@ mod restoring;
 mod solver;
 mod totals;
 mod trial;
+mod user_posting;
 
 pub use fault::SolverFault;
 pub use solver::{BoxSolver, Solver};

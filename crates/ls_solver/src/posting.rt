@@ -1,9 +1,9 @@
-//! Users' constraints of systems.
+//! The nodes of users' constraints of systems.
 ghost use Rattle.std.specs.Prelude.{◌≡◌, ◌<◌, true, false, None, Some, [], ◌∷◌, length, vec_capacity, vec_len, IfErr, IfOk, OnOk, OnErr};
 ghost use Rattle.std.specs.List.{All};
 ghost use Rattle.cbl_base.specs.Inputs.{number_kind};
 ghost use Rattle.ls_solver.specs.Answers.{AnswersBack};
-ghost use Rattle.posted_users.specs.KeptRule.{kept};
+ghost use Rattle.posted_users.specs.KeptOf.{IsUserRule, kept_of};
 ghost use Rattle.solver_models.specs.Adding.{GetsMember, early_member_refusal, is_own_member, member_refusal};
 ghost use Rattle.solver_models.specs.Defining.{distinct_with, is_too_deep};
 ghost use Rattle.solver_models.specs.State.{IsSameModel, IsUnchanged};
@@ -18,15 +18,15 @@ ghost use Rattle.term_model.specs.Subterms.{distinct_subterms};
 use crate::fault::SolverFault;
 use crate::solver::Solver;
 use cbl_base::{NoMemory, Place};
-use posted_users::{PostedUsers, reset_to_zeros};
+use node_kinds::SolverNode;
+use posted_users::{PostedUsers, zeros};
 use solver_models::{SystemId, TotalId, push_member};
 use std::alloc::Global;
 use term_count::Subterms;
 use term_model::{Member, Model, Op, Term};
-use user_constraint::LocalConstraint;
 
 /// The node of the user's constraint with a number over its places.
-fn user_term(number: u32, places: Vec<Term>) -> Term
+pub(crate) fn user_term(number: u32, places: Vec<Term>) -> Term
     ensures { result ≡ user_term number places }
 {
     Term::Node {
@@ -36,31 +36,26 @@ fn user_term(number: u32, places: Vec<Term>) -> Term
     }
 }
 
-/// Resets a user's constraint to so many zeros, and makes room for it.
-fn make_ready<U: LocalConstraint>(
+/// So many zeros, and room for the node of a user's constraint.
+fn make_ready<N: SolverNode>(
     alloc: Global,
-    users: &mut PostedUsers<U>,
-    user: &mut U,
+    users: &mut PostedUsers<N>,
     count: usize,
 ) -> Result<Vec<i64>, NoMemory>
     ensures same { users.new.posted.items ≡ users.old.posted.items }
     ensures room { OnOk result (vec_len users.new.posted < vec_capacity users.new.posted) }
-    ensures usable { OnOk result (U.usable user.new) }
-    ensures held { IfOk result (λ v. U.held user.new ≡ v.items) }
-    ensures rule { U.user_rule user.new ≡ U.user_rule user.old }
-    ensures name { U.user_name user.new ≡ U.user_name user.old }
 {
-    let numbers = reset_to_zeros(alloc, user, count)?;
+    let numbers = zeros(alloc, count)?;
     users.reserve()?;
     Ok(numbers)
 }
 
-/// Makes a user's constraint ready, and puts its member behind the others. With `NoMemory` the model is as before.
-fn put_node<U: LocalConstraint>(
+/// Makes room for the node of a user's constraint, and puts its member behind the others. Gives the numbers that the node is
+/// to hold first. With `NoMemory` the model is as before.
+pub(crate) fn put_place<N: SolverNode>(
     alloc: Global,
-    users: &mut PostedUsers<U>,
+    users: &mut PostedUsers<N>,
     model: &mut Model,
-    user: &mut U,
     count: usize,
     k: TotalId,
     member: Member,
@@ -70,20 +65,16 @@ fn put_node<U: LocalConstraint>(
     ensures err { OnErr result (IsSameModel model.old model.new) }
     ensures same { users.new.posted.items ≡ users.old.posted.items }
     ensures room { OnOk result (vec_len users.new.posted < vec_capacity users.new.posted) }
-    ensures usable { OnOk result (U.usable user.new) }
-    ensures held { IfOk result (λ v. U.held user.new ≡ v.items) }
-    ensures rule { U.user_rule user.new ≡ U.user_rule user.old }
-    ensures name { U.user_name user.new ≡ U.user_name user.old }
 {
-    let numbers = make_ready(alloc, users, user, count)?;
+    let numbers = make_ready(alloc, users, count)?;
     push_member(alloc, model, k.side, k.index, member)?;
     Ok(numbers)
 }
 
-impl<U: LocalConstraint> Solver<U> {
+impl<N: SolverNode> Solver<N> {
     /// The number of the next user's constraint.
     #[tactic(auto, using(crate::proofs::UserLaws::rules_count))]
-    fn next_user(&self) -> Result<u32, NoMemory>
+    pub(crate) fn next_user(&self) -> Result<u32, NoMemory>
         ensures { IfOk result (λ number. number ≡ length self.now.rules) }
     {
         let count = self.users.posted.len();
@@ -93,19 +84,20 @@ impl<U: LocalConstraint> Solver<U> {
         Ok(count as u32)
     }
 
-    /// Posts a user's constraint over its places to a system, with a weight: as a node that carries the next number. The
-    /// constraint is reset to zeros, as many as it has places. Refused as `post`; with any refusal the solver is as before,
-    /// and the constraint is handed back.
+    /// Posts the node of a user's constraint over its places to a system, with a weight: under the next number. Its rule is
+    /// that of what the solver keeps of it. The solver resets it when it is closed. Refused as `post`; with any refusal the
+    /// solver is as before, and the node is handed back.
     ///
     /// The places must be numbers, and hold no user's constraint.
-    pub fn post_user(
+    pub fn post_node(
         &mut self,
         s: SystemId,
-        user: U,
+        node: N,
         places: Vec<Term>,
         weight: i64,
-    ) -> Result<(), (SolverFault, U)>
+    ) -> Result<(), (SolverFault, N)>
         requires usable { self.old.usable ≡ true }
+        requires rule { IsUserRule (N.NodeRule.rule node) }
         requires kinds { is_own_member self.old (of_system s)
             (user_term (length self.old.rules) places) ≡ true →
             All (λ t. kind_of_term (kinds_in self.old.model.vars.items) t ≡
@@ -115,54 +107,54 @@ impl<U: LocalConstraint> Solver<U> {
             (user_term (length self.old.rules) places) weight) result }
         ensures posted { OnOk result (AddsUser self.old self.new (of_system s)
             (record { term = user_term (length self.old.rules) places; weight = weight })
-            (kept (U.user_rule user))) }
+            (kept_of (N.NodeRule.rule node))) }
         ensures kept { OnErr result (IsUnchanged self.old self.new) }
-        ensures rule { IfErr result (λ back. U.user_rule back.1 ≡ U.user_rule user) }
-        ensures name { IfErr result (λ back. U.user_name back.1 ≡ U.user_name user) }
+        ensures back { IfErr result (λ back. back.1 ≡ node) }
     {
         let Ok(number) = self.next_user() else {
-            return Err((SolverFault::NoMemory, user));
+            return Err((SolverFault::NoMemory, node));
         };
         let count = places.len();
         let term = user_term(number, places);
-        self.post_member(TotalId::of_system(s), user, count, Member { term, weight })
+        self.post_member(TotalId::of_system(s), node, count, Member { term, weight })
     }
 
     /// The same of a member, whose node has so many places.
     fn post_member(
         &mut self,
         k: TotalId,
-        user: U,
+        node: N,
         count: usize,
         member: Member,
-    ) -> Result<(), (SolverFault, U)>
+    ) -> Result<(), (SolverFault, N)>
         requires usable { self.old.usable ≡ true }
+        requires rule { IsUserRule (N.NodeRule.rule node) }
         requires kind { is_own_member self.old k member.term ≡ true →
             kind_of_term (kinds_in self.old.model.vars.items) member.term ≡ Some number_kind }
         requires users { users_of member.term ≡ length self.old.rules ∷ [] }
         ensures answer { AnswersBack (member_refusal self.old k member.term member.weight) result }
         ensures posted { OnOk result (AddsUser self.old self.new k member
-            (kept (U.user_rule user))) }
+            (kept_of (N.NodeRule.rule node))) }
         ensures kept { OnErr result (IsUnchanged self.old self.new) }
-        ensures rule { IfErr result (λ back. U.user_rule back.1 ≡ U.user_rule user) }
-        ensures name { IfErr result (λ back. U.user_name back.1 ≡ U.user_name user) }
+        ensures back { IfErr result (λ back. back.1 ≡ node) }
     {
         match self.admit(k, &member) {
-            Ok(counted) => self.put_user(k, user, count, member, counted),
-            Err(fault) => Err((fault, user)),
+            Ok(counted) => self.put_node(k, node, count, member, counted),
+            Err(fault) => Err((fault, node)),
         }
     }
 
-    /// Resets a user's constraint, and puts it behind the others, with the distinct subterms then.
-    fn put_user(
+    /// Puts the node of a user's constraint behind the others, with the distinct subterms then.
+    fn put_node(
         &mut self,
         k: TotalId,
-        user: U,
+        node: N,
         count: usize,
         member: Member,
         counted: Subterms,
-    ) -> Result<(), (SolverFault, U)>
+    ) -> Result<(), (SolverFault, N)>
         requires usable { self.old.usable ≡ true }
+        requires rule { IsUserRule (N.NodeRule.rule node) }
         requires early { early_member_refusal self.old k member.term member.weight ≡ None }
         requires shallow { is_too_deep member.term ≡ false }
         requires kind { kind_of_term (kinds_in self.old.model.vars.items) member.term ≡
@@ -172,28 +164,25 @@ impl<U: LocalConstraint> Solver<U> {
             (distinct_with (distinct_subterms self.old.model) member.term) }
         ensures answer { AnswersBack None result }
         ensures posted { OnOk result (AddsUser self.old self.new k member
-            (kept (U.user_rule user))) }
+            (kept_of (N.NodeRule.rule node))) }
         ensures kept { OnErr result (IsUnchanged self.old self.new) }
-        ensures rule { IfErr result (λ back. U.user_rule back.1 ≡ U.user_rule user) }
-        ensures name { IfErr result (λ back. U.user_name back.1 ≡ U.user_name user) }
+        ensures back { IfErr result (λ back. back.1 ≡ node) }
     {
-        let mut user = user;
-        let put = put_node(
+        let put = put_place(
             self.alloc,
             &mut self.users,
             &mut self.model,
-            &mut user,
             count,
             k,
             member,
         );
         match put {
             Ok(numbers) => {
-                self.users.push_reserved(self.alloc, user, numbers);
+                self.users.push_reserved(self.alloc, node, numbers);
                 self.terms = Some(counted);
                 Ok(())
             }
-            Err(NoMemory) => Err((SolverFault::NoMemory, user)),
+            Err(NoMemory) => Err((SolverFault::NoMemory, node)),
         }
     }
 }

@@ -11,10 +11,10 @@ ghost use Rattle.term_model.specs.Kinds.{kinds_in};
 use crate::fault::SolverFault;
 use crate::solver::Solver;
 use cbl_base::{IntSet, RunFault, VarId};
+use node_kinds::SolverNode;
 use solver_models::{is_given, mark_at, number_at, number_in, set_in};
-use user_constraint::LocalConstraint;
 
-impl<U: LocalConstraint> Solver<U> {
+impl<N: SolverNode> Solver<N> {
     /// Whether a variable is this solver's.
     pub fn owns(&self, x: VarId) -> bool
         ensures { result ≡ is_own self.now x }

@@ -12,9 +12,9 @@ use crate::solver::Solver;
 use crate::trial::Trial;
 use cbl_base::{RunFault, Steps, VarId};
 use model_values::{AskStop, Move};
+use node_kinds::SolverNode;
 use solver_models::{ObjectiveId, SystemId, TotalId, are_given, total_delta, violations_in};
 use std::sync::ledger::Ledger;
-use user_constraint::LocalConstraint;
 
 /// The same answer as a solver gives it.
 fn reply_of(answer: Result<i64, AskStop>) -> Result<i64, SolverFault>
@@ -28,7 +28,7 @@ fn reply_of(answer: Result<i64, AskStop>) -> Result<i64, SolverFault>
     }
 }
 
-impl<U: LocalConstraint> Solver<U> {
+impl<N: SolverNode> Solver<N> {
     /// Where deltas are tried out.
     pub fn trial(&self) -> Trial
         requires { self.now.usable ≡ true }

@@ -8,11 +8,11 @@ use crate::fault::SolverFault;
 use crate::solver::Solver;
 use cbl_base::{NoMemory, Numbers, RunFault, Steps};
 use ls_events::{Solution, VarChange};
+use node_kinds::SolverNode;
 use solver_models::{free_count, free_moves, free_numbers};
 use std::sync::ledger::Ledger;
-use user_constraint::LocalConstraint;
 
-impl<U: LocalConstraint> Solver<U> {
+impl<N: SolverNode> Solver<N> {
     /// The values of all free variables, in order of declaration. Refused with `NotClosed` where the solver is open.
     pub fn snapshot(&self) -> Result<Solution, SolverFault>
         requires { self.now.usable ≡ true }

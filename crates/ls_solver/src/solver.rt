@@ -4,22 +4,22 @@ ghost use Rattle.solver_models.specs.State.{IsNew};
 ghost use Rattle.term_model.specs.Wellformed.{IsWellFormed};
 
 use model_values::Values;
+use node_kinds::{Kind, SolverNode};
 use posted_users::PostedUsers;
 use std::alloc::Global;
 use std::marker::Model;
 use term_count::Subterms;
-use user_constraint::{LocalConstraint, UserConstraint};
 
 /// A solver: its number, a model, an assignment with a number for each variable, the rules of its users' constraints,
 /// whether it is closed, and whether it may still be used. It is seen as these. Every call but `usable` needs that it may.
 #[derive(Drop)]
-pub struct Solver<U: LocalConstraint> {
+pub struct Solver<N: SolverNode> {
     pub(crate) alloc: Global,
     pub(crate) number: u32,
     pub(crate) model: term_model::Model,
     pub(crate) assignment: Vec<i64>,
     /// The users' constraints that were posted.
-    pub(crate) users: PostedUsers<U>,
+    pub(crate) users: PostedUsers<N>,
     /// Whether each variable has a definition.
     pub(crate) marks: Vec<bool>,
     /// The distinct subterms of the model; none where a count was broken off.
@@ -30,7 +30,7 @@ pub struct Solver<U: LocalConstraint> {
     pub(crate) usable: bool,
 }
 
-impl<U: LocalConstraint> Model for Solver<U> {
+impl<N: SolverNode> Model for Solver<N> {
     ghost use Rattle.solver_models.specs.State.{SolverState};
 
     ghost Value = { SolverState };
@@ -52,7 +52,7 @@ impl<U: LocalConstraint> Model for Solver<U> {
 }
 
 /// The solver whose users' constraints come in boxes.
-pub type BoxSolver = Solver<Box<dyn UserConstraint>>;
+pub type BoxSolver = Solver<Kind>;
 
 /// A model of nothing.
 fn empty_model(alloc: Global) -> term_model::Model
@@ -80,10 +80,10 @@ fn no_values(alloc: Global) -> Values {
     }
 }
 
-impl<U: LocalConstraint> Solver<U> {
+impl<N: SolverNode> Solver<N> {
     /// A solver without variables, which is open. Its ids carry its number.
     #[tactic(auto, using(crate::proofs::UserLaws::no_rules, crate::proofs::UserLaws::empty_with))]
-    pub fn new(alloc: Global, number: u32) -> Solver<U>
+    pub fn new(alloc: Global, number: u32) -> Solver<N>
         ensures { IsNew number result }
     {
         Solver {

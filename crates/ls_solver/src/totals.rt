@@ -10,11 +10,11 @@ ghost use Rattle.term_model.specs.declared.posting.Side.TheVariants.{Systems, Ob
 use crate::fault::SolverFault;
 use crate::solver::Solver;
 use cbl_base::{NoMemory, Place, RunFault};
+use node_kinds::SolverNode;
 use solver_models::{ObjectiveId, SystemId, TotalId, number_at, push_total, totals_in};
 use term_model::{Side, totals_by};
-use user_constraint::LocalConstraint;
 
-impl<U: LocalConstraint> Solver<U> {
+impl<N: SolverNode> Solver<N> {
     /// Whether a system or an objective is this solver's.
     pub fn owns_total(&self, k: TotalId) -> bool
         ensures { result ≡ is_own_total self.now k }

@@ -4,7 +4,8 @@ use Rattle.std.specs.Prelude.{ℕ, pos, Bool, true, false, Option, Some, None, O
 use Rattle.cbl_base.specs.NumberRule.{NumberRule}
 use Rattle.cbl_operations.specs.declared.op.Op.{Op}
 use Rattle.cbl_operations.specs.declared.op.Op.TheVariants.{User}
-use Rattle.user_constraint.specs.UserRule.{UserRule, rule_of_user}
+use Rattle.user_constraint.specs.KeptRule.{kept, rule_of_kept}
+use Rattle.user_constraint.specs.UserRule.{UserRule}
 
 -- whether it is a user's constraint
 abbrev pub is_user : Op → Bool
@@ -19,7 +20,7 @@ no_rule = record {
   violation_at = λ _ _. pos 0;
 }
 
--- every user's constraint is the one that is handed in
+-- every user's constraint is the one that is handed in, by what is kept of its rule
 abbrev pub users_of : Option UserRule → ℕ → NumberRule
-users_of (Some rule) number = rule_of_user rule
+users_of (Some rule) number = rule_of_kept (kept rule)
 users_of None number = no_rule

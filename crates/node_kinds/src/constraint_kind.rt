@@ -10,12 +10,12 @@ use diff_global::{AllDifferent, Cardinality, Demand};
 use diff_load_seq::{Knapsack, MultiKnapsack, Sequence};
 use node_base::{NumberChange, NumberNode};
 use std::alloc::Global;
-use user_constraint::{UserConstraint, UserNode};
+use user_constraint::{LocalConstraint, UserNode};
 
 /// The node of a constraint, of a total or of a repeat. Its rule is that of the node inside. `U` is what
 /// users' constraints are.
 #[derive(Drop)]
-pub enum ConstraintKind<U: UserConstraint> {
+pub enum ConstraintKind<U: LocalConstraint> {
     AllDifferent(AllDifferent),
     Cardinality(Cardinality),
     Knapsack(Knapsack),
@@ -29,7 +29,7 @@ pub enum ConstraintKind<U: UserConstraint> {
     User(UserNode<U>),
 }
 
-impl<U: UserConstraint> ConstraintKind<U> {
+impl<U: LocalConstraint> ConstraintKind<U> {
     /// The node of a constraint. `NoMemory` where there is none for it.
     pub fn of(alloc: Global, constraint: &Constraint) -> Result<ConstraintKind<U>, NoMemory>
         ensures { IfOk result (λ kind. ⟦<ConstraintKind<U> as NumberNode>⟧.number_rule kind ≡
@@ -92,7 +92,7 @@ impl<U: UserConstraint> ConstraintKind<U> {
     }
 }
 
-impl<U: UserConstraint> NumberNode for ConstraintKind<U> {
+impl<U: LocalConstraint> NumberNode for ConstraintKind<U> {
     ghost use Rattle.node_kinds.specs.declared.constraint_kind.ConstraintKind.TheVariants.{AllDifferent, Cardinality, Knapsack, MultiKnapsack, Sequence, Relation, AllOf, AnyOf, OfOne, Total, User};
 
     ghost number_rule = { elim [

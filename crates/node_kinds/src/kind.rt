@@ -6,11 +6,11 @@ use cbl_base::{Change, Input, NoMemory, NodeFault, NodeRule, NodeValue, RunFault
 use node_base::{NumberNode, OverNumbers};
 use node_order::ArgExtreme;
 use node_set::{Card, Member, SetOf, TwoSets};
-use user_constraint::UserConstraint;
+use user_constraint::{LocalConstraint, UserConstraint};
 
 /// A node of some kind. Its rule is that of the node inside. `U` is what users' constraints are.
 #[derive(Drop)]
-pub enum KindOf<U: UserConstraint> {
+pub enum KindOf<U: LocalConstraint> {
     Constant(Constant),
     Operation(OverNumbers<OperationKind>),
     Constraint(OverNumbers<ConstraintKind<U>>),
@@ -24,7 +24,7 @@ pub enum KindOf<U: UserConstraint> {
 /// A node of some kind, where users' constraints are boxed.
 pub type Kind = KindOf<Box<dyn UserConstraint>>;
 
-impl<U: UserConstraint> NodeRule for KindOf<U> {
+impl<U: LocalConstraint> NodeRule for KindOf<U> {
     ghost use Rattle.std.specs.Prelude.{[]};
     ghost use Rattle.node_kinds.specs.ConstantRule.{rule_of_constant};
     ghost use Rattle.node_kinds.specs.declared.kind.KindOf.TheVariants.{Constant, Operation, Constraint, SetOf, ArgExtreme, TwoSets, Card, Member};

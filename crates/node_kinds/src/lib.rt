@@ -11,8 +11,10 @@ mod constraint_kind;
 mod kind;
 mod making;
 mod operation_kind;
+mod solver_node;
 
 pub use constant::Constant;
 pub use constraint_kind::ConstraintKind;
 pub use kind::{Kind, KindOf};
 pub use operation_kind::OperationKind;
+pub use solver_node::SolverNode;

@@ -8,6 +8,7 @@ ghost use Rattle.cbl_operations.specs.Keyed.{rule_of_keyed};
 ghost use Rattle.cbl_operations.specs.RuleOf.{rule_of};
 ghost use Rattle.node_kinds.specs.ConstantRule.{rule_of_constant};
 ghost use Rattle.node_kinds.specs.OpNodes.{is_user, users_of};
+ghost use Rattle.user_constraint.specs.KeptRule.{kept, rule_of_kept};
 
 use crate::constant::Constant;
 use crate::constraint_kind::ConstraintKind;
@@ -22,9 +23,9 @@ use node_num::{Binary, Unary};
 use node_order::ArgExtreme;
 use node_set::{Card, Member, SetOf, TwoSets};
 use std::alloc::Global;
-use user_constraint::{UserConstraint, UserNode};
+use user_constraint::{LocalConstraint, UserNode};
 
-impl<U: UserConstraint> KindOf<U> {
+impl<U: LocalConstraint> KindOf<U> {
     /// A node without inputs that always has this value.
     pub fn constant(value: NodeValue) -> KindOf<U>
         ensures { ⟦<KindOf<U> as NodeRule>⟧.rule result ≡ rule_of_constant value }
@@ -49,6 +50,14 @@ impl<U: UserConstraint> KindOf<U> {
         KindOf::constraint(alloc, ConstraintKind::OfOne(OfOne::repeat()))
     }
 
+    /// The node of a user's constraint: its rule is what is kept of the constraint's.
+    pub fn user(alloc: Global, user: U) -> KindOf<U>
+        ensures { ⟦<KindOf<U> as NodeRule>⟧.rule result ≡
+            rule_of_numbers (rule_of_kept (kept (U.user_rule user))) }
+    {
+        KindOf::constraint(alloc, ConstraintKind::User(UserNode::new(alloc, user)))
+    }
+
     /// The node of an operation or a constraint. A user's constraint is the one that is handed in, which is
     /// there exactly where the operation is one.
     pub fn of(alloc: Global, op: &Op, user: Option<U>) -> Result<KindOf<U>, NoMemory>
@@ -57,16 +66,13 @@ impl<U: UserConstraint> KindOf<U> {
             rule_of (users_of (option_map U.user_rule user)) op.now) }
     {
         match user {
-            Some(user) => Ok(KindOf::constraint(
-                alloc,
-                ConstraintKind::User(UserNode::new(alloc, user)),
-            )),
+            Some(user) => Ok(KindOf::user(alloc, user)),
             None => KindOf::of_named(alloc, op),
         }
     }
 
     /// The node of an operation or a constraint that isn't a user's.
-    fn of_named(alloc: Global, op: &Op) -> Result<KindOf<U>, NoMemory>
+    pub(crate) fn of_named(alloc: Global, op: &Op) -> Result<KindOf<U>, NoMemory>
         requires { is_user op.now ≡ false }
         ensures { IfOk result (λ kind. ⟦<KindOf<U> as NodeRule>⟧.rule kind ≡
             rule_of (users_of None) op.now) }

@@ -5,7 +5,7 @@ ghost use Rattle.node_table.specs.Zeros.{zeros, zeros_at};
 
 use cbl_base::NoMemory;
 use std::alloc::Global;
-use user_constraint::UserConstraint;
+use user_constraint::{LocalConstraint, UserConstraint};
 
 /// The numbers, of which none is to be 0.
 #[derive(Drop)]
@@ -63,6 +63,44 @@ impl UserConstraint for NoZeros {
 
     fn place_violation(&self, place: usize) -> i64 {
         zeros_in(&[self.list[place]])
+    }
+}
+
+/// As it is, without a box, it says the same.
+impl LocalConstraint for NoZeros {
+    ghost use Rattle.std.specs.Prelude.{codes};
+    ghost use Rattle.node_table.specs.Zeros.{no_zeros};
+
+    ghost user_rule = { λ _. no_zeros };
+
+    ghost user_name = { λ _. codes "nozeros" };
+
+    ghost usable = { λ _. Unit {0} };
+
+    ghost held = { λ s. s.list.items };
+
+    fn name(&self) -> &str {
+        UserConstraint::name(self)
+    }
+
+    fn reset(&mut self, values: &[i64]) -> Result<(), NoMemory> {
+        UserConstraint::reset(self, values)
+    }
+
+    fn assign(&mut self, place: usize, value: i64) -> Result<(), NoMemory> {
+        UserConstraint::assign(self, place, value)
+    }
+
+    fn violations(&self) -> i64 {
+        UserConstraint::violations(self)
+    }
+
+    fn probe(&self, moves: &[(usize, i64)]) -> Result<i64, NoMemory> {
+        UserConstraint::probe(self, moves)
+    }
+
+    fn place_violation(&self, place: usize) -> i64 {
+        UserConstraint::place_violation(self, place)
     }
 }
 

@@ -7,7 +7,7 @@ use Rattle.std.specs.Coded.{Coded, Coded-set, coded_list, coded_ℕ, Π_prop}
 use mathlib.Core.Path.{path_j}
 use mathlib.Core.Logic.{inl, inr}
 use base.Stored.{coded_via}
-use Rattle.posted_users.specs.KeptRule.{KeptRule, half, is_below, is_kept, is_list_of, most, size_of}
+use Rattle.user_constraint.specs.KeptRule.{KeptRule, half, is_below, is_kept, is_list_of, most, size_of}
 
 -- ---- membership, by recursion
 abbrev Has : {X : Type 0} → List X → X → Type 0
@@ -128,6 +128,10 @@ same_rule f n g e = path_j (λ (h : List ℤ → List ℕ) (_ : f ≡ h). (m : T
 
 pub told_apart : (r s : KeptRule) → told_all r ≡ told_all s → r ≡ s
 told_apart r s e = same_rule r.told r.nothing s.told (told_same r s e) s.nothing
+
+-- rules that tell the same are the same
+pub told_alike : (r s : KeptRule) → ((xs : List ℤ) → r.told xs ≡ s.told xs) → r ≡ s
+told_alike r s e = same_rule r.told r.nothing s.told (λ i xs. e xs i) s.nothing
 
 abbrev pub rule_code : Coded KeptRule
 rule_code = coded_via (coded_list (coded_list coded_ℕ)) told_all told_apart

@@ -1,10 +1,9 @@
--- What is seen of a user's constraint that was posted: the numbers that it holds, and what is kept of its rule. A rule of
--- this project.
+-- What is seen of a user's constraint that was posted: the numbers that it holds, or is to hold first, and what is kept of
+-- its rule. A rule of this project.
 use Rattle.std.specs.Prelude.{ℕ, ℤ, pos, List, map, replicate, refl}
 use Rattle.std.specs.Coded.{Coded, code_by, coded×, coded_list, coded_ℤ}
 use Rattle.posted_users.specs.KeptCode.{rule_code}
-use Rattle.posted_users.specs.KeptRule.{KeptRule, kept}
-use Rattle.user_constraint.specs.UserRule.{UserRule}
+use Rattle.user_constraint.specs.KeptRule.{KeptRule}
 
 pub record PostedState : Type 0 where
   pub held : List ℤ

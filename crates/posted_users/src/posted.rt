@@ -1,121 +1,94 @@
 //! A user's constraint that was posted.
-ghost use Rattle.std.specs.Prelude.{◌≡◌, ◌<◌, length, pos, replicate, slice_set, IfOk, OnOk};
-ghost use Rattle.posted_users.specs.KeptRule.{kept};
+ghost use Rattle.std.specs.Prelude.{◌≡◌, ◌<◌, length, pos, replicate, IfOk, Ok, OnOk};
+ghost use Rattle.cbl_base.specs.Inputs.{as_inputs};
+ghost use Rattle.cbl_base.specs.declared.input.Input.TheVariants.{Int};
+ghost use Rattle.posted_users.specs.KeptOf.{IsUserRule, kept_of};
+ghost use Rattle.posted_users.specs.KeptRule.{viol_at, viol_of};
 
-use cbl_base::NoMemory;
+use crate::changes::changes_between;
+use cbl_base::{Input, NoMemory, NodeFault, NodeRule, NodeValue};
 use std::alloc::Global;
 use std::marker::Model;
-use user_constraint::LocalConstraint;
 
-/// A user's constraint that was posted, with a copy of the numbers that it holds.
+/// The node of a user's constraint that was posted, with a copy of the numbers that it holds, or is to hold first.
 #[derive(Drop)]
-pub struct PostedUser<U: LocalConstraint> {
+pub struct PostedUser<N: NodeRule> {
     pub(crate) alloc: Global,
-    pub(crate) user: U,
+    pub(crate) node: N,
     pub(crate) numbers: Vec<i64>,
-    /// Memory ran out in a change of it.
-    pub(crate) broken: bool,
+    /// It holds the numbers: it was reset, and found memory ever since.
+    pub(crate) ready: bool,
 }
 
-impl<U: LocalConstraint> Model for PostedUser<U> {
-    ghost use Rattle.std.specs.Prelude.{◌≡◌, false};
+impl<N: NodeRule> Model for PostedUser<N> {
+    ghost use Rattle.std.specs.Prelude.{◌≡◌, true};
+    ghost use Rattle.cbl_base.specs.Inputs.{as_inputs};
+    ghost use Rattle.posted_users.specs.KeptOf.{IsUserRule, kept_of};
     ghost use Rattle.posted_users.specs.PostedState.{PostedState, posted_code};
 
     ghost Value = { PostedState };
 
     ghost coded = { posted_code };
 
-    ghost use Rattle.posted_users.specs.KeptRule.{kept};
+    ghost view = { λ a. record { held = a.numbers.items; rule = kept_of (N.rule a.node) } };
 
-    ghost view = { λ a. record { held = a.numbers.items; rule = kept (U.user_rule a.user) } };
-
-    ghost invariant = { λ a. a.broken ≡ false →
-        (U.usable a.user × (U.held a.user ≡ a.numbers.items)) };
+    ghost invariant = { λ a. IsUserRule (N.rule a.node) × (a.ready ≡ true →
+        (N.ready a.node × (N.held a.node ≡ as_inputs a.numbers.items))) };
 }
 
 /// So many zeros.
-fn zeros(alloc: Global, count: usize) -> Result<Vec<i64>, NoMemory>
+pub fn zeros(alloc: Global, count: usize) -> Result<Vec<i64>, NoMemory>
     ensures { IfOk result (λ v. v.items ≡ replicate count (pos 0)) }
 {
     Ok(vec![in alloc; 0; count]?)
 }
 
-/// Makes a constraint hold so many zeros, and gives these.
-pub fn reset_to_zeros<U: LocalConstraint>(
-    alloc: Global,
-    user: &mut U,
-    count: usize,
-) -> Result<Vec<i64>, NoMemory>
-    ensures zeros { IfOk result (λ v. v.items ≡ replicate count (pos 0)) }
-    ensures usable { OnOk result (U.usable user.new) }
-    ensures held { IfOk result (λ v. U.held user.new ≡ v.items) }
-    ensures rule { U.user_rule user.new ≡ U.user_rule user.old }
-    ensures name { U.user_name user.new ≡ U.user_name user.old }
+/// Numbers as inputs.
+fn inputs_of(alloc: Global, numbers: &[i64]) -> Result<Vec<Input>, NoMemory>
+    ensures { IfOk result (λ inputs. inputs.items ≡ as_inputs numbers.now) }
 {
-    let numbers = zeros(alloc, count)?;
-    user.reset(&numbers)?;
-    Ok(numbers)
-}
-
-/// Makes the number at a place another, where it isn't that already.
-#[tactic(auto, using(crate::proofs::MoveLaws::set_same))]
-fn assign_at<U: LocalConstraint>(
-    user: &mut U,
-    numbers: &mut Vec<i64>,
-    place: usize,
-    value: i64,
-) -> Result<(), NoMemory>
-    requires usable { U.usable user.old }
-    requires held { U.held user.old ≡ numbers.old.items }
-    requires within { place < length numbers.old.items }
-    ensures usable { OnOk result (U.usable user.new) }
-    ensures held { OnOk result (U.held user.new ≡ slice_set numbers.old.items place value) }
-    ensures numbers { OnOk result (numbers.new.items ≡ slice_set numbers.old.items place value) }
-    ensures rule { U.user_rule user.new ≡ U.user_rule user.old }
-{
-    if numbers[place] == value {
-        return Ok(());
+    let mut inputs = Vec::with_capacity(alloc, numbers.len())?;
+    for number in numbers {
+        inputs.push(Input::Int(*number))?;
     }
-    user.assign(place, value)?;
-    numbers[place] = value;
-    Ok(())
+    Ok(inputs)
 }
 
-/// Makes a constraint hold a list in place of another of the same length, by one change for each place at which they
-/// differ.
-fn assign_all<U: LocalConstraint>(
-    user: &mut U,
-    numbers: &mut Vec<i64>,
-    list: &[i64],
-) -> Result<(), NoMemory>
-    requires usable { U.usable user.old }
-    requires held { U.held user.old ≡ numbers.old.items }
-    requires long { length list.now ≡ length numbers.old.items }
-    ensures usable { OnOk result (U.usable user.new) }
-    ensures held { OnOk result (U.held user.new ≡ list.now) }
-    ensures numbers { OnOk result (numbers.new.items ≡ list.now) }
-    ensures rule { U.user_rule user.new ≡ U.user_rule user.old }
+/// The number that a node told.
+fn number_told(answer: Result<NodeValue, NodeFault>) -> Result<i64, NoMemory>
+    ensures { IfOk result (λ v. answer ≡ Ok (Int v)) }
 {
-    for place in 0..list.len() {
-        assign_at(user, numbers, place, list[place])?;
+    match answer {
+        Ok(Input::Int(number)) => Ok(number),
+        // the node of a user's constraint tells numbers, and never fails
+        Ok(Input::Set(_)) | Err(_) => Err(NoMemory),
     }
-    Ok(())
 }
 
-impl<U: LocalConstraint> PostedUser<U> {
-    /// A constraint that was reset, and the numbers that it holds.
-    pub fn of(alloc: Global, user: U, numbers: Vec<i64>) -> PostedUser<U>
-        requires usable { U.usable user }
-        requires held { U.held user ≡ numbers.items }
+impl<N: NodeRule> PostedUser<N> {
+    /// The node of a user's constraint, which is to hold these numbers once it is begun.
+    pub fn of(alloc: Global, node: N, numbers: Vec<i64>) -> PostedUser<N>
+        requires { IsUserRule (N.rule node) }
         ensures held { result.held ≡ numbers.items }
-        ensures rule { result.rule ≡ kept (U.user_rule user) }
+        ensures rule { result.rule ≡ kept_of (N.rule node) }
     {
         PostedUser {
             alloc,
-            user,
+            node,
             numbers,
-            broken: false,
+            ready: false,
         }
+    }
+
+    /// Resets it to its numbers. Before that, and after `NoMemory`, it tells no violations.
+    pub fn begin(&mut self) -> Result<(), NoMemory>
+        ensures { self.new ≡ self.old }
+    {
+        self.ready = false;
+        let inputs = inputs_of(self.alloc, &self.numbers)?;
+        self.node.reset(&inputs)?;
+        self.ready = true;
+        Ok(())
     }
 
     /// Holds another list with a number for each place, by one change for each place at which it differs from what is
@@ -124,12 +97,41 @@ impl<U: LocalConstraint> PostedUser<U> {
         ensures held { OnOk result (self.new.held ≡ list.now) }
         ensures rule { self.new.rule ≡ self.old.rule }
     {
-        if self.broken || list.len() != self.numbers.len() {
-            self.broken = true;
+        let was_ready = self.ready;
+        self.ready = false;
+        if !was_ready || list.len() != self.numbers.len() {
             return Err(NoMemory);
         }
-        let held = assign_all(&mut self.user, &mut self.numbers, list);
-        self.broken = held.is_err();
-        held
+        let changes = changes_between(self.alloc, &self.numbers, list)?;
+        self.node.apply(&changes)?;
+        self.numbers.copy_from_slice(list);
+        self.ready = true;
+        Ok(())
+    }
+
+    /// The violations of a list with a number for each place, by one call, which is given all places at which it differs
+    /// from what is held. `NoMemory` also for a list of another length, and where it isn't ready.
+    pub fn value(&self, list: &[i64]) -> Result<i64, NoMemory>
+        ensures { IfOk result (λ v. v ≡ pos (viol_of self.now.rule list.now)) }
+    {
+        if !self.ready || self.numbers.len() != list.len() {
+            return Err(NoMemory);
+        }
+        let changes = changes_between(self.alloc, &self.numbers, list)?;
+        number_told(self.node.probe(&changes))
+    }
+
+    /// The violation at a place of the list that is held. `NoMemory` also for another list, and where it isn't ready.
+    pub fn violation_at(&self, list: &[i64], place: usize) -> Result<i64, NoMemory>
+        requires { place < length list.now }
+        ensures { IfOk result (λ v. v ≡ pos (viol_at self.now.rule list.now place)) }
+    {
+        let Ok(at) = u32::try_from(place) else {
+            return Err(NoMemory);
+        };
+        if !self.ready || self.numbers.as_slice() != list {
+            return Err(NoMemory);
+        }
+        Ok(self.node.place_violation(at))
     }
 }

@@ -14,8 +14,8 @@ use crate::drawn::draw_model;
 use crate::draws::Draws;
 use crate::solved::{Seen, compare};
 use cbl_base::NoMemory;
+use node_kinds::{Kind, SolverNode};
 use std::process::ExitCode;
-use user_constraint::{LocalConstraint, UserConstraint};
 
 /// How many models are drawn.
 const MODELS: u32 = 2_000;
@@ -44,7 +44,7 @@ fn counted(counts: Counts, seen: Seen) -> Counts {
 }
 
 /// Draws all models, and counts how they ended.
-fn draw_all<R: AllocGlobal, U: LocalConstraint>(rt: &R) -> Result<Counts, NoMemory> {
+fn draw_all<R: AllocGlobal, N: SolverNode>(rt: &R) -> Result<Counts, NoMemory> {
     let alloc = rt.alloc();
     let mut draws = Draws::new(2_026);
     let mut counts = Counts {
@@ -56,15 +56,15 @@ fn draw_all<R: AllocGlobal, U: LocalConstraint>(rt: &R) -> Result<Counts, NoMemo
     for _model in 0..MODELS {
         let variables = draws.below(12).saturating_add(1);
         let model = draw_model(alloc, &mut draws, variables)?;
-        let seen = compare::<U>(alloc, &mut draws, &model)?;
+        let seen = compare::<N>(alloc, &mut draws, &model)?;
         counts = counted(counts, seen);
     }
     Ok(counts)
 }
 
 /// Prints whether each end came often, and whether a solver answered otherwise.
-fn report<R: Print + AllocGlobal, U: LocalConstraint>(rt: &R) -> Result<bool, NoMemory> {
-    let counts = draw_all::<R, U>(rt)?;
+fn report<R: Print + AllocGlobal, N: SolverNode>(rt: &R) -> Result<bool, NoMemory> {
+    let counts = draw_all::<R, N>(rt)?;
     let often = counts.cycles >= OFTEN && counts.faults >= OFTEN && counts.values >= OFTEN;
     let _told = println!(rt;
         "cycles, faults and values often: {often}, other answers: {}",
@@ -74,7 +74,7 @@ fn report<R: Print + AllocGlobal, U: LocalConstraint>(rt: &R) -> Result<bool, No
 }
 
 fn main(rt: HostRuntime) -> ExitCode {
-    match report::<HostRuntime, Box<dyn UserConstraint>>(&rt) {
+    match report::<HostRuntime, Kind>(&rt) {
         Ok(true) => ExitCode::SUCCESS,
         _ => ExitCode::FAILURE,
     }

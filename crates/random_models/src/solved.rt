@@ -6,9 +6,9 @@ use cbl_base::{NoMemory, VarId};
 use cbl_operations::{BinaryOp, NaryOp, Op, UnaryOp};
 use ls_events::VarChange;
 use ls_solver::{Solver, SolverFault};
+use node_kinds::SolverNode;
 use std::alloc::Global;
 use term_model::{Term, VarKind};
-use user_constraint::LocalConstraint;
 
 /// The number of the solver that all variables are of.
 const SOLVER: u32 = 7;
@@ -94,9 +94,9 @@ fn term_at(
 }
 
 /// Whether a variable got its term; one without a term needs none.
-fn define<U: LocalConstraint>(
+fn define<N: SolverNode>(
     alloc: Global,
-    solver: &mut Solver<U>,
+    solver: &mut Solver<N>,
     model: &[Drawn],
     index: u32,
 ) -> Result<bool, NoMemory> {
@@ -115,8 +115,8 @@ fn define<U: LocalConstraint>(
 }
 
 /// Whether a variable got this term.
-fn define_by<U: LocalConstraint>(
-    solver: &mut Solver<U>,
+fn define_by<N: SolverNode>(
+    solver: &mut Solver<N>,
     x: VarId,
     term: Term,
 ) -> Result<bool, NoMemory> {
@@ -131,9 +131,9 @@ fn define_by<U: LocalConstraint>(
 }
 
 /// Whether all variables are made, and defined in this order.
-fn build<U: LocalConstraint>(
+fn build<N: SolverNode>(
     alloc: Global,
-    solver: &mut Solver<U>,
+    solver: &mut Solver<N>,
     model: &[Drawn],
     order: &[u32],
 ) -> Result<bool, NoMemory> {
@@ -160,7 +160,7 @@ fn are_named(found: &[VarId], wanted: &[u32]) -> bool {
 }
 
 /// The value of a variable, where it has one.
-fn value_of<U: LocalConstraint>(solver: &Solver<U>, x: VarId) -> Option<i64> {
+fn value_of<N: SolverNode>(solver: &Solver<N>, x: VarId) -> Option<i64> {
     if !solver.usable() {
         return None;
     }
@@ -171,7 +171,7 @@ fn value_of<U: LocalConstraint>(solver: &Solver<U>, x: VarId) -> Option<i64> {
 }
 
 /// Whether each variable has this value.
-fn has_values<U: LocalConstraint>(solver: &Solver<U>, wanted: &[i64]) -> bool {
+fn has_values<N: SolverNode>(solver: &Solver<N>, wanted: &[i64]) -> bool {
     for index in 0..index_of(wanted.len()) {
         if value_of(solver, id(index)) != wanted.get(index as usize).copied() {
             return false;
@@ -181,7 +181,7 @@ fn has_values<U: LocalConstraint>(solver: &Solver<U>, wanted: &[i64]) -> bool {
 }
 
 /// What a stop of a solver is, where plain recursion gives this answer.
-fn stopped<U: LocalConstraint>(solver: &Solver<U>, stop: &SolverFault, wanted: &Answer) -> Seen {
+fn stopped<N: SolverNode>(solver: &Solver<N>, stop: &SolverFault, wanted: &Answer) -> Seen {
     match stop {
         SolverFault::Cyclic(found) => match wanted {
             Answer::Cycle(path) if are_named(found, path) => Seen::Cycle,
@@ -198,7 +198,7 @@ fn stopped<U: LocalConstraint>(solver: &Solver<U>, stop: &SolverFault, wanted: &
 }
 
 /// What a solver's values are, where plain recursion gives this answer.
-fn valued<U: LocalConstraint>(solver: &Solver<U>, wanted: &Answer) -> Seen {
+fn valued<N: SolverNode>(solver: &Solver<N>, wanted: &Answer) -> Seen {
     match wanted {
         Answer::Values(values) if has_values(solver, values) => Seen::Values,
         _ => Seen::Other,
@@ -206,7 +206,7 @@ fn valued<U: LocalConstraint>(solver: &Solver<U>, wanted: &Answer) -> Seen {
 }
 
 /// How the solver closes, where plain recursion gives this answer.
-fn closes<U: LocalConstraint>(solver: &mut Solver<U>, wanted: &Answer) -> Seen {
+fn closes<N: SolverNode>(solver: &mut Solver<N>, wanted: &Answer) -> Seen {
     if !solver.usable() || !solver.has_defined_sets() {
         return Seen::Other;
     }
@@ -234,8 +234,8 @@ fn are_changes(changes: &[VarChange], old: &[i64], new: &[i64]) -> bool {
 }
 
 /// What a commit is that told these changes, where plain recursion gives this answer.
-fn told<U: LocalConstraint>(
-    solver: &Solver<U>,
+fn told<N: SolverNode>(
+    solver: &Solver<N>,
     changes: &[VarChange],
     old: &[i64],
     wanted: &Answer,
@@ -247,8 +247,8 @@ fn told<U: LocalConstraint>(
 }
 
 /// How a free variable gets a number, where this is what the values were and what they come to.
-fn commits<U: LocalConstraint>(
-    solver: &mut Solver<U>,
+fn commits<N: SolverNode>(
+    solver: &mut Solver<N>,
     x: VarId,
     number: i64,
     old: &[i64],
@@ -299,9 +299,9 @@ fn drawn_free(draws: &mut Draws, model: &[Drawn]) -> Option<u32> {
 }
 
 /// Gives free variables numbers, to the first fault or difference, and tells how the last one went.
-fn follow<U: LocalConstraint>(
+fn follow<N: SolverNode>(
     alloc: Global,
-    solver: &mut Solver<U>,
+    solver: &mut Solver<N>,
     draws: &mut Draws,
     model: &[Drawn],
     order: &[u32],
@@ -327,7 +327,7 @@ fn follow<U: LocalConstraint>(
 }
 
 /// Draws a model, and tells how a solver went on with it.
-pub fn compare<U: LocalConstraint>(
+pub fn compare<N: SolverNode>(
     alloc: Global,
     draws: &mut Draws,
     model: &[Drawn],
@@ -335,7 +335,7 @@ pub fn compare<U: LocalConstraint>(
     let order = drawn_order(alloc, draws, index_of(model.len()))?;
     let free = starts(alloc, model)?;
     let wanted = comes_to(alloc, model, &free, &order)?;
-    let mut solver = Solver::<U>::new(alloc, SOLVER);
+    let mut solver = Solver::<N>::new(alloc, SOLVER);
     if !build(alloc, &mut solver, model, &order)? {
         return Ok(Seen::Other);
     }

@@ -4,7 +4,9 @@ use Rattle.std.specs.Prelude.{ℕ, Bool, true, false, List, map, Option, Some, N
 use Rattle.std.specs.Coded.{Coded, code_by, coded×, coded_list, coded_ℕ, coded_bool}
 use Rattle.cbl_base.specs.declared.faults.RunFault.{RunFault}
 use Rattle.cbl_base.specs.declared.faults.RunFault.TheVariants.{UnknownUser, UserSpent}
+use Rattle.cbl_base.specs.NodeLaw.{Rule}
 use Rattle.run_solvers.specs.OfPostedUsers.KeptCode.{rule_code}
+use Rattle.run_solvers.specs.OfPostedUsers.KeptOf.{IsUserRule}
 use Rattle.run_solvers.specs.OfPostedUsers.KeptRule.{KeptRule, kept, no_rule}
 use Rattle.user_constraint.specs.UserRule.{UserRule}
 use Rattle.run_solvers.specs.OfCometMeaning.Users.{User}
@@ -13,6 +15,11 @@ use Rattle.run_solvers.specs.OfCometMeaning.Users.{User}
 abbrev pub rule_left : Option KeptRule → KeptRule
 rule_left None = no_rule
 rule_left (Some rule) = rule
+
+-- what is still there is the node of a user's constraint
+abbrev pub IsOfUser : {A : Type 0} → (A → Rule) → Option A → Type 0
+IsOfUser rule_of None = Unit {0}
+IsOfUser rule_of (Some node) = IsUserRule (rule_of node)
 
 -- why a name gives none to take, by whether one has it
 abbrev pub refusal_of : Bool → RunFault

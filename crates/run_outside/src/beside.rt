@@ -15,13 +15,13 @@ ghost use Rattle.run_outside.specs.Told.{beside, told_of};
 
 use cbl_base::{Place, VarId};
 use ls_events::{Solution, VarChange};
+use node_kinds::SolverNode;
 use run_solvers::Solvers;
 use run_solvers::values_of_runs::{Bounds, Stop, Value};
-use user_constraint::LocalConstraint;
 
 /// The value of a variable, as `Outside::read_variable`.
-pub(crate) fn read_beside<U: LocalConstraint>(
-    solvers: &Solvers<U>,
+pub(crate) fn read_beside<N: SolverNode>(
+    solvers: &Solvers<N>,
     at: Place,
     variable: VarId,
 ) -> Result<Value, Stop>
@@ -36,8 +36,8 @@ pub(crate) fn read_beside<U: LocalConstraint>(
 }
 
 /// The domain of a variable, as `Outside::domain`.
-pub(crate) fn domain_beside<U: LocalConstraint>(
-    solvers: &Solvers<U>,
+pub(crate) fn domain_beside<N: SolverNode>(
+    solvers: &Solvers<N>,
     at: Place,
     variable: VarId,
 ) -> Result<Bounds, Stop>
@@ -53,8 +53,8 @@ pub(crate) fn domain_beside<U: LocalConstraint>(
 }
 
 /// Opens a `with`, as `Outside::open_block`.
-pub(crate) fn open_beside<U: LocalConstraint>(
-    solvers: &mut Solvers<U>,
+pub(crate) fn open_beside<N: SolverNode>(
+    solvers: &mut Solvers<N>,
     at: Place,
     number: usize,
 ) -> Result<bool, Stop>
@@ -67,8 +67,8 @@ pub(crate) fn open_beside<U: LocalConstraint>(
 }
 
 /// The numbers of a solver's free variables, as `Outside::snapshot`.
-pub(crate) fn snapshot_beside<U: LocalConstraint>(
-    solvers: &Solvers<U>,
+pub(crate) fn snapshot_beside<N: SolverNode>(
+    solvers: &Solvers<N>,
     at: Place,
     number: usize,
 ) -> Result<Solution, Stop>
@@ -83,8 +83,8 @@ pub(crate) fn snapshot_beside<U: LocalConstraint>(
 }
 
 /// Gives the free variables of a solution their numbers, as `Outside::restore`.
-pub(crate) fn restore_beside<U: LocalConstraint>(
-    solvers: &mut Solvers<U>,
+pub(crate) fn restore_beside<N: SolverNode>(
+    solvers: &mut Solvers<N>,
     at: Place,
     solution: &Solution,
 ) -> Result<Vec<VarChange>, Stop>

@@ -1,28 +1,30 @@
 //! Users' constraints that were handed in.
 ghost use Rattle.std.specs.Prelude.{◌≡◌, ◌&&◌, true, false, IfOk, IfSome};
 ghost use Rattle.run_solvers.specs.OfCometMeaning.Users.{first_free, is_known, is_named, rule_in, with_given, with_taken};
+ghost use Rattle.run_solvers.specs.OfPostedUsers.KeptOf.{IsUserRule, kept_of};
 ghost use Rattle.run_solvers.specs.OfPostedUsers.KeptRule.{kept, no_rule};
 ghost use Rattle.run_outside.specs.HandedIn.{refusal_of, users_seen};
 
 use cbl_base::{NoMemory, RunFault};
+use node_kinds::{KindOf, SolverNode};
 use std::alloc::Global;
 use std::marker::Model;
 use std::mem;
 use user_constraint::LocalConstraint;
 
-/// A user's constraint that was handed in, under its name, until a system is given it.
+/// A user's constraint that was handed in, as a node, under its name, until a system is given it.
 #[derive(Drop)]
-pub struct HandedIn<U: LocalConstraint> {
+pub struct HandedIn<N: SolverNode> {
     name: Vec<u8>,
-    user: Option<U>,
+    node: Option<N>,
     free: bool,
 }
 
-impl<U: LocalConstraint> Model for HandedIn<U> {
+impl<N: SolverNode> Model for HandedIn<N> {
     ghost use Rattle.std.specs.Prelude.{option_map};
     ghost use Rattle.run_solvers.specs.OfCometMeaning.Users.{User};
-    ghost use Rattle.run_solvers.specs.OfPostedUsers.KeptRule.{kept};
-    ghost use Rattle.run_outside.specs.HandedIn.{rule_left, user_code};
+    ghost use Rattle.run_solvers.specs.OfPostedUsers.KeptOf.{kept_of};
+    ghost use Rattle.run_outside.specs.HandedIn.{IsOfUser, rule_left, user_code};
 
     ghost Value = { User };
 
@@ -31,25 +33,30 @@ impl<U: LocalConstraint> Model for HandedIn<U> {
     ghost view = { λ a. record {
       name = a.name.items;
       rule = rule_left
-          (option_map (λ user. kept (U.user_rule user)) a.user);
+          (option_map (λ node. kept_of (N.NodeRule.rule node)) a.node);
       free = a.free;
     } };
+
+    ghost invariant = { λ a. IsOfUser N.NodeRule.rule a.node };
 }
 
-impl<U: LocalConstraint> HandedIn<U> {
+impl<U: LocalConstraint> HandedIn<KindOf<U>> {
     /// One that is free.
-    pub fn new(alloc: Global, user: U) -> Result<HandedIn<U>, NoMemory>
+    #[tactic(auto, using(posted_users::proofs::KeptLaws::kept_of_node, posted_users::proofs::KeptLaws::is_user_node))]
+    pub fn new(alloc: Global, user: U) -> Result<HandedIn<KindOf<U>>, NoMemory>
         ensures { IfOk result (λ one. one ≡
             record { name = U.user_name user; rule = kept (U.user_rule user); free = true }) }
     {
         let name = user.name().as_bytes().to_vec(alloc)?;
         Ok(HandedIn {
             name,
-            user: Some(user),
+            node: Some(KindOf::user(alloc, user)),
             free: true,
         })
     }
+}
 
+impl<N: SolverNode> HandedIn<N> {
     /// Whether it has this name.
     fn is_named(&self, name: &[u8]) -> bool
         ensures { result ≡ is_named name.now self.now }
@@ -71,12 +78,13 @@ impl<U: LocalConstraint> HandedIn<U> {
         self.free = false;
     }
 
-    /// The constraint, if it wasn't given away before.
-    fn give(&mut self) -> Option<U>
-        ensures rule { IfSome result (λ user. kept (U.user_rule user) ≡ (self.old).rule) }
+    /// The node of the constraint, if it wasn't given away before.
+    fn give(&mut self) -> Option<N>
+        ensures user { IfSome result (λ node. IsUserRule (N.NodeRule.rule node)) }
+        ensures rule { IfSome result (λ node. kept_of (N.NodeRule.rule node) ≡ (self.old).rule) }
         ensures given { self.new ≡ record self.old { rule = no_rule } }
     {
-        mem::replace(&mut self.user, None)
+        mem::replace(&mut self.node, None)
     }
 }
 
@@ -84,7 +92,7 @@ impl<U: LocalConstraint> HandedIn<U> {
 pub fn handed_in<U: LocalConstraint>(
     alloc: Global,
     users: Vec<U>,
-) -> Result<Vec<HandedIn<U>>, NoMemory>
+) -> Result<Vec<HandedIn<KindOf<U>>>, NoMemory>
     ensures { IfOk result (λ all. all.items ≡ users_seen U.user_name U.user_rule users.items) }
 {
     let mut all = Vec::with_capacity(alloc, users.len())?;
@@ -95,7 +103,7 @@ pub fn handed_in<U: LocalConstraint>(
 }
 
 /// The number, from 0, of the first one that has the name and is free.
-pub(crate) fn first_free<U: LocalConstraint>(users: &[HandedIn<U>], name: &[u8]) -> Option<usize>
+pub(crate) fn first_free<N: SolverNode>(users: &[HandedIn<N>], name: &[u8]) -> Option<usize>
     ensures { result ≡ first_free name.now users.now }
 {
     for number in 0..users.len() {
@@ -107,7 +115,7 @@ pub(crate) fn first_free<U: LocalConstraint>(users: &[HandedIn<U>], name: &[u8])
 }
 
 /// Whether one that was handed in has the name.
-fn is_known<U: LocalConstraint>(users: &[HandedIn<U>], name: &[u8]) -> bool
+fn is_known<N: SolverNode>(users: &[HandedIn<N>], name: &[u8]) -> bool
     ensures { result ≡ is_known name.now users.now }
 {
     for user in users {
@@ -119,7 +127,7 @@ fn is_known<U: LocalConstraint>(users: &[HandedIn<U>], name: &[u8]) -> bool
 }
 
 /// Why none of them can be taken by this name: `UserSpent` where one has it, and else `UnknownUser`.
-pub(crate) fn refusal<U: LocalConstraint>(users: &[HandedIn<U>], name: &[u8]) -> RunFault
+pub(crate) fn refusal<N: SolverNode>(users: &[HandedIn<N>], name: &[u8]) -> RunFault
     ensures { result ≡ refusal_of (is_known name.now users.now) }
 {
     if is_known(users, name) {
@@ -131,7 +139,7 @@ pub(crate) fn refusal<U: LocalConstraint>(users: &[HandedIn<U>], name: &[u8]) ->
 
 /// Takes the one with a number.
 #[tactic(auto, using(crate::proofs::HandedLaws::taken_set, crate::proofs::HandedLaws::taken_past))]
-pub(crate) fn take<U: LocalConstraint>(users: &mut Vec<HandedIn<U>>, number: usize)
+pub(crate) fn take<N: SolverNode>(users: &mut Vec<HandedIn<N>>, number: usize)
     ensures { users.new.items ≡ with_taken users.old.items number }
 {
     if number < users.len() {
@@ -139,11 +147,12 @@ pub(crate) fn take<U: LocalConstraint>(users: &mut Vec<HandedIn<U>>, number: usi
     }
 }
 
-/// The constraint with a number, which is given to a system, if it wasn't before.
+/// The node of the constraint with a number, which is given to a system, if it wasn't before.
 #[tactic(auto, using(crate::proofs::HandedLaws::given_set, crate::proofs::HandedLaws::given_past, crate::proofs::HandedLaws::rule_at))]
-pub(crate) fn give<U: LocalConstraint>(users: &mut Vec<HandedIn<U>>, number: usize) -> Option<U>
-    ensures rule { IfSome result (λ user.
-        kept (U.user_rule user) ≡ rule_in users.old.items number) }
+pub(crate) fn give<N: SolverNode>(users: &mut Vec<HandedIn<N>>, number: usize) -> Option<N>
+    ensures user { IfSome result (λ node. IsUserRule (N.NodeRule.rule node)) }
+    ensures rule { IfSome result (λ node.
+        kept_of (N.NodeRule.rule node) ≡ rule_in users.old.items number) }
     ensures given { users.new.items ≡ with_given users.old.items number }
 {
     if number >= users.len() {

@@ -5,21 +5,21 @@ use crate::out::Out;
 use crate::outside::Outside;
 use cbl_base::{Place, Text, VarId};
 use ls_events::{Solution, VarChange};
+use node_kinds::SolverNode;
 use run_solvers::values_of_runs::{Bounds, OutStop, Stop, Value};
 use run_solvers::{Beginning, Built, Solvers};
 use std::alloc::Global;
 use term_model::VarDecl;
-use user_constraint::LocalConstraint;
 
 /// An output, the solvers of a run, and the users' constraints that were handed in to it.
 #[derive(Drop)]
-pub struct Stage<O, U: LocalConstraint> {
+pub struct Stage<O, N: SolverNode> {
     pub out: O,
-    pub solvers: Solvers<U>,
-    pub users: Vec<HandedIn<U>>,
+    pub solvers: Solvers<N>,
+    pub users: Vec<HandedIn<N>>,
 }
 
-impl<O: Out, U: LocalConstraint> Outside for Stage<O, U> {
+impl<O: Out, N: SolverNode> Outside for Stage<O, N> {
     ghost told = { λ w. record { printed = O.taken w.out; solvers = w.solvers; users = w.users.items } };
 
     ghost share = { λ w. O.share w.out };
@@ -112,7 +112,7 @@ impl<O: Out, U: LocalConstraint> Outside for Stage<O, U> {
         weight: i64,
     ) -> Result<(), Stop> {
         match give(&mut self.users, taken) {
-            Some(user) => self.solvers.post_user(at, whole, user, places, weight),
+            Some(node) => self.solvers.post_user(at, whole, node, places, weight),
             None => Err(Stop::NoMemory),
         }
     }

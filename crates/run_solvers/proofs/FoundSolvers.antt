@@ -46,9 +46,9 @@ use Rattle.run_solvers.specs.declared.held.Held.{Held}
 use Rattle.run_solvers.proofs.Acts.{tested}
 
 -- ---- a change that was made, or that was broken off
-pub finished : {U X : Type 0} (old mid new : Held U) (made result : Result X Stop) (meant : Made) → Tries old mid made meant → result ≡ made → IsKept new → new.number ≡ mid.number → OnOk made (new ≡ mid) → Changes old new result meant
-finished {U = U} old mid new (Ok x) result meant tried same kept number unchanged = record {
-  meant = subst (λ r. Makes (held_seen new) r meant) (sym same) (subst (λ (h : Held U). meant ≡ Ok (held_seen h)) (sym unchanged) tried.meant);
+pub finished : {N X : Type 0} (old mid new : Held N) (made result : Result X Stop) (meant : Made) → Tries old mid made meant → result ≡ made → IsKept new → new.number ≡ mid.number → OnOk made (new ≡ mid) → Changes old new result meant
+finished {N = N} old mid new (Ok x) result meant tried same kept number unchanged = record {
+  meant = subst (λ r. Makes (held_seen new) r meant) (sym same) (subst (λ (h : Held N). meant ≡ Ok (held_seen h)) (sym unchanged) tried.meant);
   kept = kept;
   number = number ∙ tried.number;
 }
@@ -62,28 +62,28 @@ finished old mid new (Err stop) result meant tried same kept number unchanged = 
 pub others_of : (M : Model) (x : ℕ) → HasDefinedSets M → HasDefinedOthers M x
 others_of M x sets i lt none = inr (sets i lt none)
 
-pub kept_from : {U X : Type 0} (r : Result X Stop) (h : Held U) (M : Model) (x : ℕ) → OnOk r (IsWholeHeld h) → OnOk r (HasDefinedOthers M x → HasDefinedSets h.solver.model) → HasDefinedOthers M x → OnOk r (IsKept h)
+pub kept_from : {N X : Type 0} (r : Result X Stop) (h : Held N) (M : Model) (x : ℕ) → OnOk r (IsWholeHeld h) → OnOk r (HasDefinedOthers M x → HasDefinedSets h.solver.model) → HasDefinedOthers M x → OnOk r (IsKept h)
 kept_from (Ok y) h M x whole sets others = (whole, sets others)
 kept_from (Err stop) h M x whole sets others = tt
 
 -- and so does a new number
-pub numbers_kept : {U X : Type 0} (r : Result X Stop) (h : Held U) (kind : VarKind) → OnOk r (IsWholeHeld h) → OnOk r (kind ≡ Number → HasDefinedSets h.solver.model) → kind ≡ Number → OnOk r (IsKept h)
+pub numbers_kept : {N X : Type 0} (r : Result X Stop) (h : Held N) (kind : VarKind) → OnOk r (IsWholeHeld h) → OnOk r (kind ≡ Number → HasDefinedSets h.solver.model) → kind ≡ Number → OnOk r (IsKept h)
 numbers_kept (Ok y) h kind whole sets number = (whole, sets number)
 numbers_kept (Err stop) h kind whole sets number = tt
 
 -- ---- solvers that are kept
 
-pub none_kept : {U : Type 0} → AreKept {U = U} []
+pub none_kept : {N : Type 0} → AreKept {N = N} []
 none_kept = record { numbered = λ k h at. let c : None ≡ Some h = at in cc; kept = λ k h at. let c : None ≡ Some h = at in cc }
 
-module _ {U : Type 0} (held : List (Held U)) (are : AreKept held) (k : ℕ) (new : Held U) where
-  abbrev HasRules : ℕ → Held U → Type 0
+module _ {N : Type 0} (held : List (Held N)) (are : AreKept held) (k : ℕ) (new : Held N) where
+  abbrev HasRules : ℕ → Held N → Type 0
   HasRules j h = (h.number ≡ j) × IsKept h
 
   pub changed_kept : k < length held → new.number ≡ k → IsKept new → AreKept (set held k new)
   changed_kept lt number kept = record { numbered = λ j h at. (rules_at j h at (ℕ_discrete j k)).0; kept = λ j h at. (rules_at j h at (ℕ_discrete j k)).1 }
     where
-      rules_at : (j : ℕ) (h : Held U) → slice_get (set held k new) j ≡ Some h → Dec (j ≡ k) → HasRules j h
+      rules_at : (j : ℕ) (h : Held N) → slice_get (set held k new) j ≡ Some h → Dec (j ≡ k) → HasRules j h
       rules_at j h at (yes e) =
           let there : Some new ≡ Some h = sym (set_same held k new lt) ∙ ap (slice_get (set held k new)) (sym e) ∙ at in
           let same : new ≡ h = cc in
@@ -92,7 +92,7 @@ module _ {U : Type 0} (held : List (Held U)) (are : AreKept held) (k : ℕ) (new
           let old : slice_get held j ≡ Some h = sym (others_stay held k j new ne) ∙ at in
           (are.numbered j h old, are.kept j h old)
 
-  front : (xs : List (Held U)) (j : ℕ) (h : Held U) → slice_get (xs ++ new ∷ []) j ≡ Some h → (slice_get xs j ≡ Some h) ⊎ ((j ≡ length xs) × (new ≡ h))
+  front : (xs : List (Held N)) (j : ℕ) (h : Held N) → slice_get (xs ++ new ∷ []) j ≡ Some h → (slice_get xs j ≡ Some h) ⊎ ((j ≡ length xs) × (new ≡ h))
   front [] zero h at = inr (refl, cc)
   front [] (suc j) h at = let c : None ≡ Some h = at in cc
   front (x ∷ xs) zero h at = inl at
@@ -105,25 +105,25 @@ module _ {U : Type 0} (held : List (Held U)) (are : AreKept held) (k : ℕ) (new
   pub pushed_kept : new.number ≡ length held → IsKept new → AreKept (held ++ new ∷ [])
   pushed_kept number kept = record { numbered = λ j h at. (rules_at j h (front held j h at)).0; kept = λ j h at. (rules_at j h (front held j h at)).1 }
     where
-      rules_at : (j : ℕ) (h : Held U) → (slice_get held j ≡ Some h) ⊎ ((j ≡ length held) × (new ≡ h)) → HasRules j h
+      rules_at : (j : ℕ) (h : Held N) → (slice_get held j ≡ Some h) ⊎ ((j ≡ length held) × (new ≡ h)) → HasRules j h
       rules_at j h (inl old) = (are.numbered j h old, are.kept j h old)
       rules_at j h (inr e) = subst (HasRules j) e.1 (number ∙ sym e.0, kept)
 
-pub kept_there : {U : Type 0} (held : List (Held U)) (k : ℕ) (h : Held U) → AreKept held → k < length held → h ≡ get_or held k h → (h.number ≡ k) × IsKept h
+pub kept_there : {N : Type 0} (held : List (Held N)) (k : ℕ) (h : Held N) → AreKept held → k < length held → h ≡ get_or held k h → (h.number ≡ k) × IsKept h
 kept_there held k h are lt there =
     let at : slice_get held k ≡ Some h = slice_get-get_or held k h lt ∙ ap Some (sym there) in
     (are.numbered k h at, are.kept k h at)
 
 -- ---- by their numbers
 
-pub found : {U : Type 0} (held : List (Held U)) (k : ℕ) (h : Held U) (s : State) → s.solvers ≡ map held_seen held → k < length held → h ≡ get_or held k h → solver_at s k ≡ held_seen h
+pub found : {N : Type 0} (held : List (Held N)) (k : ℕ) (h : Held N) (s : State) → s.solvers ≡ map held_seen held → k < length held → h ≡ get_or held k h → solver_at s k ≡ held_seen h
 found held k h s is lt there = ap (λ (ms : List SolverState). get_or ms k new_solver) is ∙ get_or-map held_seen held k h new_solver lt ∙ ap held_seen (sym there)
 
-pub not_found : {U : Type 0} (held : List (Held U)) (k : ℕ) (s : State) → s.solvers ≡ map held_seen held → length held ≤ k → solver_at s k ≡ new_solver
+pub not_found : {N : Type 0} (held : List (Held N)) (k : ℕ) (s : State) → s.solvers ≡ map held_seen held → length held ≤ k → solver_at s k ≡ new_solver
 not_found held k s is le = ap (λ (ms : List SolverState). get_or ms k new_solver) is ∙ get_or_past (map held_seen held) k new_solver (omega (arith, le, length-map held held_seen))
 
 -- one solver more
-pub made_solver : {U : Type 0} (s : State) (held : List (Held U)) (new : Held U) → s.solvers ≡ map held_seen held → held_seen new ≡ new_solver → make_solver s ≡ Went (Solver (length held)) (record s { solvers = map held_seen (held ++ new ∷ []) })
+pub made_solver : {N : Type 0} (s : State) (held : List (Held N)) (new : Held N) → s.solvers ≡ map held_seen held → held_seen new ≡ new_solver → make_solver s ≡ Went (Solver (length held)) (record s { solvers = map held_seen (held ++ new ∷ []) })
 unfolding make_solver
 made_solver s held new is seen =
     ap (λ (ms : List SolverState). Went (Solver (length ms)) (record s { solvers = ms ++ new_solver ∷ [] })) is
@@ -139,7 +139,7 @@ stopped (stops.Cyclic place names) x k s ms meant h = ap (λ (made : Made). chan
 stopped NoMemory x k s ms meant h = tt
 stopped (Output stop) x k s ms meant h = absurd h
 
-pub does : {U X A : Type 0} (view : X → A) (x : A) (k : ℕ) (s : State) (held : List (Held U)) (new : Held U) (r : Result X Stop) (meant : Made) →
+pub does : {N X A : Type 0} (view : X → A) (x : A) (k : ℕ) (s : State) (held : List (Held N)) (new : Held N) (r : Result X Stop) (meant : Made) →
     s.solvers ≡ map held_seen held → IfOk r (λ y. view y ≡ x) → Makes (held_seen new) r meant → Did view r (record s { solvers = map held_seen (set held k new) }) (changed x k meant s)
 does view x k s held new (Ok y) meant is same h =
     ap (λ (made : Made). changed x k made s) h
@@ -152,7 +152,7 @@ constant x (Ok y) = refl
 constant x (Err stop) = tt
 
 -- the same where what is answered is always one
-pub does_so : {U X A : Type 0} (x : A) (k : ℕ) (s : State) (held : List (Held U)) (new : Held U) (r : Result X Stop) (meant : Made) →
+pub does_so : {N X A : Type 0} (x : A) (k : ℕ) (s : State) (held : List (Held N)) (new : Held N) (r : Result X Stop) (meant : Made) →
     s.solvers ≡ map held_seen held → Makes (held_seen new) r meant → Did (λ y. x) r (record s { solvers = map held_seen (set held k new) }) (changed x k meant s)
 does_so x k s held new r meant is h = does (λ y. x) x k s held new r meant is (constant x r) h
 

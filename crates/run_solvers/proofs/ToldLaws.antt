@@ -97,12 +97,12 @@ nothing_told k m n changes p q r none = none ∙ sym (ap (map (told k)) (nothing
 
 -- ---- a change that was made, or that was broken off
 
-pub finished_moves : {U : Type 0} (old mid new : Held U) (made result : Result (Vec VarChange Global) Stop) (meant : Made) → TriesToMove old mid made meant → result ≡ made → IsKept new → new.number ≡ mid.number → OnOk made (new ≡ mid) → Moves old new result meant
-finished_moves {U = U} old mid new (Ok x) result meant tried same kept number unchanged = record {
-  meant = subst (λ r. Makes (held_seen new) r meant) (sym same) (subst (λ (h : Held U). meant ≡ Ok (held_seen h)) (sym unchanged) tried.meant);
+pub finished_moves : {N : Type 0} (old mid new : Held N) (made result : Result (Vec VarChange Global) Stop) (meant : Made) → TriesToMove old mid made meant → result ≡ made → IsKept new → new.number ≡ mid.number → OnOk made (new ≡ mid) → Moves old new result meant
+finished_moves {N = N} old mid new (Ok x) result meant tried same kept number unchanged = record {
+  meant = subst (λ r. Makes (held_seen new) r meant) (sym same) (subst (λ (h : Held N). meant ≡ Ok (held_seen h)) (sym unchanged) tried.meant);
   kept = kept;
   number = number ∙ tried.number;
-  told = subst (λ r. IfOk r (λ changes. changes.items ≡ all_told old.number (held_seen old) (held_seen new))) (sym same) (subst (λ (h : Held U). x.items ≡ all_told old.number (held_seen old) (held_seen h)) (sym unchanged) tried.told);
+  told = subst (λ r. IfOk r (λ changes. changes.items ≡ all_told old.number (held_seen old) (held_seen new))) (sym same) (subst (λ (h : Held N). x.items ≡ all_told old.number (held_seen old) (held_seen h)) (sym unchanged) tried.told);
 }
 finished_moves old mid new (Err stop) result meant tried same kept number unchanged = record {
   meant = subst (λ r. Makes (held_seen new) r meant) (sym same) tried.meant;
@@ -113,12 +113,12 @@ finished_moves old mid new (Err stop) result meant tried same kept number unchan
 
 -- ---- the solver with a number
 
-there_now : {U : Type 0} (held : List (Held U)) (k : ℕ) (new : Held U) → k < length held → get_or (set held k new) k new ≡ new
+there_now : {N : Type 0} (held : List (Held N)) (k : ℕ) (new : Held N) → k < length held → get_or (set held k new) k new ≡ new
 there_now held k new lt =
     let e : Some (get_or (set held k new) k new) ≡ Some new = sym (slice_get-get_or (set held k new) k new (subst (λ n. k < n) (sym (length-set held k new)) lt)) ∙ set_same held k new lt in
     cc
 
-pub tells_there : {U : Type 0} (held : List (Held U)) (k : ℕ) (h new : Held U) (result : Result (Vec VarChange Global) Stop) → h.number ≡ k → k < length held → h ≡ get_or held k h → Tells h.number (held_seen h) (held_seen new) result →
+pub tells_there : {N : Type 0} (held : List (Held N)) (k : ℕ) (h new : Held N) (result : Result (Vec VarChange Global) Stop) → h.number ≡ k → k < length held → h ≡ get_or held k h → Tells h.number (held_seen h) (held_seen new) result →
     TellsIn k (map held_seen held) (map held_seen (set held k new)) result
 tells_there held k h new result number lt there tells =
     subst (λ (m : SolverState). Tells k m (get_or (map held_seen (set held k new)) k new_solver) result) (sym (get_or-map held_seen held k h new_solver lt ∙ ap held_seen (sym there)))

@@ -9,7 +9,7 @@ use Rattle.run_solvers.specs.Told.{all_told}
 use Rattle.run_solvers.specs.Views.{held_seen}
 use Rattle.run_solvers.specs.declared.held.Held.{Held}
 
-pub tried_as : {U X : Type 0} (old mid new : Held U) (result : Result X Stop) (asked made : Made) → mid.number ≡ old.number → made ≡ asked → Tries mid new result asked → Tries old new result made
+pub tried_as : {N X : Type 0} (old mid new : Held N) (result : Result X Stop) (asked made : Made) → mid.number ≡ old.number → made ≡ asked → Tries mid new result asked → Tries old new result made
 tried_as old mid new result asked made same e tried = record {
   meant = subst (λ (m : Made). Makes (held_seen new) result m) (sym e) tried.meant;
   kept = tried.kept;
@@ -17,7 +17,7 @@ tried_as old mid new result asked made same e tried = record {
 }
 
 -- the same of a change of numbers, where the one between has the model and the assignment of the old one
-pub moved_as : {U : Type 0} (old mid new : Held U) (result : Result (Vec VarChange Global) Stop) (asked made : Made) → mid.number ≡ old.number → all_told mid.number (held_seen mid) (held_seen new) ≡ all_told old.number (held_seen old) (held_seen new) → made ≡ asked → TriesToMove mid new result asked → TriesToMove old new result made
+pub moved_as : {N : Type 0} (old mid new : Held N) (result : Result (Vec VarChange Global) Stop) (asked made : Made) → mid.number ≡ old.number → all_told mid.number (held_seen mid) (held_seen new) ≡ all_told old.number (held_seen old) (held_seen new) → made ≡ asked → TriesToMove mid new result asked → TriesToMove old new result made
 moved_as old mid new result asked made same told e tried = record {
   meant = subst (λ (m : Made). Makes (held_seen new) result m) (sym e) tried.meant;
   kept = tried.kept;

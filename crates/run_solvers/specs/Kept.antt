@@ -22,10 +22,10 @@ pub record IsWhole (number : ℕ) (S : SolverState) (names : List (List ℕ)) (w
   pub named : length names ≡ length S.model.vars.items
   pub waits_ : AreWaiting S waiting
 
-abbrev pub IsWholeHeld : {U : Type 0} → Held U → Type 0
+abbrev pub IsWholeHeld : {N : Type 0} → Held N → Type 0
 IsWholeHeld h = IsWhole h.number h.solver h.names (waits h)
 
-abbrev pub IsKept : {U : Type 0} → Held U → Type 0
+abbrev pub IsKept : {N : Type 0} → Held N → Type 0
 IsKept h = IsWholeHeld h × HasDefinedSets h.solver.model
 
 -- each set variable has a definition, but perhaps this one
@@ -33,6 +33,6 @@ abbrev pub HasDefinedOthers : Model → ℕ → Type 0
 HasDefinedOthers M x = (i : ℕ) → i < length M.vars.items → definition_of M i ≡ None → (i ≡ x) ⊎ (kinds_in M.vars.items i ≡ Some number_kind)
 
 -- the solvers of a run carry their places as numbers
-pub record AreKept {U : Type 0} (held : List (Held U)) : Type 0 where
-  pub numbered : (k : ℕ) (h : Held U) → slice_get held k ≡ Some h → h.number ≡ k
-  pub kept : (k : ℕ) (h : Held U) → slice_get held k ≡ Some h → IsKept h
+pub record AreKept {N : Type 0} (held : List (Held N)) : Type 0 where
+  pub numbered : (k : ℕ) (h : Held N) → slice_get held k ≡ Some h → h.number ≡ k
+  pub kept : (k : ℕ) (h : Held N) → slice_get held k ≡ Some h → IsKept h

@@ -26,13 +26,13 @@ Makes m (Ok x) made = made ≡ Ok m
 Makes m (Err stop) made = Ends stop made
 
 -- a change that may leave a solver of no use where it stops
-pub record Tries {U X : Type 0} (old new : Held U) (result : Result X Stop) (made : Made) : Type 0 where
+pub record Tries {N X : Type 0} (old new : Held N) (result : Result X Stop) (made : Made) : Type 0 where
   pub meant : Makes (held_seen new) result made
   pub kept : OnOk result (IsKept new)
   pub number : new.number ≡ old.number
 
 -- one that leaves a solver that may be used
-pub record Changes {U X : Type 0} (old new : Held U) (result : Result X Stop) (made : Made) : Type 0 where
+pub record Changes {N X : Type 0} (old new : Held N) (result : Result X Stop) (made : Made) : Type 0 where
   pub meant : Makes (held_seen new) result made
   pub kept : IsKept new
   pub number : new.number ≡ old.number
@@ -43,13 +43,13 @@ made_or m None = Ok m
 made_or m (Some made) = made
 
 -- the same of a change of numbers, which tells what changed
-pub record TriesToMove {U : Type 0} (old new : Held U) (result : Result (Vec VarChange Global) Stop) (made : Made) : Type 0 where
+pub record TriesToMove {N : Type 0} (old new : Held N) (result : Result (Vec VarChange Global) Stop) (made : Made) : Type 0 where
   pub meant : Makes (held_seen new) result made
   pub kept : OnOk result (IsKept new)
   pub number : new.number ≡ old.number
   pub told : Tells old.number (held_seen old) (held_seen new) result
 
-pub record Moves {U : Type 0} (old new : Held U) (result : Result (Vec VarChange Global) Stop) (made : Made) : Type 0 where
+pub record Moves {N : Type 0} (old new : Held N) (result : Result (Vec VarChange Global) Stop) (made : Made) : Type 0 where
   pub meant : Makes (held_seen new) result made
   pub kept : IsKept new
   pub number : new.number ≡ old.number

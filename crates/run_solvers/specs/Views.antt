@@ -20,10 +20,10 @@ solver_seen S names waiting = record {
   waiting = option_map (overlaid S.assignment) waiting;
 }
 
-abbrev pub waits : {U : Type 0} → Held U → Option (List (Option ℤ))
+abbrev pub waits : {N : Type 0} → Held N → Option (List (Option ℤ))
 waits h = option_map (λ w. w.items) h.waiting
 
-abbrev pub held_seen : {U : Type 0} → Held U → SolverState
+abbrev pub held_seen : {N : Type 0} → Held N → SolverState
 held_seen h = solver_seen h.solver h.names (waits h)
 
 abbrev pub beginning_seen : Beginning → meaning.Beginning

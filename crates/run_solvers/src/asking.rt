@@ -18,9 +18,9 @@ use crate::held::Held;
 use crate::refusals::stop_of;
 use cbl_base::{Place, RunFault, VarId};
 use ls_solver::{SolverFault, SystemId, TotalId};
+use node_kinds::SolverNode;
 use run_values::{Stop, Value};
 use term_model::Side;
-use user_constraint::LocalConstraint;
 
 /// The system or the objective that a value is.
 pub(crate) fn total_of(value: &Value) -> Option<TotalId>
@@ -57,7 +57,7 @@ fn answer_of(at: Place, answer: Result<i64, SolverFault>) -> Result<Value, Stop>
     }
 }
 
-impl<U: LocalConstraint> Held<U> {
+impl<N: SolverNode> Held<N> {
     /// The violations of a system, or the value of an objective, asked at a place. There `NotClosed` exactly where the
     /// solver is open, and then `WrongSolver` exactly where it has no such system or objective.
     pub(crate) fn total_value(&self, at: Place, total: TotalId) -> Result<Value, Stop>

@@ -16,11 +16,11 @@ use crate::waiting::{moves_of, nothing_waiting, wait_in};
 use cbl_base::{NoMemory, Place, RunFault, VarId};
 use ls_events::VarChange;
 use ls_solver::SolverFault;
+use node_kinds::SolverNode;
 use run_values::Stop;
 use std::mem;
-use user_constraint::LocalConstraint;
 
-impl<U: LocalConstraint> Held<U> {
+impl<N: SolverNode> Held<N> {
     /// Gives a variable a number, which waits while a `with` is open. At this place `WrongSolver` where the solver has no
     /// such variable, and then `DefinedVariable` where it has a definition; and else the fault of a closed solver's
     /// variables where it was met.

@@ -8,10 +8,10 @@ ghost use Rattle.run_solvers.specs.Views.{held_seen};
 use crate::held::Held;
 use crate::refusals::stop_of;
 use cbl_base::Place;
+use node_kinds::SolverNode;
 use run_values::Stop;
-use user_constraint::LocalConstraint;
 
-impl<U: LocalConstraint> Held<U> {
+impl<N: SolverNode> Held<N> {
     /// Closes the solver, and evaluates its variables. `AlreadyClosed` at this place exactly where it is closed, else the
     /// named cycle of its definitions at this place, and else the fault of its variables where it was met.
     pub(crate) fn close(&mut self, at: Place) -> Result<(), Stop>

@@ -23,12 +23,12 @@ use crate::built::Built;
 use crate::held::Held;
 use crate::refusals::stop_of;
 use cbl_base::{IntSet, NoMemory, Place, Text, VarId};
+use node_kinds::SolverNode;
 use run_values::Stop;
 use std::alloc::Global;
 use term_model::{Term, VarDecl, VarKind};
-use user_constraint::LocalConstraint;
 
-impl<U: LocalConstraint> Held<U> {
+impl<N: SolverNode> Held<N> {
     /// Defines a variable by a term. At this place `AlreadyClosed` where the solver is closed; then `WrongSolver` where the
     /// variable, or one in the term, isn't the solver's; then `DefinedVariable` where it has a definition; and then
     /// `TooMany` term nodes where all terms have more distinct subterms than they may.

@@ -7,24 +7,24 @@ ghost use Rattle.run_solvers.specs.Views.{held_seen};
 
 use cbl_base::{Names, VarId};
 use ls_solver::Solver;
+use node_kinds::SolverNode;
 use run_values::Stop;
 use std::alloc::Global;
-use user_constraint::LocalConstraint;
 
 /// A solver of a run: its number, the solver, the names of its variables, and while a `with` is open for each variable
 /// the number that it was assigned in it.
 #[derive(Drop)]
-pub(crate) struct Held<U: LocalConstraint> {
+pub(crate) struct Held<N: SolverNode> {
     pub(crate) alloc: Global,
     pub(crate) number: u32,
-    pub(crate) solver: Solver<U>,
+    pub(crate) solver: Solver<N>,
     pub(crate) names: Names,
     pub(crate) waiting: Option<Vec<Option<i64>>>,
 }
 
-impl<U: LocalConstraint> Held<U> {
+impl<N: SolverNode> Held<N> {
     /// A solver without variables, which is open.
-    pub(crate) fn new(alloc: Global, number: u32) -> Held<U>
+    pub(crate) fn new(alloc: Global, number: u32) -> Held<N>
         ensures seen { held_seen result ≡ new_solver }
         ensures kept { IsKept result }
         ensures number { result.number ≡ number }

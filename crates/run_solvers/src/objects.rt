@@ -14,10 +14,10 @@ use crate::built::Built;
 use crate::solvers::Solvers;
 use cbl_base::{Place, RunFault, VarId};
 use ls_solver::TotalId;
+use node_kinds::SolverNode;
 use run_values::{Stop, Value};
-use user_constraint::LocalConstraint;
 
-impl<U: LocalConstraint> Solvers<U> {
+impl<N: SolverNode> Solvers<N> {
     /// A new system of the solver with a number, which is declared at a place. `AlreadyClosed` there exactly where the
     /// solver is closed. `NoMemory` also where there is no such solver, which no run asks.
     pub fn new_system(&mut self, at: Place, number: usize) -> Result<Value, Stop>

@@ -14,11 +14,11 @@ ghost use Rattle.run_values.specs.Views.{bounds_seen, value_seen};
 use crate::held::Held;
 use crate::refusals::stop_of;
 use cbl_base::{IntSet, Place, RunFault, VarId};
+use node_kinds::SolverNode;
 use run_values::{Bounds, Stop, Value};
 use term_model::VarKind;
-use user_constraint::LocalConstraint;
 
-impl<U: LocalConstraint> Held<U> {
+impl<N: SolverNode> Held<N> {
     /// The value of the variable at an index, which is read at a place. `WrongSolver` there exactly where there is no such
     /// variable, and `NotClosed` exactly where only a closed solver has its value.
     pub(crate) fn read(&self, at: Place, index: u32) -> Result<Value, Stop>

@@ -18,10 +18,10 @@ use crate::waiting::wait_for_all;
 use cbl_base::{NoMemory, Place, RunFault};
 use ls_events::{Solution, VarChange};
 use ls_solver::SolverFault;
+use node_kinds::SolverNode;
 use run_values::Stop;
-use user_constraint::LocalConstraint;
 
-impl<U: LocalConstraint> Held<U> {
+impl<N: SolverNode> Held<N> {
     /// The numbers of the free variables. `NotClosed` at this place exactly where the solver is open.
     fn snapshot(&self, at: Place) -> Result<Solution, Stop>
         requires { IsKept self.now }
@@ -115,7 +115,7 @@ impl<U: LocalConstraint> Held<U> {
     }
 }
 
-impl<U: LocalConstraint> Solvers<U> {
+impl<N: SolverNode> Solvers<N> {
     /// The numbers of the free variables of the solver with a number. `NotClosed` at this place exactly where it is open.
     pub fn snapshot(&self, at: Place, number: usize) -> Result<Solution, Stop>
         ensures did { (s : State) → s.solvers ≡ self.now →

@@ -19,20 +19,20 @@ use crate::built::Built;
 use crate::held::Held;
 use cbl_base::{Place, RunFault, Text, VarId};
 use ls_events::VarChange;
+use node_kinds::SolverNode;
 use run_values::{Bounds, Stop, Value};
 use std::alloc::Global;
 use std::marker::Model;
 use term_model::VarDecl;
-use user_constraint::LocalConstraint;
 
 /// The solvers of a run. Each is known by its place from 0, which its variables carry; they are seen as the meaning of
 /// programs has them. After a stop the run is over, and the solver that stopped is emptied.
 #[derive(Drop)]
-pub struct Solvers<U: LocalConstraint> {
-    pub(crate) held: Vec<Held<U>>,
+pub struct Solvers<N: SolverNode> {
+    pub(crate) held: Vec<Held<N>>,
 }
 
-impl<U: LocalConstraint> Model for Solvers<U> {
+impl<N: SolverNode> Model for Solvers<N> {
     ghost use Rattle.std.specs.Prelude.{List, map};
     ghost use Rattle.comet_meaning.specs.Solvers.{SolverState};
 
@@ -52,10 +52,10 @@ impl<U: LocalConstraint> Model for Solvers<U> {
     ghost invariant = { λ a. AreKept a.held.items };
 }
 
-impl<U: LocalConstraint> Solvers<U> {
+impl<N: SolverNode> Solvers<N> {
     /// No solvers.
     #[tactic(auto, using(crate::proofs::FoundSolvers::none_kept))]
-    pub fn new(alloc: Global) -> Solvers<U>
+    pub fn new(alloc: Global) -> Solvers<N>
         ensures { result ≡ [] }
     {
         Solvers {
@@ -64,7 +64,7 @@ impl<U: LocalConstraint> Solvers<U> {
     }
 
     /// A copy of each; where a solver is held it answers want of memory so far.
-    pub fn copied(&self, alloc: Global) -> Result<Solvers<U>, Stop>
+    pub fn copied(&self, alloc: Global) -> Result<Solvers<N>, Stop>
         ensures same { IfOk result (λ copies. copies ≡ self.now) }
         ensures memory { IfErr result (λ stop. stop ≡ NoMemory) }
     {

@@ -27,11 +27,11 @@ use crate::held::Held;
 use crate::refusals::stop_of;
 use cbl_base::{NoMemory, Place};
 use ls_solver::TotalId;
+use node_kinds::SolverNode;
 use run_values::{Stop, Value};
 use term_model::{Member, Side, Term, VarKind};
-use user_constraint::LocalConstraint;
 
-impl<U: LocalConstraint> Held<U> {
+impl<N: SolverNode> Held<N> {
     /// A new system. `AlreadyClosed` at this place exactly where the solver is closed.
     pub(crate) fn new_system(&mut self, at: Place) -> Result<Value, Stop>
         requires { IsKept self.old }

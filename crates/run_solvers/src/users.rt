@@ -1,4 +1,4 @@
-//! Users' constraints that are posted.
+//! The nodes of users' constraints that are posted.
 ghost use Rattle.std.specs.Prelude.{◌≡◌, ◌≤◌, ◌<◌, [], All, List, Some, true, IfErr, IfOk};
 ghost use Rattle.cbl_base.specs.Inputs.{number_kind};
 ghost use Rattle.cbl_base.specs.declared.limits.TheConstants.{MAX_TERM_DEPTH};
@@ -6,7 +6,7 @@ ghost use Rattle.comet_meaning.specs.State.{State};
 ghost use Rattle.comet_meaning.specs.Systems.{post_user, post_user_to};
 ghost use Rattle.comet_meaning.specs.Values as values;
 ghost use Rattle.ls_solver.specs.Totals.{whole_of};
-ghost use Rattle.posted_users.specs.KeptRule.{kept};
+ghost use Rattle.posted_users.specs.KeptOf.{IsUserRule, kept_of};
 ghost use Rattle.run_solvers.specs.Building.{AreBuilt};
 ghost use Rattle.run_solvers.specs.Changing.{posted_user_one};
 ghost use Rattle.run_solvers.specs.Kept.{IsKept};
@@ -28,29 +28,30 @@ use crate::solvers::Solvers;
 use cbl_base::limits::MAX_TERM_DEPTH;
 use cbl_base::{NoMemory, Place, RunFault};
 use ls_solver::{SystemId, TotalId};
+use node_kinds::SolverNode;
 use run_values::{Stop, Value};
 use term_model::{Side, Term};
-use user_constraint::LocalConstraint;
 
-impl<U: LocalConstraint> Held<U> {
-    /// Posts a user's constraint over places with a weight to a system of the solver's number. The stops are those of
+impl<N: SolverNode> Held<N> {
+    /// Posts the node of a user's constraint over places with a weight to a system of the solver's number. The stops are those of
     /// `post`. `NoMemory` also for an objective, and where a place is no number or as deep as a term may be: no checked
     /// program posts such.
     fn post_user(
         &mut self,
         at: Place,
         total: TotalId,
-        user: U,
+        node: N,
         places: Vec<Built>,
         weight: i64,
     ) -> Result<(), Stop>
         requires kept { IsKept self.old }
+        requires rule { IsUserRule (N.NodeRule.rule node) }
         requires own { total.solver ≡ self.old.number }
         ensures { Changes self.old self.new result
             (posted_user_one at total.solver (whole_of total)
-            (kept (U.user_rule user)) places.items weight (held_seen self.old)) }
+            (kept_of (N.NodeRule.rule node)) places.items weight (held_seen self.old)) }
     {
-        let made = self.try_post_user(at, total, user, places, weight);
+        let made = self.try_post_user(at, total, node, places, weight);
         self.finish(made)
     }
 
@@ -59,18 +60,19 @@ impl<U: LocalConstraint> Held<U> {
         &mut self,
         at: Place,
         total: TotalId,
-        user: U,
+        node: N,
         places: Vec<Built>,
         weight: i64,
     ) -> Result<(), Stop>
         requires kept { IsKept self.old }
+        requires rule { IsUserRule (N.NodeRule.rule node) }
         requires own { total.solver ≡ self.old.number }
         ensures { Tries self.old self.new result
             (posted_user_one at total.solver (whole_of total)
-            (kept (U.user_rule user)) places.items weight (held_seen self.old)) }
+            (kept_of (N.NodeRule.rule node)) places.items weight (held_seen self.old)) }
     {
         match total.side {
-            Side::Systems => self.post_places(at, total, user, places, weight),
+            Side::Systems => self.post_places(at, total, node, places, weight),
             Side::Objectives => Err(Stop::NoMemory),
         }
     }
@@ -80,19 +82,20 @@ impl<U: LocalConstraint> Held<U> {
         &mut self,
         at: Place,
         total: TotalId,
-        user: U,
+        node: N,
         places: Vec<Built>,
         weight: i64,
     ) -> Result<(), Stop>
         requires kept { IsKept self.old }
+        requires rule { IsUserRule (N.NodeRule.rule node) }
         requires own { total.solver ≡ self.old.number }
         requires side { total.side ≡ Systems }
         ensures { Tries self.old self.new result
             (posted_user_one at total.solver (whole_of total)
-            (kept (U.user_rule user)) places.items weight (held_seen self.old)) }
+            (kept_of (N.NodeRule.rule node)) places.items weight (held_seen self.old)) }
     {
         match row_of(places) {
-            Ok(row) => self.post_row(at, total, user, row, weight),
+            Ok(row) => self.post_row(at, total, node, row, weight),
             Err(NoMemory) => Err(Stop::NoMemory),
         }
     }
@@ -102,23 +105,24 @@ impl<U: LocalConstraint> Held<U> {
         &mut self,
         at: Place,
         total: TotalId,
-        user: U,
+        node: N,
         row: Row,
         weight: i64,
     ) -> Result<(), Stop>
         requires kept { IsKept self.old }
+        requires rule { IsUserRule (N.NodeRule.rule node) }
         requires own { total.solver ≡ self.old.number }
         requires side { total.side ≡ Systems }
         requires built { (plain : List Tree) × AreBuilt row.terms.items row.deepest plain }
         ensures { (plain : List Tree) → AreBuilt row.terms.items row.deepest plain →
             Tries self.old self.new result (posted_user_one at total.solver (whole_of total)
-            (kept (U.user_rule user)) plain weight (held_seen self.old)) }
+            (kept_of (N.NodeRule.rule node)) plain weight (held_seen self.old)) }
     {
         if row.deepest >= MAX_TERM_DEPTH {
             return Err(Stop::NoMemory);
         }
         match self.are_numbers(&row.terms) {
-            Ok(true) => self.post_numbers(at, total, user, row, weight),
+            Ok(true) => self.post_numbers(at, total, node, row, weight),
             Ok(false) => Err(Stop::NoMemory),
             Err(NoMemory) => Err(Stop::NoMemory),
         }
@@ -144,11 +148,12 @@ impl<U: LocalConstraint> Held<U> {
         &mut self,
         at: Place,
         total: TotalId,
-        user: U,
+        node: N,
         row: Row,
         weight: i64,
     ) -> Result<(), Stop>
         requires kept { IsKept self.old }
+        requires rule { IsUserRule (N.NodeRule.rule node) }
         requires own { total.solver ≡ self.old.number }
         requires side { total.side ≡ Systems }
         requires deep { row.deepest < MAX_TERM_DEPTH }
@@ -157,40 +162,41 @@ impl<U: LocalConstraint> Held<U> {
             Some number_kind) row.terms.items }
         ensures { (plain : List Tree) → AreBuilt row.terms.items row.deepest plain →
             Tries self.old self.new result (posted_user_one at total.solver (whole_of total)
-            (kept (U.user_rule user)) plain weight (held_seen self.old)) }
+            (kept_of (N.NodeRule.rule node)) plain weight (held_seen self.old)) }
     {
         self.solver.keeps_form();
         let system = SystemId {
             solver: total.solver,
             index: total.index,
         };
-        match self.solver.post_user(system, user, row.terms, weight) {
+        match self.solver.post_node(system, node, row.terms, weight) {
             Ok(()) => Ok(()),
             Err((fault, _back)) => Err(stop_of(self.alloc, at, &self.names, fault)),
         }
     }
 }
 
-impl<U: LocalConstraint> Solvers<U> {
-    /// Posts a user's constraint over places with a weight to a system; to what is no system or objective nothing is
+impl<N: SolverNode> Solvers<N> {
+    /// Posts the node of a user's constraint over places with a weight to a system; to what is no system or objective nothing is
     /// posted. The stops are those of `post`. `NoMemory` also for an objective, and where a place is no number or as deep as
     /// a term may be: no checked program posts such.
     pub fn post_user(
         &mut self,
         at: Place,
         whole: &Value,
-        user: U,
+        node: N,
         places: Vec<Built>,
         weight: i64,
     ) -> Result<(), Stop>
+        requires { IsUserRule (N.NodeRule.rule node) }
         ensures did { (s : State) → s.solvers ≡ self.old →
             Did (λ _. values.Nothing) result (record s { solvers = self.new })
-            (post_user at (kept (U.user_rule user)) places.items weight (value_seen whole.now) s) }
+            (post_user at (kept_of (N.NodeRule.rule node)) places.items weight (value_seen whole.now) s) }
         ensures stop { IfErr result IsFaultOrMemory }
     {
         match total_of(whole) {
             None => Ok(()),
-            Some(total) => self.post_user_to(at, total, user, places, weight),
+            Some(total) => self.post_user_to(at, total, node, places, weight),
         }
     }
 
@@ -199,13 +205,14 @@ impl<U: LocalConstraint> Solvers<U> {
         &mut self,
         at: Place,
         total: TotalId,
-        user: U,
+        node: N,
         places: Vec<Built>,
         weight: i64,
     ) -> Result<(), Stop>
+        requires { IsUserRule (N.NodeRule.rule node) }
         ensures did { (s : State) → s.solvers ≡ self.old →
             Did (λ _. values.Nothing) result (record s { solvers = self.new })
-            (post_user_to at (kept (U.user_rule user)) places.items weight total.solver
+            (post_user_to at (kept_of (N.NodeRule.rule node)) places.items weight total.solver
             (whole_of total) s) }
         ensures stop { IfErr result IsFaultOrMemory }
     {
@@ -213,6 +220,6 @@ impl<U: LocalConstraint> Solvers<U> {
         if number >= self.held.len() {
             return Err(Stop::Fault(at, RunFault::WrongSolver));
         }
-        self.held[number].post_user(at, total, user, places, weight)
+        self.held[number].post_user(at, total, node, places, weight)
     }
 }

@@ -4,10 +4,10 @@
 use cbl_base::{Limit, NoMemory, Place, RunFault, VarId};
 use cbl_operations::{NaryOp, Op};
 use ls_solver::{Solver, SolverFault};
+use node_kinds::{Kind, SolverNode};
 use std::alloc::Global;
 use std::process::ExitCode;
 use term_model::Term;
-use user_constraint::{LocalConstraint, UserConstraint};
 
 const SOLVER: u32 = 1;
 
@@ -34,7 +34,7 @@ fn ended<T: Drop>(answer: Result<T, SolverFault>) -> End {
     }
 }
 
-fn new_var<U: LocalConstraint>(solver: &mut Solver<U>) -> End {
+fn new_var<N: SolverNode>(solver: &mut Solver<N>) -> End {
     if !solver.usable() {
         return End::Other;
     }
@@ -42,7 +42,7 @@ fn new_var<U: LocalConstraint>(solver: &mut Solver<U>) -> End {
 }
 
 /// Whether so many variables are made.
-fn makes<U: LocalConstraint>(solver: &mut Solver<U>, variables: u32) -> bool {
+fn makes<N: SolverNode>(solver: &mut Solver<N>, variables: u32) -> bool {
     for _variable in 0..variables {
         if new_var(solver) != End::Done {
             return false;
@@ -62,11 +62,7 @@ fn sum_from(alloc: Global, first: u32) -> Result<Term, NoMemory> {
     Ok(Term::Node { op, args, place })
 }
 
-fn define<U: LocalConstraint>(
-    solver: &mut Solver<U>,
-    index: u32,
-    term: Term,
-) -> Result<End, NoMemory> {
+fn define<N: SolverNode>(solver: &mut Solver<N>, index: u32, term: Term) -> Result<End, NoMemory> {
     let x = VarId {
         solver: SOLVER,
         index,
@@ -78,10 +74,7 @@ fn define<U: LocalConstraint>(
 }
 
 /// Whether as many terms as there may be are defined.
-fn defines_all<U: LocalConstraint>(
-    alloc: Global,
-    solver: &mut Solver<U>,
-) -> Result<bool, NoMemory> {
+fn defines_all<N: SolverNode>(alloc: Global, solver: &mut Solver<N>) -> Result<bool, NoMemory> {
     for sum in 0..SUMS {
         let term = sum_from(alloc, sum.saturating_mul(CONSTANTS))?;
         if define(solver, sum, term)? != End::Done {
@@ -91,9 +84,9 @@ fn defines_all<U: LocalConstraint>(
     Ok(true)
 }
 
-fn go<R: Print + AllocGlobal, U: LocalConstraint>(rt: &R) -> Result<bool, NoMemory> {
+fn go<R: Print + AllocGlobal, N: SolverNode>(rt: &R) -> Result<bool, NoMemory> {
     let alloc = rt.alloc();
-    let mut solver = Solver::<U>::new(alloc, SOLVER);
+    let mut solver = Solver::<N>::new(alloc, SOLVER);
     let made = makes(&mut solver, VARIABLES);
     let one_variable_more = new_var(&mut solver);
     let defined = defines_all(alloc, &mut solver)?;
@@ -109,7 +102,7 @@ fn go<R: Print + AllocGlobal, U: LocalConstraint>(rt: &R) -> Result<bool, NoMemo
 }
 
 fn main(rt: HostRuntime) -> ExitCode {
-    match go::<HostRuntime, Box<dyn UserConstraint>>(&rt) {
+    match go::<HostRuntime, Kind>(&rt) {
         Ok(true) => ExitCode::SUCCESS,
         _ => ExitCode::FAILURE,
     }

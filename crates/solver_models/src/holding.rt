@@ -9,7 +9,7 @@ ghost use Rattle.term_model.specs.Kinds.{kinds_in};
 ghost use Rattle.term_model.specs.Wellformed.{IsWellFormed};
 
 use crate::kinds::is_number;
-use cbl_base::{Input, NoMemory};
+use cbl_base::{Input, NoMemory, NodeRule};
 use cbl_operations::Op;
 use model_values::evaluation::{Setting, term_outcome};
 use model_values::settling::{outcomes_of, tables_of};
@@ -17,7 +17,6 @@ use model_values::{ModelStop, UserValues, Values, fresh_with};
 use posted_users::PostedUsers;
 use std::alloc::Global;
 use term_model::{Model, Posted, Term, term_posted};
-use user_constraint::LocalConstraint;
 
 /// What the user's constraint with a number is to hold.
 #[derive(Drop)]
@@ -114,10 +113,7 @@ fn holdings_of<U: UserValues>(
 }
 
 /// Makes each user's constraint hold the numbers of its places under an assignment.
-fn hold_all<U: LocalConstraint>(
-    users: &mut PostedUsers<U>,
-    holdings: &[Holding],
-) -> Result<(), NoMemory>
+fn hold_all<N: NodeRule>(users: &mut PostedUsers<N>, holdings: &[Holding]) -> Result<(), NoMemory>
     ensures { rules_of users.new.posted.items ≡ rules_of users.old.posted.items }
 {
     for turn in 0..holdings.len() {
@@ -129,9 +125,9 @@ fn hold_all<U: LocalConstraint>(
 
 /// The values of a model under an assignment, exactly as `fresh_with` gives them; and where there are some, each user's
 /// constraint is made to hold the numbers of its places. Where there is a fault none of them is changed.
-pub fn settled<U: LocalConstraint>(
+pub fn settled<N: NodeRule>(
     alloc: Global,
-    users: &mut PostedUsers<U>,
+    users: &mut PostedUsers<N>,
     model: &Model,
     assignment: &[i64],
 ) -> Result<Values, ModelStop>
@@ -149,4 +145,22 @@ pub fn settled<U: LocalConstraint>(
     let holdings = holdings_of(alloc, &*users, model, assignment)?;
     hold_all(users, &holdings)?;
     Ok(values)
+}
+
+/// The same where the users' constraints hold nothing yet: each is reset to its numbers first.
+pub fn settled_first<N: NodeRule>(
+    alloc: Global,
+    users: &mut PostedUsers<N>,
+    model: &Model,
+    assignment: &[i64],
+) -> Result<Values, ModelStop>
+    requires formed { IsWellFormed model.now }
+    requires closable { IsClosable model.now }
+    requires assigned { length assignment.now ≡ length model.now.vars.items }
+    ensures fresh { IsFresh (fresh_of (users_of
+        (rules_of users.old.posted.items)) model.now assignment.now) result }
+    ensures rules { rules_of users.new.posted.items ≡ rules_of users.old.posted.items }
+{
+    users.begin()?;
+    settled(alloc, users, model, assignment)
 }

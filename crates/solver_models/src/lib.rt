@@ -24,7 +24,7 @@ mod totals;
 pub use counting::counted_with;
 pub use cycle::cycle_of;
 pub use free::{free_count, free_moves, free_numbers};
-pub use holding::settled;
+pub use holding::{settled, settled_first};
 pub use ids::{are_given, defines_given, is_given, is_within, names_given};
 pub use kinds::{holds_user, is_number, is_of_kind};
 pub use marks::{are_marked_or_numbers, mark, mark_at};

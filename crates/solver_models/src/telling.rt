@@ -8,13 +8,12 @@ ghost use Rattle.term_model.specs.Wellformed.{IsWellFormed};
 
 use crate::changes::changes_in;
 use crate::holding::settled;
-use cbl_base::Input;
+use cbl_base::{Input, NodeRule};
 use ls_events::VarChange;
 use model_values::{ModelStop, Values};
 use posted_users::PostedUsers;
 use std::alloc::Global;
 use term_model::Model;
-use user_constraint::LocalConstraint;
 
 /// The values after a commit, and how they differ from those before.
 #[derive(Drop)]
@@ -24,9 +23,9 @@ pub struct Told {
 }
 
 /// What a commit of a closed solver comes to.
-pub fn tell<U: LocalConstraint>(
+pub fn tell<N: NodeRule>(
     alloc: Global,
-    users: &mut PostedUsers<U>,
+    users: &mut PostedUsers<N>,
     number: u32,
     model: &Model,
     assignment: &[i64],

@@ -5,12 +5,12 @@ use cbl_base::limits::MAX_VARIABLES;
 use cbl_base::{Limit, Numbers, Place, RunFault, Steps, VarId};
 use ls_events::{Solution, VarChange};
 use ls_solver::{Solver, SolverFault};
+use node_kinds::{Kind, SolverNode};
 use std::alloc::Global;
 use std::marker::Brand;
 use std::sync::ledger::{Blank, Ledger};
 use std::test::*;
 use term_model::{BinaryOp, Op, Term, VarKind};
-use user_constraint::{LocalConstraint, UserConstraint};
 
 const NOWHERE: Place = Place { line: 1, col: 1 };
 
@@ -136,18 +136,14 @@ fn none<T>() -> Result<T, Fail> {
     Err(Fail::from("a call that can't be made"))
 }
 
-fn new_var<U: LocalConstraint>(solver: &mut Solver<U>, start: i64) -> Result<End, Fail> {
+fn new_var<N: SolverNode>(solver: &mut Solver<N>, start: i64) -> Result<End, Fail> {
     if !solver.usable() {
         return none();
     }
     Ok(ended(solver.new_var(-1_000, 1_000, start)))
 }
 
-fn define_by<U: LocalConstraint>(
-    solver: &mut Solver<U>,
-    x: VarId,
-    term: Term,
-) -> Result<End, Fail> {
+fn define_by<N: SolverNode>(solver: &mut Solver<N>, x: VarId, term: Term) -> Result<End, Fail> {
     if !solver.usable() {
         return none();
     }
@@ -157,9 +153,9 @@ fn define_by<U: LocalConstraint>(
     }
 }
 
-fn define<U: LocalConstraint>(
+fn define<N: SolverNode>(
     alloc: Global,
-    solver: &mut Solver<U>,
+    solver: &mut Solver<N>,
     x: VarId,
     shape: Shape,
 ) -> Result<End, Fail> {
@@ -167,17 +163,14 @@ fn define<U: LocalConstraint>(
     define_by(solver, x, term)
 }
 
-fn close<U: LocalConstraint>(solver: &mut Solver<U>) -> Result<Result<(), SolverFault>, Fail> {
+fn close<N: SolverNode>(solver: &mut Solver<N>) -> Result<Result<(), SolverFault>, Fail> {
     if !solver.usable() || !solver.has_defined_sets() {
         return none();
     }
     Ok(solver.close(1))
 }
 
-fn value<U: LocalConstraint>(
-    solver: &Solver<U>,
-    x: VarId,
-) -> Result<Result<i64, SolverFault>, Fail> {
+fn value<N: SolverNode>(solver: &Solver<N>, x: VarId) -> Result<Result<i64, SolverFault>, Fail> {
     if !solver.usable() {
         return none();
     }
@@ -187,9 +180,9 @@ fn value<U: LocalConstraint>(
     }
 }
 
-fn commit_by<L: Ledger, U: LocalConstraint>(
+fn commit_by<L: Ledger, N: SolverNode>(
     blank: Blank,
-    solver: &mut Solver<U>,
+    solver: &mut Solver<N>,
     x: VarId,
     number: i64,
 ) -> Result<Result<Vec<VarChange>, SolverFault>, Fail>
@@ -207,24 +200,24 @@ fn commit_by<L: Ledger, U: LocalConstraint>(
     }
 }
 
-fn commit<U: LocalConstraint>(
-    solver: &mut Solver<U>,
+fn commit<N: SolverNode>(
+    solver: &mut Solver<N>,
     x: VarId,
     number: i64,
 ) -> Result<Result<Vec<VarChange>, SolverFault>, Fail> {
-    commit_by::<Brand, U>(Blank::new(1), solver, x, number)
+    commit_by::<Brand, N>(Blank::new(1), solver, x, number)
 }
 
-fn snapshot<U: LocalConstraint>(solver: &Solver<U>) -> Result<Result<Solution, SolverFault>, Fail> {
+fn snapshot<N: SolverNode>(solver: &Solver<N>) -> Result<Result<Solution, SolverFault>, Fail> {
     if !solver.usable() {
         return none();
     }
     Ok(solver.snapshot())
 }
 
-fn restore_by<L: Ledger, U: LocalConstraint>(
+fn restore_by<L: Ledger, N: SolverNode>(
     blank: Blank,
-    solver: &mut Solver<U>,
+    solver: &mut Solver<N>,
     solution: &Solution,
 ) -> Result<Result<Vec<VarChange>, SolverFault>, Fail>
     requires name { blank.name ≡ L.name }
@@ -238,11 +231,11 @@ fn restore_by<L: Ledger, U: LocalConstraint>(
     Ok(solver.restore(solution, &mut steps))
 }
 
-fn restore<U: LocalConstraint>(
-    solver: &mut Solver<U>,
+fn restore<N: SolverNode>(
+    solver: &mut Solver<N>,
     solution: &Solution,
 ) -> Result<Result<Vec<VarChange>, SolverFault>, Fail> {
-    restore_by::<Brand, U>(Blank::new(1), solver, solution)
+    restore_by::<Brand, N>(Blank::new(1), solver, solution)
 }
 
 // A solution of the solver with a number.
@@ -279,15 +272,15 @@ enum Step<'a> {
     Usable(bool),
 }
 
-fn names_cycle<U: LocalConstraint>(solver: &mut Solver<U>, wanted: &[VarId]) -> Result<bool, Fail> {
+fn names_cycle<N: SolverNode>(solver: &mut Solver<N>, wanted: &[VarId]) -> Result<bool, Fail> {
     match close(solver)? {
         Err(SolverFault::Cyclic(cycle)) => Ok(cycle.as_slice() == wanted),
         _ => Ok(false),
     }
 }
 
-fn tells<U: LocalConstraint>(
-    solver: &mut Solver<U>,
+fn tells<N: SolverNode>(
+    solver: &mut Solver<N>,
     x: VarId,
     number: i64,
     wanted: &[VarChange],
@@ -298,23 +291,23 @@ fn tells<U: LocalConstraint>(
     }
 }
 
-fn has_value<U: LocalConstraint>(solver: &Solver<U>, x: VarId, wanted: i64) -> Result<bool, Fail> {
+fn has_value<N: SolverNode>(solver: &Solver<N>, x: VarId, wanted: i64) -> Result<bool, Fail> {
     match value(solver, x)? {
         Ok(number) => Ok(number == wanted),
         Err(_) => Ok(false),
     }
 }
 
-fn keeps<U: LocalConstraint>(solver: &Solver<U>, wanted: &[i64]) -> Result<bool, Fail> {
+fn keeps<N: SolverNode>(solver: &Solver<N>, wanted: &[i64]) -> Result<bool, Fail> {
     match snapshot(solver)? {
         Ok(solution) => Ok(solution.solver == 4 && solution.values.as_slice() == wanted),
         Err(_) => Ok(false),
     }
 }
 
-fn restores<U: LocalConstraint>(
+fn restores<N: SolverNode>(
     alloc: Global,
-    solver: &mut Solver<U>,
+    solver: &mut Solver<N>,
     values: &[i64],
     wanted: &[VarChange],
 ) -> Result<bool, Fail> {
@@ -325,9 +318,9 @@ fn restores<U: LocalConstraint>(
     }
 }
 
-fn stays<U: LocalConstraint>(
+fn stays<N: SolverNode>(
     alloc: Global,
-    solver: &mut Solver<U>,
+    solver: &mut Solver<N>,
     number: u32,
     values: &[i64],
     wanted: End,
@@ -336,11 +329,7 @@ fn stays<U: LocalConstraint>(
     Ok(ended(restore(solver, &solution)?) == wanted)
 }
 
-fn holds<U: LocalConstraint>(
-    alloc: Global,
-    solver: &mut Solver<U>,
-    step: Step,
-) -> Result<bool, Fail> {
+fn holds<N: SolverNode>(alloc: Global, solver: &mut Solver<N>, step: Step) -> Result<bool, Fail> {
     match step {
         Step::New(start, wanted) => Ok(new_var(solver, start)? == wanted),
         Step::Define(x, shape, wanted) => Ok(define(alloc, solver, x, shape)? == wanted),
@@ -360,11 +349,7 @@ fn holds<U: LocalConstraint>(
     }
 }
 
-fn hold<U: LocalConstraint>(
-    alloc: Global,
-    solver: &mut Solver<U>,
-    steps: &[Step],
-) -> Result<(), Fail> {
+fn hold<N: SolverNode>(alloc: Global, solver: &mut Solver<N>, steps: &[Step]) -> Result<(), Fail> {
     for step in steps {
         if !holds(alloc, solver, *step)? {
             return Err(Fail::from("another answer"));
@@ -374,12 +359,12 @@ fn hold<U: LocalConstraint>(
 }
 
 // What a new solver answers.
-fn run<U: LocalConstraint>(alloc: Global, steps: &[Step]) -> Result<(), Fail> {
-    hold(alloc, &mut Solver::<U>::new(alloc, 4), steps)
+fn run<N: SolverNode>(alloc: Global, steps: &[Step]) -> Result<(), Fail> {
+    hold(alloc, &mut Solver::<N>::new(alloc, 4), steps)
 }
 
 // ---- tests
-type Boxed = Box<dyn UserConstraint>;
+type Boxed = Kind;
 
 const WRONG: End = End::Refused(RunFault::WrongSolver);
 
@@ -568,7 +553,7 @@ fn deep_terms(rt: HostRuntime) -> Result<(), Fail> {
     run::<Boxed>(rt.alloc(), DEEP)
 }
 
-fn fill<U: LocalConstraint>(solver: &mut Solver<U>) -> Result<(), Fail> {
+fn fill<N: SolverNode>(solver: &mut Solver<N>) -> Result<(), Fail> {
     for _variable in 0..MAX_VARIABLES {
         if new_var(solver, 0)? != End::Done {
             return none();
@@ -577,8 +562,8 @@ fn fill<U: LocalConstraint>(solver: &mut Solver<U>) -> Result<(), Fail> {
     Ok(())
 }
 
-fn most<U: LocalConstraint>(alloc: Global) -> Result<(), Fail> {
-    let mut solver = Solver::<U>::new(alloc, 4);
+fn most<N: SolverNode>(alloc: Global) -> Result<(), Fail> {
+    let mut solver = Solver::<N>::new(alloc, 4);
     fill(&mut solver)?;
     hold(alloc, &mut solver, &[Step::New(0, TOO_MANY)])
 }

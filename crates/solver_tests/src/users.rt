@@ -9,6 +9,7 @@ ghost use Rattle.user_constraint.specs.Moves.{AreMoves, after_moves};
 
 use cbl_base::{NoMemory, Place, RunFault, VarId};
 use ls_solver::{Solver, SolverFault, SystemId, TotalId};
+use node_kinds::{KindOf, SolverNode};
 use std::alloc::Global;
 use std::sync::Arc;
 use std::sync::atomic::{AtomicU64, Ordering};
@@ -238,8 +239,8 @@ fn sum_of(alloc: Global, sum: Sum) -> Result<Term, Fail> {
 }
 
 // One more place, which must be a number.
-fn push_place<U: LocalConstraint>(
-    solver: &Solver<U>,
+fn push_place<N: SolverNode>(
+    solver: &Solver<N>,
     places: &mut Vec<Term>,
     term: Term,
 ) -> Result<(), Fail>
@@ -256,9 +257,9 @@ fn push_place<U: LocalConstraint>(
     }
 }
 
-fn places_of<U: LocalConstraint>(
+fn places_of<N: SolverNode>(
     alloc: Global,
-    solver: &Solver<U>,
+    solver: &Solver<N>,
     sums: &[Sum],
 ) -> Result<Vec<Term>, Fail>
     ensures kinds { IfOk result (λ places.
@@ -276,7 +277,7 @@ fn places_of<U: LocalConstraint>(
 
 fn post<U: LocalConstraint>(
     alloc: Global,
-    solver: &mut Solver<U>,
+    solver: &mut Solver<KindOf<U>>,
     user: U,
     places: &[Sum],
     weight: i64,
@@ -296,7 +297,7 @@ struct Made<'a> {
     by: Sum,
 }
 
-fn new_var<U: LocalConstraint>(solver: &mut Solver<U>, start: i64) -> Result<(), Fail> {
+fn new_var<N: SolverNode>(solver: &mut Solver<N>, start: i64) -> Result<(), Fail> {
     if !solver.usable() {
         return none();
     }
@@ -306,9 +307,9 @@ fn new_var<U: LocalConstraint>(solver: &mut Solver<U>, start: i64) -> Result<(),
     }
 }
 
-fn define<U: LocalConstraint>(
+fn define<N: SolverNode>(
     alloc: Global,
-    solver: &mut Solver<U>,
+    solver: &mut Solver<N>,
     x: VarId,
     by: Sum,
 ) -> Result<(), Fail> {
@@ -325,7 +326,7 @@ fn define<U: LocalConstraint>(
     }
 }
 
-fn new_system<U: LocalConstraint>(solver: &mut Solver<U>) -> Result<(), Fail> {
+fn new_system<N: SolverNode>(solver: &mut Solver<N>) -> Result<(), Fail> {
     if !solver.usable() {
         return none();
     }
@@ -335,9 +336,9 @@ fn new_system<U: LocalConstraint>(solver: &mut Solver<U>) -> Result<(), Fail> {
     }
 }
 
-fn build<U: LocalConstraint>(
+fn build<N: SolverNode>(
     alloc: Global,
-    solver: &mut Solver<U>,
+    solver: &mut Solver<N>,
     made: Made,
 ) -> Result<(), Fail> {
     for start in made.starts {
@@ -362,14 +363,14 @@ enum Step {
     Usable(bool),
 }
 
-fn close<U: LocalConstraint>(solver: &mut Solver<U>) -> Result<End, Fail> {
+fn close<N: SolverNode>(solver: &mut Solver<N>) -> Result<End, Fail> {
     if !solver.usable() || !solver.has_defined_sets() {
         return none();
     }
     Ok(ended(solver.close(1)))
 }
 
-fn commit<U: LocalConstraint>(solver: &mut Solver<U>, x: VarId, number: i64) -> Result<End, Fail> {
+fn commit<N: SolverNode>(solver: &mut Solver<N>, x: VarId, number: i64) -> Result<End, Fail> {
     if !solver.usable() {
         return none();
     }
@@ -380,7 +381,7 @@ fn commit<U: LocalConstraint>(solver: &mut Solver<U>, x: VarId, number: i64) -> 
 }
 
 // What a question of a usable solver answers.
-fn asked<U: LocalConstraint>(solver: &Solver<U>, step: Step) -> Result<bool, Fail> {
+fn asked<N: SolverNode>(solver: &Solver<N>, step: Step) -> Result<bool, Fail> {
     if !solver.usable() {
         return none();
     }
@@ -394,8 +395,8 @@ fn asked<U: LocalConstraint>(solver: &Solver<U>, step: Step) -> Result<bool, Fai
     }
 }
 
-fn holds<U: LocalConstraint>(
-    solver: &mut Solver<U>,
+fn holds<N: SolverNode>(
+    solver: &mut Solver<N>,
     counts: &Counts,
     step: Step,
 ) -> Result<bool, Fail> {
@@ -409,8 +410,8 @@ fn holds<U: LocalConstraint>(
     }
 }
 
-fn hold<U: LocalConstraint>(
-    solver: &mut Solver<U>,
+fn hold<N: SolverNode>(
+    solver: &mut Solver<N>,
     counts: &Counts,
     steps: &[Step],
 ) -> Result<(), Fail> {
@@ -432,7 +433,7 @@ fn run<U: LocalConstraint>(
     weight: i64,
     steps: &[Step],
 ) -> Result<(), Fail> {
-    let mut solver = Solver::<U>::new(alloc, SOLVER);
+    let mut solver = Solver::<KindOf<U>>::new(alloc, SOLVER);
     build(alloc, &mut solver, made)?;
     match post(alloc, &mut solver, user, places, weight)? {
         Ok(()) => hold(&mut solver, counts, steps),
@@ -513,7 +514,7 @@ fn is_handed_back<U: LocalConstraint>(
     counts: &Counts,
     user: U,
 ) -> Result<bool, Fail> {
-    let mut solver = Solver::<U>::new(alloc, SOLVER);
+    let mut solver = Solver::<KindOf<U>>::new(alloc, SOLVER);
     build(alloc, &mut solver, EDGE)?;
     match post(alloc, &mut solver, user, THREE, -1)? {
         Err((fault, back)) => Ok(

@@ -9,12 +9,12 @@ ghost use Rattle.stmt_expr.specs.Evaluation.{Evaluates, answer_seen};
 use cbl_base::{Fuel, Place, RunFault, Steps};
 use checked_tree::Typed;
 use interpreter::{Code, evaluate};
+use node_kinds::SolverNode;
 use run_standing::Standing;
 use run_standing::solving::Trial;
 use run_standing::state_of_runs::{Bytes, Stage};
 use run_values::{Stop, Value};
 use std::sync::ledger::Ledger;
-use user_constraint::LocalConstraint;
 
 /// Why an expression has no value.
 #[derive(Clone, Copy, PartialEq, Eq, Debug)]
@@ -31,8 +31,8 @@ pub enum EvalStop {
 /// inside each other. The value, or the fault or the end of the fuel with its place, and the fuel that is left are those
 /// of the expression's meaning. With `NoMemory` nothing is told of the fuel. Deltas are tried out in `trial`, which holds
 /// nothing yet, and `steps` counts nothing yet.
-pub fn eval<L: Ledger, U: LocalConstraint>(
-    standing: &Standing<U>,
+pub fn eval<L: Ledger, N: SolverNode>(
+    standing: &Standing<N>,
     code: &Code<'_>,
     room: u32,
     e: &Typed,

@@ -14,12 +14,12 @@ use crate::counted::CountedOut;
 use cbl_base::{Names, Place, RunFault};
 use checked_tree::Checked;
 use interpreter::{Code, Flow, run as run_tasks};
+use node_kinds::SolverNode;
 use program_forms::pure_functions;
 use run_standing::Standing;
 use run_standing::state_of_runs::{Outside, Stage, State};
 use run_values::{OutStop, Stop};
 use std::alloc::Global;
-use user_constraint::LocalConstraint;
 
 /// How a run ends.
 #[derive(Drop, Debug)]
@@ -39,22 +39,22 @@ pub enum RunEnd {
 
 /// What a run leaves: its end, the fuel that it didn't use, the state, and the output.
 #[derive(Drop)]
-pub struct Ended<O, U: LocalConstraint> {
+pub struct Ended<O, N: SolverNode> {
     pub end: RunEnd,
     pub fuel: u64,
-    pub standing: Standing<U>,
+    pub standing: Standing<N>,
     pub out: O,
 }
 
 /// Runs a program from this state on, and adds what it prints to `out`, which it gives back. The end, the fuel that is left
 /// and all that the output then has taken are those of the program's meaning; with `NoMemory` and `Write` what it has taken
 /// is a front of that. `Write` comes only where the output failed in this call.
-pub fn run<O: CountedOut, U: LocalConstraint>(
+pub fn run<O: CountedOut, N: SolverNode>(
     alloc: Global,
     program: &Checked,
-    standing: Standing<U>,
+    standing: Standing<N>,
     out: O,
-) -> Ended<O, U>
+) -> Ended<O, N>
     ensures meant { EndsAs result.end result.fuel (O.taken result.out)
         (programs.run (program_of program.now) (standing_seen standing (O.taken out))) }
     ensures failed { result.end ≡ Write → HasRisen (O.faults out) (O.faults result.out) }

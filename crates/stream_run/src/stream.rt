@@ -12,21 +12,21 @@ use crate::told::Told;
 use crate::wire::{Lent, Wire};
 use cbl_io::Sink;
 use checked_tree::Checked;
+use node_kinds::SolverNode;
 use run_standing::Standing;
 use run_values::OutStop;
 use std::alloc::Global;
 use std::marker::{Brand, PhantomData};
 use stmt_run::{RunEnd, run};
-use user_constraint::LocalConstraint;
 
 /// Runs a program from this state on, and writes what it prints to the sink, through a buffer of 65,536 bytes, which is written
 /// when it is full and when the run ends, whatever way that is. The end and the bytes that the sink gets are those of
 /// the program's meaning; with `NoMemory` and `Write` the bytes are a front of these. `Write` comes only where a
 /// write failed, behind which nothing more is written.
-pub fn run_to_sink<S: Sink, U: LocalConstraint>(
+pub fn run_to_sink<S: Sink, N: SolverNode>(
     alloc: Global,
     program: &Checked,
-    standing: Standing<U>,
+    standing: Standing<N>,
     sink: &mut S,
 ) -> RunEnd
     ensures meant { StreamsAs result (S.bytes sink.old) (S.bytes sink.new)
@@ -38,15 +38,15 @@ pub fn run_to_sink<S: Sink, U: LocalConstraint>(
     };
     let mut end = RunEnd::NoMemory;
     let lent = Lent { sink };
-    let _ = run_lent::<S, U, Brand>(alloc, program, standing, lent, waiting, &mut end);
+    let _ = run_lent::<S, N, Brand>(alloc, program, standing, lent, waiting, &mut end);
     end
 }
 
 /// The same to a sink that is lent, with this buffer: it gives the sink back, and the end is put where that is wanted.
-fn run_lent<'a, S: Sink, U: LocalConstraint, B: Begin>(
+fn run_lent<'a, S: Sink, N: SolverNode, B: Begin>(
     alloc: Global,
     program: &Checked,
-    standing: Standing<U>,
+    standing: Standing<N>,
     lent: Lent<'a, S>,
     waiting: Vec<u8>,
     end: &mut RunEnd,

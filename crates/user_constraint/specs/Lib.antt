@@ -1,2 +1,3 @@
+pub mod KeptRule
 pub mod Moves
 pub mod UserRule

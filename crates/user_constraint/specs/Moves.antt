@@ -1,6 +1,7 @@
 -- A move is a place of a list and the number that comes to stand there. A rule of this project.
-use Rattle.std.specs.Prelude.{◌≢◌, ℕ, ℤ, ◌<◌, List, [], ◌∷◌, fold, map, slice_set}
+use Rattle.std.specs.Prelude.{◌≡◌, ◌≢◌, ℕ, ℤ, ◌<◌, true, List, [], ◌∷◌, fold, map, slice_set}
 use Rattle.node_base.specs.declared.number_change.NumberChange.{NumberChange}
+use Rattle.user_constraint.specs.KeptRule.{half, is_below, size_of}
 
 -- the numbers after a move, and after each of several
 abbrev pub after_move : List ℤ → ℕ × ℤ → List ℤ
@@ -25,3 +26,8 @@ move_of c = (c.place, c.new)
 
 abbrev pub moves_of : List NumberChange → List (ℕ × ℤ)
 moves_of cs = map move_of cs
+
+-- each is to a 64-bit number
+abbrev pub AreToKept : List NumberChange → Type 0
+AreToKept [] = Unit {0}
+AreToKept (c ∷ cs) = (is_below (size_of c.new) half ≡ true) × AreToKept cs

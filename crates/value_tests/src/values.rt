@@ -5,6 +5,7 @@ use cbl_base::{Fuel, Place, RunFault, Steps};
 use checked_tree::{Form, Generator, Kind, Link, Slot, Typed};
 use comet_syntax::tree::{Aggregate, ChainOperator};
 use interpreter::Code;
+use node_kinds::SolverNode;
 use program_forms::is_pure;
 use run_standing::Standing;
 use run_standing::solving::Solver;
@@ -14,10 +15,9 @@ use std::marker::Brand;
 use std::sync::ledger::{Blank, Ledger};
 use std::test::*;
 use stmt_expr::{EvalStop, eval};
-use user_constraint::{LocalConstraint, UserConstraint};
 
-/// What users' constraints come in.
-type Boxed = Box<dyn UserConstraint>;
+/// The nodes of runs whose users' constraints come in boxes.
+type Boxed = node_kinds::Kind;
 
 /// Where the whole expression stands, and where an operator in it does.
 const WHOLE: Place = Place { line: 2, col: 3 };
@@ -85,8 +85,8 @@ fn products(alloc: Global) -> Result<Typed, AllocError> {
 }
 
 /// A run in which `n` is 3 and `a` has the cells 5, 6 and 7.
-fn state<U: LocalConstraint>(alloc: Global) -> Result<Standing<U>, Stop> {
-    let mut s = Standing::<U>::new(alloc, 0, 0, Vec::new(alloc), Vec::new(alloc));
+fn state<K: SolverNode>(alloc: Global) -> Result<Standing<K>, Stop> {
+    let mut s = Standing::<K>::new(alloc, 0, 0, Vec::new(alloc), Vec::new(alloc));
     s.state.put(N, Value::Number(3))?;
     let cells = Cells::row(Vec::from_array(alloc, [5, 6, 7])?);
     let array = s.state.new_array(cells)?;
@@ -95,19 +95,19 @@ fn state<U: LocalConstraint>(alloc: Global) -> Result<Standing<U>, Stop> {
 }
 
 /// The number that a pure expression without calls gives in that run, and the fuel that is left.
-fn given<U: LocalConstraint>(
+fn given<K: SolverNode>(
     alloc: Global,
     room: u32,
     e: &Typed,
     fuel: u64,
 ) -> Result<(Result<i64, EvalStop>, u64), Fail> {
-    let s = state::<U>(alloc)?;
-    Ok(given_by::<Brand, U>(Blank::new(1), &s, room, e, fuel))
+    let s = state::<K>(alloc)?;
+    Ok(given_by::<Brand, K>(Blank::new(1), &s, room, e, fuel))
 }
 
-fn given_by<L: Ledger, U: LocalConstraint>(
+fn given_by<L: Ledger, K: SolverNode>(
     blank: Blank,
-    s: &Standing<U>,
+    s: &Standing<K>,
     room: u32,
     e: &Typed,
     fuel: u64,
@@ -123,7 +123,7 @@ fn given_by<L: Ledger, U: LocalConstraint>(
         return (Err(EvalStop::NoMemory), 0);
     }
     let mut left = Fuel { left: fuel };
-    let mut trial = Solver::<U>::new(s.state.alloc, 0).trial();
+    let mut trial = Solver::<K>::new(s.state.alloc, 0).trial();
     let mut steps = Steps::<L>::new(blank);
     let answer = match eval(s, &code, room, e, &mut left, &mut trial, &mut steps) {
         Ok(value) => Ok(value.number()),

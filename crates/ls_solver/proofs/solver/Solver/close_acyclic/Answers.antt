@@ -17,7 +17,7 @@ invariant_of-self g c =
       acyclic = subst (λ (t : SolverState). IsAcyclic t.model) (sym c.self.view_is) c.requires.acyclic;
     } in
     let fresh = subst (λ a. IsFresh (fresh_of (users_of (rules_of s.users.posted.items)) s.model a) (Ok c.in-Ok.values)) c.deref.ensures.value c.in-Ok.ensures.fresh in
-    subst (λ rs. IsKept s.model s.assignment.items s.marks.items rs s.terms (seen_values c.in-Ok.values) true s.usable) (sym c.settled.ensures.rules)
+    subst (λ rs. IsKept s.model s.assignment.items s.marks.items rs s.terms (seen_values c.in-Ok.values) true s.usable) (sym c.settled_first.ensures.rules)
     (kept_closed s.model s.assignment.items s.assignment.items s.marks.items (rules_of s.users.posted.items) s.terms (seen_values s.values) (seen_values c.in-Ok.values) s.closed s.usable refl closable fresh c.self.invariant)
 
 pub returns-in-Err-Fault : goal.returns-in-Err-Fault

@@ -8,7 +8,7 @@ try_define-made-requires-clause-whole g c = c.requires.kept.0
 pub finish-requires : goal.finish-requires
 finish-requires g c =
     let old = c.args.self.now in
-    kept_from {U = g.row.U.Denot} c.try_define-made.result c.try_define-made.new.self old.solver.model c.args.variable.index c.try_define-made.ensures.whole c.try_define-made.ensures.sets (others_of old.solver.model c.args.variable.index c.requires.kept.1)
+    kept_from {N = g.row.N.Denot} c.try_define-made.result c.try_define-made.new.self old.solver.model c.args.variable.index c.try_define-made.ensures.whole c.try_define-made.ensures.sets (others_of old.solver.model c.args.variable.index c.requires.kept.1)
 
 pub returns : goal.returns
 returns g c =
@@ -16,7 +16,7 @@ returns g c =
     finished old _ _ c.try_define-made.result c.finish.result _
     (record {
       meant = c.try_define-made.ensures.meant;
-      kept = kept_from {U = g.row.U.Denot} c.try_define-made.result c.try_define-made.new.self old.solver.model c.args.variable.index c.try_define-made.ensures.whole c.try_define-made.ensures.sets (others_of old.solver.model c.args.variable.index c.requires.kept.1);
+      kept = kept_from {N = g.row.N.Denot} c.try_define-made.result c.try_define-made.new.self old.solver.model c.args.variable.index c.try_define-made.ensures.whole c.try_define-made.ensures.sets (others_of old.solver.model c.args.variable.index c.requires.kept.1);
       number = c.try_define-made.ensures.number;
     })
     c.finish.ensures.same c.finish.ensures.kept c.finish.ensures.number c.finish.ensures.unchanged

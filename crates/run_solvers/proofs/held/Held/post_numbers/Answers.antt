@@ -1,6 +1,6 @@
 -- The constraint is there, or stops as it is meant to.
 use Rattle.std.proofs.Common.{◌≡◌, ℤ, None, refl, sym, ap, ◌∙◌, subst, w64, to_z, of_z, rules, Result, length}
-use Rattle.posted_users.specs.KeptRule.{kept}
+use Rattle.posted_users.specs.KeptOf.{kept_of}
 use Rattle.ls_solver.specs.OfSolverModels.UserPosting.{user_term}
 use Rattle.ls_solver.specs.OfSolverModels.declared.totals.TotalId.{TotalId}
 use Rattle.ls_solver.specs.Adding.{member_refusal}
@@ -12,20 +12,20 @@ use Rattle.run_solvers.specs.Views.{held_seen, waits}
 use Rattle.run_solvers.proofs.UserLaws.{system_is, user_posted, user_sets, user_stops, user_whole}
 use Rattle.run_solvers.proofs.held.Held.post_numbers.Goals as goal
 
-pub post_user-requires-clause-usable : goal.post_user-requires-clause-usable
-post_user-requires-clause-usable g c = c.requires.kept.0.usable
+pub post_node-requires-clause-usable : goal.post_node-requires-clause-usable
+post_node-requires-clause-usable g c = c.requires.kept.0.usable
 
-pub post_user-requires-clause-kinds : goal.post_user-requires-clause-kinds
-post_user-requires-clause-kinds g c = λ own. c.requires.kinds
+pub post_node-requires-clause-kinds : goal.post_node-requires-clause-kinds
+post_node-requires-clause-kinds g c = λ own. c.requires.kinds
 
-pub post_user-requires-clause-users : goal.post_user-requires-clause-users
-post_user-requires-clause-users g c = c.requires.users
+pub post_node-requires-clause-users : goal.post_node-requires-clause-users
+post_node-requires-clause-users g c = c.requires.users
 
 pub returns-in-Ok : goal.returns-in-Ok
 returns-in-Ok g c = λ plain are.
     let old = c.args.self.now in
     let k : TotalId = of_system (record { solver = c.args.total.solver; index = c.args.total.index }) in
-    let rule = kept (g.U.LocalConstraint.user_rule c.args.user) in
+    let rule = kept_of (g.N.NodeRule.rule c.args.node) in
     let own = c.requires.own ∙ sym c.requires.kept.0.number_ in
     let weight = to_z w64 (of_z w64 c.args.weight) in
     let same : to_z w64 (of_z w64 c.args.weight) ≡ c.args.weight = search rules in
@@ -43,7 +43,7 @@ pub returns-in-Err : goal.returns-in-Err
 returns-in-Err g c = λ plain are.
     let old = c.args.self.now in
     let k : TotalId = of_system (record { solver = c.args.total.solver; index = c.args.total.index }) in
-    let rule = kept (g.U.LocalConstraint.user_rule c.args.user) in
+    let rule = kept_of (g.N.NodeRule.rule c.args.node) in
     let own = c.requires.own ∙ sym c.requires.kept.0.number_ in
     let weight = to_z w64 (of_z w64 c.args.weight) in
     let same : to_z w64 (of_z w64 c.args.weight) ≡ c.args.weight = search rules in record {

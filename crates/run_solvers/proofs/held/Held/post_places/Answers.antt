@@ -1,6 +1,6 @@
 -- The terms stand in a row.
 use Rattle.std.proofs.Common.{◌≡◌, ℤ, refl, sym, ap, w64, to_z, of_z, rules}
-use Rattle.posted_users.specs.KeptRule.{kept}
+use Rattle.posted_users.specs.KeptOf.{kept_of}
 use Rattle.ls_solver.specs.Totals.{whole_of}
 use Rattle.run_solvers.specs.Changing.{posted_user_one}
 use Rattle.run_solvers.specs.Views.{held_seen}
@@ -13,7 +13,7 @@ post_row-requires-clause-built g c = (c.args.places.items, c.in-Ok.ensures)
 pub returns-in-Ok : goal.returns-in-Ok
 returns-in-Ok g c =
     let old = c.args.self.now in
-    let rule = kept (g.U.LocalConstraint.user_rule c.args.user) in
+    let rule = kept_of (g.N.NodeRule.rule c.args.node) in
     let same : to_z w64 (of_z w64 c.args.weight) ≡ c.args.weight = search rules in
     tried_as old old _ c.post_row.result _ _ refl (ap (λ (z : ℤ). posted_user_one c.args.at c.args.total.solver (whole_of c.args.total) rule c.args.places.items z (held_seen old)) (sym same)) (c.post_row.ensures c.args.places.items c.in-Ok.ensures)
 

@@ -1,6 +1,6 @@
 -- No place is too deep, and each is a number.
 use Rattle.std.proofs.Common.{◌≡◌, ℕ, ℤ, ◌≤◌, refl, sym, subst, ap, w64, to_z, of_z, rules, arith}
-use Rattle.posted_users.specs.KeptRule.{kept}
+use Rattle.posted_users.specs.KeptOf.{kept_of}
 use Rattle.ls_solver.specs.Totals.{whole_of}
 use Rattle.run_solvers.specs.Changing.{posted_user_one}
 use Rattle.run_solvers.specs.Views.{held_seen}
@@ -30,7 +30,7 @@ post_numbers-requires-clause-kinds g c = rw c.deref.ensures.value at (c.in-Ok-tr
 pub returns-in-Ok-true : goal.returns-in-Ok-true
 returns-in-Ok-true g c = λ plain are.
     let old = c.args.self.now in
-    let rule = kept (g.U.LocalConstraint.user_rule c.args.user) in
+    let rule = kept_of (g.N.NodeRule.rule c.args.node) in
     let same : to_z w64 (of_z w64 c.args.weight) ≡ c.args.weight = search rules in
     tried_as old old _ c.post_numbers.result _ _ refl (ap (λ (z : ℤ). posted_user_one c.args.at c.args.total.solver (whole_of c.args.total) rule plain z (held_seen old)) (sym same)) (c.post_numbers.ensures plain are)
 

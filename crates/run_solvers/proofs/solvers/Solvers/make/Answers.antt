@@ -19,4 +19,4 @@ returns-clause-did g c = λ s is.
     let number : length held ≡ c.len-number.result = omega arith in
     made_solver s held c.new.result (is ∙ sym c.self.view_is) c.new.ensures.seen
     ∙ ap (λ (k : ℕ). Went (Solver k) (record s { solvers = map held_seen (held ++ c.new.result ∷ []) })) number
-    ∙ ap (λ (hs : List (Held g.row.U.Denot)). Went (Solver c.len-number.result) (record s { solvers = map held_seen hs })) (sym {A = List (Held g.row.U.Denot)} c.in_ok-push.ensures.items)
+    ∙ ap (λ (hs : List (Held g.row.N.Denot)). Went (Solver c.len-number.result) (record s { solvers = map held_seen hs })) (sym {A = List (Held g.row.N.Denot)} c.in_ok-push.ensures.items)

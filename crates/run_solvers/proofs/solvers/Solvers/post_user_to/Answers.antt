@@ -3,7 +3,7 @@ use Rattle.std.proofs.Common.{◌≡◌, ◌<◌, ℤ, length, get_or, sym, ◌�
 use Rattle.ls_solver.specs.Totals.{whole_of}
 use Rattle.comet_meaning.specs.Parts.{solver_at}
 use Rattle.comet_meaning.specs.Values.{Nothing}
-use Rattle.posted_users.specs.KeptRule.{kept}
+use Rattle.posted_users.specs.KeptOf.{kept_of}
 use Rattle.run_solvers.specs.Changing.{Made, changed, posted_user_one}
 use Rattle.run_solvers.specs.Makes.{Makes}
 use Rattle.run_solvers.specs.Views.{held_seen}
@@ -16,8 +16,8 @@ returns-then-number-len-clause-did g c = λ s is.
     let held = c.self.inside.held.items in
     let k = c.args.total.solver in
     let none = not_found held k s (is ∙ sym c.self.view_is) (omega (arith, c.len.ensures, c.if-number-len.true)) in
-    posts_user c.args.at (kept (g.U.LocalConstraint.user_rule c.args.user)) c.args.places.items c.args.weight k (whole_of c.args.total) s
-    ∙ ap (λ (made : Made). changed Nothing k made s) (posted_user_nowhere c.args.at k (whole_of c.args.total) (kept (g.U.LocalConstraint.user_rule c.args.user)) c.args.places.items c.args.weight (solver_at s k) none)
+    posts_user c.args.at (kept_of (g.N.NodeRule.rule c.args.node)) c.args.places.items c.args.weight k (whole_of c.args.total) s
+    ∙ ap (λ (made : Made). changed Nothing k made s) (posted_user_nowhere c.args.at k (whole_of c.args.total) (kept_of (g.N.NodeRule.rule c.args.node)) c.args.places.items c.args.weight (solver_at s k) none)
 
 pub post_user-requires-clause-kept : goal.post_user-requires-clause-kept
 post_user-requires-clause-kept g c =
@@ -46,9 +46,9 @@ returns-clause-did g c = λ s is.
     let there : c.index_mut.result.now ≡ get_or held c.args.total.solver c.index_mut.result.now = search rules in
     let lt : c.args.total.solver < length held = omega (arith, c.len.ensures, c.if-number-len.false) in
     let same : to_z w64 (of_z w64 c.args.weight) ≡ c.args.weight = search rules in
-    let meant = subst (λ (z : ℤ). Makes (held_seen c.post_user.new.self) c.post_user.result (posted_user_one c.args.at c.args.total.solver (whole_of c.args.total) (kept (g.U.LocalConstraint.user_rule c.args.user)) c.args.places.items z (held_seen c.index_mut.result.now))) same c.post_user.ensures.meant in
-    rw (posts_user c.args.at (kept (g.U.LocalConstraint.user_rule c.args.user)) c.args.places.items c.args.weight c.args.total.solver (whole_of c.args.total) s, found held c.args.total.solver c.index_mut.result.now s all lt there)
+    let meant = subst (λ (z : ℤ). Makes (held_seen c.post_user.new.self) c.post_user.result (posted_user_one c.args.at c.args.total.solver (whole_of c.args.total) (kept_of (g.N.NodeRule.rule c.args.node)) c.args.places.items z (held_seen c.index_mut.result.now))) same c.post_user.ensures.meant in
+    rw (posts_user c.args.at (kept_of (g.N.NodeRule.rule c.args.node)) c.args.places.items c.args.weight c.args.total.solver (whole_of c.args.total) s, found held c.args.total.solver c.index_mut.result.now s all lt there)
     (does_so Nothing c.args.total.solver s held c.post_user.new.self c.post_user.result _ all meant)
 
 pub returns-clause-stop : goal.returns-clause-stop
-returns-clause-stop g c = no_cycle_so (held_seen c.post_user.new.self) c.post_user.result _ (posted_user_none c.args.at c.args.total.solver (whole_of c.args.total) (kept (g.U.LocalConstraint.user_rule c.args.user)) c.args.places.items (to_z w64 (of_z w64 c.args.weight)) (held_seen c.index_mut.result.now)) c.post_user.ensures.meant
+returns-clause-stop g c = no_cycle_so (held_seen c.post_user.new.self) c.post_user.result _ (posted_user_none c.args.at c.args.total.solver (whole_of c.args.total) (kept_of (g.N.NodeRule.rule c.args.node)) c.args.places.items (to_z w64 (of_z w64 c.args.weight)) (held_seen c.index_mut.result.now)) c.post_user.ensures.meant

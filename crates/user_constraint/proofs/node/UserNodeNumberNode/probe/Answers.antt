@@ -1,21 +1,14 @@
-use Rattle.std.proofs.Common.{◌≡◌, ◌∙◌}
-use Rattle.user_constraint.specs.Moves.{moves_of}
-use Rattle.user_constraint.proofs.MoveLemmas.{are_moves, one_move, two_moves}
+-- What the constraint tells of the numbers is what is kept of its rule, since they have 64 bits.
+use Rattle.std.proofs.Common.{Ok, ℕ, ℤ, pos, rules, sym, ap, ◌∙◌, w64, FitsSigned}
+use Rattle.std.proofs.lemmas.Int.{to_z-of_z}
+use Rattle.node_base.specs.NumberChanges.{after_number_changes}
+use Rattle.user_constraint.proofs.KeptLaws.{kept_changes, kept_value}
 use Rattle.user_constraint.proofs.node.UserNodeNumberNode.probe.Goals as goal
-use Rattle.user_constraint.proofs.node.UserNodeNumberNode.probe.Goals.{After-as_slice, After-as_slice-in-2}
 
--- what is probed are the changes
-only_one : (g : _) (c : After-as_slice g) → c.as_slice.result.now ≡ moves_of c.args.changes.now
-only_one g c = c.as_slice.ensures ∙ one_move _ _ _ c.in-1.is c.move_of.ensures
-
-both : (g : _) (c : After-as_slice-in-2 g) → c.as_slice-in-2.result.now ≡ moves_of c.args.changes.now
-both g c = c.as_slice-in-2.ensures ∙ two_moves _ _ _ _ _ c.in-2.is c.move_of-in-2.ensures c.move_of-in-2-2.ensures
-
-pub probe-requires-clause-moves : goal.probe-requires-clause-moves
-probe-requires-clause-moves g c = rw (only_one g (goal.at.probe-requires-clause-moves g c).After-as_slice) (are_moves _ _ c.requires.changes)
-
-pub probe-requires-in-2-clause-moves : goal.probe-requires-in-2-clause-moves
-probe-requires-in-2-clause-moves g c = rw (both g (goal.at.probe-requires-in-2-clause-moves g c).After-as_slice-in-2) (are_moves _ _ c.requires.changes)
-
-pub probe-requires-in_default-clause-moves : goal.probe-requires-in_default-clause-moves
-probe-requires-in_default-clause-moves g c = rw (c.as_slice-in_default.ensures.value, c.in_ok-all-in_default.ensures) (are_moves _ _ c.requires.changes)
+pub returns : goal.returns
+returns g c =
+    let rule = g.U.LocalConstraint.user_rule c.args.self.now.user in
+    let held = g.U.LocalConstraint.held c.args.self.now.user in
+    let fits : FitsSigned w64 c.in_ok-ask.field-0 = search rules in
+    let are = kept_changes held c.args.changes.now c.requires.settled.1 c.see_changes.ensures in
+    rw (to_z-of_z w64 c.in_ok-ask.field-0 fits) (ap (λ (n : ℕ). Ok (pos n)) (kept_value rule (after_number_changes held c.args.changes.now) are) ∙ ap (λ (z : ℤ). Ok z) (sym c.in_ok-ask.ensures))
