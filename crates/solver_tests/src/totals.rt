@@ -4,12 +4,12 @@ ghost use Rattle.std.specs.Prelude.{◌≡◌, ◌<◌};
 use cbl_base::{Place, RunFault, Steps, VarId};
 use cbl_violations::Constraint;
 use ls_solver::{ObjectiveId, Solver, SolverFault, SystemId};
+use node_kinds::{Kind, SolverNode};
 use std::alloc::Global;
 use std::marker::Brand;
 use std::sync::ledger::{Blank, Ledger};
 use std::test::*;
 use term_model::{BinaryOp, Op, Term};
-use user_constraint::{LocalConstraint, UserConstraint};
 
 const SOLVER: u32 = 4;
 
@@ -261,9 +261,9 @@ enum Question {
     SwapValue(ObjectiveId, VarId, VarId),
 }
 
-fn define<U: LocalConstraint>(
+fn define<N: SolverNode>(
     alloc: Global,
-    solver: &mut Solver<U>,
+    solver: &mut Solver<N>,
     x: VarId,
     shape: Shape,
 ) -> Result<End, Fail> {
@@ -277,9 +277,9 @@ fn define<U: LocalConstraint>(
     }
 }
 
-fn post<U: LocalConstraint>(
+fn post<N: SolverNode>(
     alloc: Global,
-    solver: &mut Solver<U>,
+    solver: &mut Solver<N>,
     s: SystemId,
     shape: Shape,
     weight: i64,
@@ -294,9 +294,9 @@ fn post<U: LocalConstraint>(
     }
 }
 
-fn add<U: LocalConstraint>(
+fn add<N: SolverNode>(
     alloc: Global,
-    solver: &mut Solver<U>,
+    solver: &mut Solver<N>,
     f: ObjectiveId,
     shape: Shape,
     weight: i64,
@@ -311,18 +311,14 @@ fn add<U: LocalConstraint>(
     }
 }
 
-fn close<U: LocalConstraint>(solver: &mut Solver<U>) -> Result<End, Fail> {
+fn close<N: SolverNode>(solver: &mut Solver<N>) -> Result<End, Fail> {
     if !solver.usable() || !solver.has_defined_sets() {
         return none();
     }
     Ok(done(solver.close(1)))
 }
 
-fn make<U: LocalConstraint>(
-    alloc: Global,
-    solver: &mut Solver<U>,
-    by: Change,
-) -> Result<End, Fail> {
+fn make<N: SolverNode>(alloc: Global, solver: &mut Solver<N>, by: Change) -> Result<End, Fail> {
     if !solver.usable() {
         return none();
     }
@@ -337,9 +333,9 @@ fn make<U: LocalConstraint>(
     }
 }
 
-fn ask_by<L: Ledger, U: LocalConstraint>(
+fn ask_by<L: Ledger, N: SolverNode>(
     blank: Blank,
-    solver: &Solver<U>,
+    solver: &Solver<N>,
     question: Question,
 ) -> Result<End, Fail>
     requires name { blank.name ≡ L.name }
@@ -368,13 +364,13 @@ fn ask_by<L: Ledger, U: LocalConstraint>(
     }
 }
 
-fn ask<U: LocalConstraint>(solver: &Solver<U>, question: Question) -> Result<End, Fail> {
+fn ask<N: SolverNode>(solver: &Solver<N>, question: Question) -> Result<End, Fail> {
     ask_by::<Brand, U>(Blank::new(1), solver, question)
 }
 
-fn hold<U: LocalConstraint>(
+fn hold<N: SolverNode>(
     alloc: Global,
-    solver: &mut Solver<U>,
+    solver: &mut Solver<N>,
     changes: &[(Change, End)],
     questions: &[(Question, End)],
 ) -> Result<(), Fail> {
@@ -399,9 +395,9 @@ struct Row<'a> {
     questions: &'a [(Question, End)],
 }
 
-fn hold_all<U: LocalConstraint>(alloc: Global, rows: &[Row]) -> Result<(), Fail> {
+fn hold_all<N: SolverNode>(alloc: Global, rows: &[Row]) -> Result<(), Fail> {
     for row in rows {
-        let mut solver = Solver::<U>::new(alloc, SOLVER);
+        let mut solver = Solver::<N>::new(alloc, SOLVER);
         hold(alloc, &mut solver, row.changes, row.questions)?;
     }
     Ok(())
@@ -500,7 +496,7 @@ const VALUES: &[Row<'static>] = &[
 // Values, deltas and the violations of a variable.
 #[test]
 fn values_and_deltas(rt: HostRuntime) -> Result<(), Fail> {
-    hold_all::<Box<dyn UserConstraint>>(rt.alloc(), VALUES)
+    hold_all::<Kind>(rt.alloc(), VALUES)
 }
 
 const FAULTS: &[Row<'static>] = &[
@@ -549,7 +545,7 @@ const FAULTS: &[Row<'static>] = &[
 // A delta looks through definitions, and its fault is that of the asked part, numbered as in the whole model.
 #[test]
 fn faults_of_the_asked_part(rt: HostRuntime) -> Result<(), Fail> {
-    hold_all::<Box<dyn UserConstraint>>(rt.alloc(), FAULTS)
+    hold_all::<Kind>(rt.alloc(), FAULTS)
 }
 
 const REFUSALS: &[Row<'static>] = &[
@@ -621,5 +617,5 @@ const REFUSALS: &[Row<'static>] = &[
 // Each call is refused first for its state, then for its ids, then for its weight; what is refused leaves no trace.
 #[test]
 fn refusals_in_order(rt: HostRuntime) -> Result<(), Fail> {
-    hold_all::<Box<dyn UserConstraint>>(rt.alloc(), REFUSALS)
+    hold_all::<Kind>(rt.alloc(), REFUSALS)
 }

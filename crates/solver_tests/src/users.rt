@@ -336,11 +336,7 @@ fn new_system<N: SolverNode>(solver: &mut Solver<N>) -> Result<(), Fail> {
     }
 }
 
-fn build<N: SolverNode>(
-    alloc: Global,
-    solver: &mut Solver<N>,
-    made: Made,
-) -> Result<(), Fail> {
+fn build<N: SolverNode>(alloc: Global, solver: &mut Solver<N>, made: Made) -> Result<(), Fail> {
     for start in made.starts {
         new_var(solver, *start)?;
     }
@@ -395,11 +391,7 @@ fn asked<N: SolverNode>(solver: &Solver<N>, step: Step) -> Result<bool, Fail> {
     }
 }
 
-fn holds<N: SolverNode>(
-    solver: &mut Solver<N>,
-    counts: &Counts,
-    step: Step,
-) -> Result<bool, Fail> {
+fn holds<N: SolverNode>(solver: &mut Solver<N>, counts: &Counts, step: Step) -> Result<bool, Fail> {
     match step {
         Step::Close(wanted) => Ok(close(solver)? == wanted),
         Step::Commit(x, v, wanted) => Ok(commit(solver, x, v)? == wanted),
