@@ -365,7 +365,7 @@ fn ask_by<L: Ledger, N: SolverNode>(
 }
 
 fn ask<N: SolverNode>(solver: &Solver<N>, question: Question) -> Result<End, Fail> {
-    ask_by::<Brand, U>(Blank::new(1), solver, question)
+    ask_by::<Brand, N>(Blank::new(1), solver, question)
 }
 
 fn hold<N: SolverNode>(
