@@ -1,4 +1,2 @@
 pub mod Declared
-pub mod Opened
 pub mod Ran
-pub mod Replayed

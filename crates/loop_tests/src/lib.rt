@@ -1,25 +1,11 @@
-//! What seats and threads do with turns, claims, monitors, desks, loops and journals.
+//! What loops over monitors and desks do, and the journal that one leaves.
 //!
 //! It has tests alone, so that the crates that they speak of are proved once and not twice.
 #![tactic(auto)]
 
 #[cfg(test)]
-mod answers;
-#[cfg(test)]
-mod claims;
-#[cfg(test)]
 mod desk_loops;
 #[cfg(test)]
-mod journals;
+mod left;
 #[cfg(test)]
 mod loops;
-#[cfg(test)]
-mod monitors;
-#[cfg(test)]
-mod pools;
-#[cfg(test)]
-mod replays;
-#[cfg(test)]
-mod sleepers;
-#[cfg(test)]
-mod turns;

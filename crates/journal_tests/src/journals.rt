@@ -1,11 +1,8 @@
 //! One journal in each version of the text, printed and read, and with its lines removed, doubled and changed.
-use crate::loops::report_all;
 use best_monitor::{Reply, Request};
-use best_turn::Entry;
 use cbl_base::{NoMemory, Numbers, Text};
 use journal_text::{JournalStop, loop_line, print, print_reply, print_request, read, tail};
-use parall_loop::{LoopResult, OpenGate};
-use pool_monitor::{DeskRequest, Entries, Journal, LoopHistory, PoolRequest};
+use pool_monitor::{DeskRequest, Journal, PoolRequest};
 use std::alloc::{AllocError, Global};
 use std::test::*;
 
@@ -472,54 +469,6 @@ fn a_journal_with_pools_is_of_the_third_version(rt: HostRuntime) -> Result<(), F
     assert!(rt; again.as_slice() == text.as_bytes());
     let none = print(rt.alloc(), &Journal::new(rt.alloc()))?;
     assert!(rt; none.as_slice() == b"comet journal 2\nend\n".as_slice());
-    Ok(())
-}
-
-// The text of the journal of one loop over a board.
-fn text_of_loop(
-    alloc: Global,
-    iterations: u32,
-    history: Vec<Entry<Request, Reply>>,
-) -> Result<Text, NoMemory> {
-    let mut entries = Vec::new(alloc);
-    for entry in history {
-        entries.push(Entry {
-            iteration: entry.iteration,
-            request: DeskRequest::Best(entry.request),
-            reply: entry.reply,
-        })?;
-    }
-    let mut journal = Journal::new(alloc);
-    journal.push(LoopHistory {
-        iterations,
-        entries: Entries::from_vec(entries),
-    })?;
-    print(alloc, &journal)
-}
-
-#[test]
-fn a_loop_of_one_worker_leaves_the_example(rt: HostRuntime) -> Result<(), Fail> {
-    let LoopResult {
-        outcomes: _,
-        state: _,
-        history,
-    } = report_all(&rt, rt.alloc(), &OpenGate, 4, 1)?;
-    let text = text_of_loop(rt.alloc(), 4, history)?;
-    let want = text_of(rt.alloc(), &EXAMPLES[1])?;
-    assert!(rt; text.as_slice() == want.as_bytes());
-    Ok(())
-}
-
-#[test]
-fn a_loop_of_no_iterations_leaves_its_line(rt: HostRuntime) -> Result<(), Fail> {
-    let LoopResult {
-        outcomes,
-        state: _,
-        history,
-    } = report_all(&rt, rt.alloc(), &OpenGate, 0, 4)?;
-    assert!(rt; outcomes.is_empty());
-    let text = text_of_loop(rt.alloc(), 0, history)?;
-    assert!(rt; text.as_slice() == b"comet journal 2\nloop 0\nend\n".as_slice());
     Ok(())
 }
 

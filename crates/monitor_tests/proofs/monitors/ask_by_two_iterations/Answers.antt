@@ -1,6 +1,6 @@
 use Rattle.std.proofs.Common.{◌∙◌}
-use Rattle.loop_tests.proofs.Opened.{opened_over}
-use Rattle.loop_tests.proofs.monitors.ask_by_two_iterations.Goals as goal
+use Rattle.monitor_tests.proofs.Opened.{opened_over}
+use Rattle.monitor_tests.proofs.monitors.ask_by_two_iterations.Goals as goal
 
 pub returns-clause-seat : goal.returns-clause-seat
 returns-clause-seat g c =
