@@ -32,7 +32,8 @@ fn text_of_loop(
 }
 
 // The language's example of a journal.
-static EXAMPLE: &str = "comet journal 2\nloop 4\n0 report 0 4 0 [1] -> true\n1 report 0 1 0 [2] -> true\n2 report 0 0 0 [3] -> true\n3 report 0 1 0 [4] -> false\nend\n";
+static EXAMPLE: &str =
+    "comet journal 2\nloop 4\n0 report 0 4 0 [1] -> true\n1 report 0 1 0 [2] -> true\n2 report 0 0 0 [3] -> true\n3 report 0 1 0 [4] -> false\nend\n";
 
 #[test]
 fn a_loop_of_one_worker_leaves_the_example(rt: HostRuntime) -> Result<(), Fail> {

@@ -92,7 +92,7 @@ changes_more held list i cs d lt e lead = record {
   below = below_push i (get_or held i d) (get_or list i d) cs lead.below;
   are = changes_push (as_inputs held) i (get_or held i d) (get_or list i d) cs (input_at held i d lt) lead.below lead.are;
   after = after_push (as_inputs held) cs (IntChange i (get_or held i d) (get_or list i d)) ∙ ap (λ ys. set ys i (Int (get_or list i d))) lead.after ∙ inputs_set (mixed i held list) i (get_or list i d)
-    ∙ ap as_inputs (mixed_set i held list d lt e ∙ ap (λ k. mixed k held list) (next i));
+      ∙ ap as_inputs (mixed_set i held list d lt e ∙ ap (λ k. mixed k held list) (next i));
 }
 
 pub changes_after : (held list : List ℤ) (cs : List Change) → length list ≡ length held → LeadTo held list (length held) cs → after_changes (as_inputs held) cs ≡ as_inputs list

@@ -43,7 +43,7 @@ module _ (rule : UserRule) (xs : List ℤ) where
   same_told e =
       let first : viol_of (kept rule) (numbers_of (as_inputs xs)) ≡ rule.viol_of xs = ap (viol_of (kept rule)) (same_numbers xs) ∙ kept_value rule xs e in
       let rest = at_range (λ place. viol_at (kept rule) (numbers_of (as_inputs xs)) place) (rule.viol_at xs) 0 (length xs)
-        (λ place lt. ap (λ ys. viol_at (kept rule) ys place) (same_numbers xs) ∙ kept_at rule xs place e (omega (arith, lt))) in
+      (λ place lt. ap (λ ys. viol_at (kept rule) ys place) (same_numbers xs) ∙ kept_at rule xs place e (omega (arith, lt))) in
       ap (λ n. n ∷ map (λ place. viol_at (kept rule) (numbers_of (as_inputs xs)) place) (range_with_len 0 (length xs))) first ∙ ap (λ ns. rule.viol_of xs ∷ ns) rest
 
   by : (b : Bool) → is_kept xs ≡ b → only (is_kept xs) (told_by (user_node_rule (kept rule)) xs) ≡ only (is_kept xs) (told_of rule xs)

@@ -8,12 +8,7 @@ use cbl_base::{Change, NoMemory};
 use std::alloc::Global;
 
 /// A change more, where it changes anything.
-fn push_change(
-    changes: &mut Vec<Change>,
-    place: usize,
-    old: i64,
-    new: i64,
-) -> Result<(), NoMemory>
+fn push_change(changes: &mut Vec<Change>, place: usize, old: i64, new: i64) -> Result<(), NoMemory>
     ensures { OnOk result (changes.new.items ≡ with_change changes.old.items place old new) }
 {
     if old == new {
@@ -26,11 +21,7 @@ fn push_change(
 }
 
 /// A change at each place at which two lists of one length differ.
-pub fn changes_between(
-    alloc: Global,
-    held: &[i64],
-    list: &[i64],
-) -> Result<Vec<Change>, NoMemory>
+pub fn changes_between(alloc: Global, held: &[i64], list: &[i64]) -> Result<Vec<Change>, NoMemory>
     requires { length list.now ≡ length held.now }
     ensures changes { IfOk result (λ changes. AreChanges (as_inputs held.now) changes.items) }
     ensures after { IfOk result (λ changes.
