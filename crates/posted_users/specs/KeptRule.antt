@@ -3,7 +3,8 @@
 use Rattle.std.specs.Prelude.{ℕ, ℤ, pos, List, slice_get, unwrap_or}
 use Rattle.cbl_base.specs.NumberRule.{NumberRule}
 use Rattle.operation_values.specs.OfTermModel.Users.{user_rules}
-pub use Rattle.user_constraint.specs.KeptRule.{KeptRule, half, is_below, is_kept, is_list_of, kept, kept_nothing, most, no_rule, only, rule_of_kept, size_of, told_of, viol_at, viol_of}
+pub use Rattle.user_constraint.specs.KeptRule.{KeptRule, is_below, is_kept, is_list_of, kept, kept_nothing, no_rule, only, rule_of_kept, size_of, told_of, viol_at, viol_of}
+unfoldable pub use Rattle.user_constraint.specs.KeptRule.{half, most}
 
 -- the rule with a number; beyond them one that is always 0
 abbrev pub rule_numbered : List KeptRule → ℕ → KeptRule
