@@ -15,6 +15,9 @@ use Rattle.run_solvers.proofs.held.Held.post_numbers.Goals as goal
 pub post_node-requires-clause-usable : goal.post_node-requires-clause-usable
 post_node-requires-clause-usable g c = c.requires.kept.0.usable
 
+pub post_node-requires-clause-rule : goal.post_node-requires-clause-rule
+post_node-requires-clause-rule g c = c.requires.rule
+
 pub post_node-requires-clause-kinds : goal.post_node-requires-clause-kinds
 post_node-requires-clause-kinds g c = λ own. c.requires.kinds
 
