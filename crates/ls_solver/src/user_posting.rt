@@ -28,7 +28,6 @@ use term_model::{Member, Term};
 use user_constraint::LocalConstraint;
 
 /// Puts a user's constraint behind the others as its node, which is to hold these numbers first.
-#[tactic(auto, using(posted_users::proofs::KeptLaws::kept_of_node, posted_users::proofs::KeptLaws::is_user_node))]
 fn push_user<U: LocalConstraint>(
     alloc: Global,
     users: &mut PostedUsers<KindOf<U>>,

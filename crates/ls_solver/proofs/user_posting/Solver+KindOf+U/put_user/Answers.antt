@@ -6,7 +6,7 @@ use Rattle.solver_models.specs.Kept.{IsKept}
 use Rattle.solver_models.specs.State.{SolverState}
 use Rattle.solver_models.proofs.AddLaws.{member_within, no_member_there, user_there}
 use Rattle.term_model.specs.Posting.{totals_by}
-use Rattle.ls_solver.proofs.solver.Solver+KindOf+U.put_user.Goals as goal
+use Rattle.ls_solver.proofs.user_posting.Solver+KindOf+U.put_user.Goals as goal
 
 pub put_place-put-requires : goal.put_place-put-requires
 put_place-put-requires g c =

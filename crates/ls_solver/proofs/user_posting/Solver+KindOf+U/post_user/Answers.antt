@@ -9,7 +9,7 @@ use Rattle.term_model.specs.Kinds.{kind_of_term, kinds_in}
 use Rattle.term_model.specs.Naming.{users_of}
 use Rattle.ls_solver.specs.Answers.{AnswersBack}
 use Rattle.ls_solver.proofs.UserLaws.{user_kind, user_named}
-use Rattle.ls_solver.proofs.solver.Solver+KindOf+U.post_user.Goals as goal
+use Rattle.ls_solver.proofs.user_posting.Solver+KindOf+U.post_user.Goals as goal
 
 pub post_user_member-requires-clause-kind : goal.post_user_member-requires-clause-kind
 post_user_member-requires-clause-kind g c own =

@@ -11,7 +11,7 @@ use Rattle.term_model.specs.Naming.{users_of}
 use Rattle.term_model.specs.Subterms.{distinct_subterms}
 use Rattle.ls_solver.specs.Answers.{AnswersBack}
 use Rattle.ls_solver.proofs.AdmitLaws.{own_member}
-use Rattle.ls_solver.proofs.solver.Solver+KindOf+U.post_user_member.Goals as goal
+use Rattle.ls_solver.proofs.user_posting.Solver+KindOf+U.post_user_member.Goals as goal
 
 pub returns-in-Ok-clause-posted : goal.returns-in-Ok-clause-posted
 returns-in-Ok-clause-posted g c =
