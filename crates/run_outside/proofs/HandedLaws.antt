@@ -1,10 +1,13 @@
 -- Users' constraints that were handed in: which is the first one that is free, whether a name is known, and what a change of
 -- one of them leaves.
 use Rattle.std.proofs.Common.{◌≡◌, ◌∙◌, refl, sym, ap, subst, ℕ, zero, suc, ◌+◌, ◌<◌, ◌≤◌, Bool, true, false, ◌&&◌, ◌||◌, Some, None, Option, List, [], ◌∷◌, ◌++◌, length, map, take, get_or, set, arith}
-use Rattle.std.specs.Prelude.{slice_get, if◌then◌else◌}
+use Rattle.std.specs.Prelude.{IfSome, slice_get, if◌then◌else◌}
 use Rattle.std.specs.List.{list_any}
 use Rattle.std.specs.Option.{option_map}
+use Rattle.cbl_base.specs.NodeLaw.{Rule}
+use Rattle.run_solvers.specs.OfPostedUsers.KeptOf.{IsUserRule, kept_of}
 use Rattle.run_solvers.specs.OfPostedUsers.KeptRule.{KeptRule, no_rule}
+use Rattle.run_outside.specs.HandedIn.{IsOfUser}
 use Rattle.run_solvers.specs.OfCometMeaning.Users.{User, first_free, is_known, is_named, rule_in, with_given, with_taken}
 
 abbrev is_open : List ℕ → User → Bool
@@ -78,3 +81,8 @@ pub rule_at : (users : List User) (n : ℕ) (d : User) → n < length users → 
 rule_at [] n d lt = absurd (omega (arith, lt))
 rule_at (u ∷ users) zero d lt = refl
 rule_at (u ∷ users) (suc n) d lt = rule_at users n d (omega (arith, lt))
+
+-- ---- the node that is given away
+pub user_given : {A : Type 0} (rule_of : A → Rule) (node : Option A) → IsOfUser rule_of node → IfSome node (λ n. IsUserRule (rule_of n))
+user_given rule_of None is = is
+user_given rule_of (Some n) is = is

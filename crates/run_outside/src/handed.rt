@@ -42,7 +42,6 @@ impl<N: SolverNode> Model for HandedIn<N> {
 
 impl<U: LocalConstraint> HandedIn<KindOf<U>> {
     /// One that is free.
-    #[tactic(auto, using(posted_users::proofs::KeptLaws::kept_of_node, posted_users::proofs::KeptLaws::is_user_node))]
     pub fn new(alloc: Global, user: U) -> Result<HandedIn<KindOf<U>>, NoMemory>
         ensures { IfOk result (λ one. one ≡
             record { name = U.user_name user; rule = kept (U.user_rule user); free = true }) }
@@ -79,6 +78,7 @@ impl<N: SolverNode> HandedIn<N> {
     }
 
     /// The node of the constraint, if it wasn't given away before.
+    #[tactic(auto, using(crate::proofs::HandedLaws::user_given))]
     fn give(&mut self) -> Option<N>
         ensures user { IfSome result (λ node. IsUserRule (N.NodeRule.rule node)) }
         ensures rule { IfSome result (λ node. kept_of (N.NodeRule.rule node) ≡ (self.old).rule) }
