@@ -1,5 +1,5 @@
-//! The program: the files and streams of the system, the two users' constraints that every program can post, one call of
-//! `comet_run`, and its status.
+//! The program: a stack of its own, on which it makes the files and streams of the system and the two users' constraints
+//! that every program can post, one call of `comet_run`, and its status.
 #![tactic(auto)]
 
 use cbl_io::{Files, RealFiles, RealSink, Sink};
@@ -10,9 +10,24 @@ use std::env;
 use std::io::ErrorKind;
 use std::process::ExitCode;
 use std::rt::Env;
+use std::thread::Builder;
 use user_constraint::UserConstraint;
 
+/// The bytes of the stack that a run gets. The deepest run takes a sixth of them (docs/PERFORMANCE.md).
+const STACK_BYTES: usize = 16 << 20;
+
 fn main(rt: HostRuntime) -> ExitCode {
+    match Builder::new()
+        .stack_size(STACK_BYTES)
+        .spawn(&rt, move || run(rt))
+    {
+        Ok(run) => ExitCode::from(run.join(&rt)),
+        Err(_) => ExitCode::from(refused(&Cause::NoMemory, &mut RealSink::new(rt.stderr()))),
+    }
+}
+
+/// Runs what the command line says, and gives the run's status.
+fn run(rt: HostRuntime) -> u8 {
     let mut err = RealSink::new(rt.stderr());
     let words = match words_of(&rt) {
         Ok(words) => words,
@@ -21,7 +36,7 @@ fn main(rt: HostRuntime) -> ExitCode {
     let mut files = RealFiles::new(rt.alloc(), rt);
     let mut out = RealSink::new(rt.stdout());
     match run_words(rt.alloc(), words.as_slice(), &mut files, &mut out, &mut err) {
-        Ok(status) => ExitCode::from(status),
+        Ok(status) => status,
         Err(AllocError) => refused(&Cause::NoMemory, &mut err),
     }
 }
@@ -41,9 +56,9 @@ fn run_words<F: Files, O: Sink, E: Sink>(
 }
 
 /// Says why there is nothing to run, and gives the status.
-fn refused<E: Sink>(cause: &Cause, err: &mut E) -> ExitCode {
+fn refused<E: Sink>(cause: &Cause, err: &mut E) -> u8 {
     say(cause, err);
-    ExitCode::from(cause.status())
+    cause.status()
 }
 
 /// The words behind the program's own name. A word that isn't UTF-8 is out of form.
