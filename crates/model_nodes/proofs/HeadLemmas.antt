@@ -1,0 +1,115 @@
+-- Rules of what subterms compute, and the nodes that wait for them.
+use Rattle.std.proofs.Common.{◌≡◌, ℕ, zero, suc, ◌+◌, ◌<◌, ◌≤◌, false, List, [], ◌∷◌, map, set, Option, Some, None, length, refl, sym, ap, ◌∙◌, slice_get, arith}
+use Rattle.std.specs.Prelude.{unwrap_or}
+use Rattle.std.specs.Option.{option_and_then, option_map}
+use Rattle.std.proofs.lemmas.Option.{slice_get-map}
+use Rattle.cbl_base.specs.NodeLaw.{Rule}
+use Rattle.cbl_base.specs.NumberRule.{NumberRule}
+use Rattle.cbl_operations.specs.RuleOf.{rule_of}
+use Rattle.cbl_operations.specs.declared.op.Op.{Op}
+use Rattle.cbl_operations.specs.declared.op.Op.TheVariants.{Unary, Binary, Nary, Keyed, Element, Element2, TwoSets, Card, Member, Constraint, User}
+use Rattle.node_kinds.specs.OpNodes.{is_user}
+use Rattle.term_graph.specs.Heads.{head_by, head_of}
+use Rattle.term_graph.specs.declared.head.Head.{Head}
+use Rattle.term_model.specs.Naming.{user_number, users_posted}
+use Rattle.term_model.specs.Subterms.{distinct_subterms}
+use Rattle.term_model.specs.Wellformed.{IsWellFormed}
+use Rattle.term_model.specs.declared.model.Model.{Model}
+use Rattle.term_model.specs.declared.term.Term.{Term}
+use Rattle.term_model.specs.declared.term.Term.TheOpen.{Term-F}
+use Rattle.term_model.specs.declared.term.Term.TheViews.{out-Term}
+use Rattle.model_nodes.specs.Waiting.{AreLeft, AreUserNodes, AreWaiting, IsTakenFor, user_in, user_in_head}
+use Rattle.model_nodes.proofs.UsersOnce.{own_by, users_once, users_within}
+
+-- what isn't a user's has one rule, whatever the users' are
+pub same_rule : (users others : ℕ → NumberRule) (op : Op) → user_in op ≡ None → rule_of users op ≡ rule_of others op
+same_rule users others (Unary op) none = refl
+same_rule users others (Binary op) none = refl
+same_rule users others (Nary op) none = refl
+same_rule users others (Keyed op keys) none = refl
+same_rule users others (Element low len) none = refl
+same_rule users others (Element2 low1 len1 low2 len2) none = refl
+same_rule users others (TwoSets op) none = refl
+same_rule users others Card none = refl
+same_rule users others Member none = refl
+same_rule users others (Constraint constraint) none = refl
+same_rule users others (User number) none = let c : Some number ≡ None = none in cc
+
+pub no_user : (op : Op) → user_in op ≡ None → is_user op ≡ false
+no_user (Unary op) none = refl
+no_user (Binary op) none = refl
+no_user (Nary op) none = refl
+no_user (Keyed op keys) none = refl
+no_user (Element low len) none = refl
+no_user (Element2 low1 len1 low2 len2) none = refl
+no_user (TwoSets op) none = refl
+no_user Card none = refl
+no_user Member none = refl
+no_user (Constraint constraint) none = refl
+no_user (User number) none = let c : Some number ≡ None = none in cc
+
+pub user_is : (op : Op) (number : ℕ) → user_in op ≡ Some number → op ≡ User number
+user_is (Unary op) number e = let c : None ≡ Some number = e in cc
+user_is (Binary op) number e = let c : None ≡ Some number = e in cc
+user_is (Nary op) number e = let c : None ≡ Some number = e in cc
+user_is (Keyed op keys) number e = let c : None ≡ Some number = e in cc
+user_is (Element low len) number e = let c : None ≡ Some number = e in cc
+user_is (Element2 low1 len1 low2 len2) number e = let c : None ≡ Some number = e in cc
+user_is (TwoSets op) number e = let c : None ≡ Some number = e in cc
+user_is Card number e = let c : None ≡ Some number = e in cc
+user_is Member number e = let c : None ≡ Some number = e in cc
+user_is (Constraint constraint) number e = let c : None ≡ Some number = e in cc
+user_is (User other) number e = ap User (ap (λ o. unwrap_or o other) e)
+
+-- ---- nodes that wait
+-- what is there once one was taken was there
+still : {N : Type 0} (node : N) (waiting : List (Option N)) (n k : ℕ) → slice_get (set waiting n None) k ≡ Some (Some node) → slice_get waiting k ≡ Some (Some node)
+still node [] n k e = e
+still {N} node (w ∷ ws) zero zero e = let c : ◌≡◌ {A = Option N} None (Some node) = ap (λ o. unwrap_or o None) e in cc
+still node (w ∷ ws) zero (suc k) e = e
+still node (w ∷ ws) (suc n) zero e = e
+still node (w ∷ ws) (suc n) (suc k) e = still node ws n k e
+
+module _ {N : Type 0} (rule : N → Rule) (users : ℕ → NumberRule) where
+  pub taken : (waiting : List (Option N)) (number : ℕ) → AreWaiting rule users waiting → AreWaiting rule users (set waiting number None)
+  taken waiting number are k node at = are k node (still node waiting number k at)
+
+  -- all that were handed in wait
+  pub all_wait : (nodes : List N) → AreUserNodes rule users nodes → AreWaiting rule users (map (λ n. Some n) nodes)
+  all_wait nodes are number node at = by (slice_get nodes number) refl
+    where
+      here : ◌≡◌ {A = Option (Option N)} (option_map (λ n. Some n) (slice_get nodes number)) (Some (Some node))
+      here = sym (slice_get-map (λ n. Some n) nodes number) ∙ at
+
+      by : (o : Option N) → slice_get nodes number ≡ o → rule node ≡ rule_of users (User number)
+      by (Some n) e =
+          let own : ◌≡◌ {A = Option (Option N)} (Some (Some n)) (Some (Some node)) = sym (ap (option_map (λ n. Some n)) e) ∙ here in
+          let same : n ≡ node = ap (λ o. unwrap_or (unwrap_or o (Some n)) n) own in
+          are number node (e ∙ ap (λ m. Some m) same)
+      by None e = let c : ◌≡◌ {A = Option (Option N)} None (Some (Some node)) = sym (ap (option_map (λ n. Some n)) e) ∙ here in cc
+
+-- ---- those that are left
+own_headed : (y : Term-F Term) (head : Head) (n : ℕ) → head_by y ≡ Some head → user_in_head head ≡ Some n → own_by y ≡ n ∷ []
+own_headed (Term-F.Const x) head n e user = let c : None ≡ Some n = ap (λ h. option_and_then user_in_head h) e ∙ user in cc
+own_headed (Term-F.ConstSet s) head n e user = let c : None ≡ Some n = ap (λ h. option_and_then user_in_head h) e ∙ user in cc
+own_headed (Term-F.Var v) head n e user = let c : None ≡ Some head = e in cc
+own_headed (Term-F.Node op args place) head n e user = ap user_number (user_is op n (ap (λ h. option_and_then user_in_head h) e ∙ user))
+
+got_within : {X : Type 0} (xs : List X) (k : ℕ) → k < length xs → (x : X) × (slice_get xs k ≡ Some x)
+got_within [] k lt = absurd (omega (arith, lt))
+got_within (x ∷ xs) zero lt = (x, refl)
+got_within (x ∷ xs) (suc k) lt = got_within xs k (omega (arith, lt))
+
+module _ {N : Type 0} (M : Model) (formed : IsWellFormed M) where
+  pub left_all : (nodes : List N) → length nodes ≡ length (users_posted M M.posted.items) → AreLeft M 0 (map (λ n. Some n) nodes)
+  left_all nodes count j t head le at headed number user =
+      let lt = users_within M formed j number t at (own_headed (out-Term t) head number headed user) in
+      let own = got_within nodes number (omega (arith, lt, count)) in
+      (own.0, slice_get-map (λ n. Some n) nodes number ∙ ap (option_map (λ n. Some n)) own.1)
+
+  pub left_more : (k : ℕ) (t : Term) (head : Head) (old new : List (Option N)) → slice_get (distinct_subterms M) k ≡ Some t → head_of t ≡ Some head → IsTakenFor head old new → AreLeft M k old → AreLeft M (k + 1) new
+  left_more k t head old new at headed taken left j u other le there other_headed number user =
+      let own = own_headed (out-Term u) other number other_headed user in
+      let apart : user_in_head head ≡ Some number → ⊥ = (λ here. (let e = users_once M formed k j number t u at there (own_headed (out-Term t) head number headed here) own in omega (arith, e, le))) in
+      let before = left j u other (omega (arith, le)) there other_headed number user in
+      (before.0, taken number apart ∙ before.1)

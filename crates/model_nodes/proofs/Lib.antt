@@ -1,0 +1,15 @@
+pub mod CellSteps
+pub mod GatherSteps
+pub mod HeadLemmas
+pub mod Linked
+pub mod MadeSteps
+pub mod OwnMembers
+pub mod PartFits
+pub mod PartSteps
+pub mod PlannedSteps
+pub mod PostedCells
+pub mod PostedTerms
+pub mod Stops
+pub mod UsersOnce
+pub mod WeightLists
+pub mod WholeLinks
