@@ -75,7 +75,7 @@ module _ (M : Model) where
     where
       by : (b : Bool) → is_of M.defs.items i d ≡ b → ids_of (if b then id ∷ [] else old) ≡ inputs_of_cell M (option_and_then (term_of M.defs.items) (if b then Some d else definition_in M.defs.items ps i))
       by true e = (let own_term = found i d (slice_get M.defs.items d) refl e in
-          ap (λ k. k ∷ []) (own own_term.0 own_term.1.0) ∙ sym (ap (inputs_of_cell M) own_term.1.1))
+          ap (λ k. k ∷ []) (own own_term.0 own_term.1) ∙ sym (ap (inputs_of_cell M) own_term.2))
       by false e = is
 
 module _ {Z : Type 0} (M : Model) where

@@ -1,13 +1,13 @@
 -- Rules of what subterms compute, and the nodes that wait for them.
-use Rattle.std.proofs.Common.{◌≡◌, ℕ, zero, suc, ◌+◌, ◌<◌, ◌≤◌, false, List, [], ◌∷◌, map, set, Option, Some, None, length, refl, sym, ap, ◌∙◌, slice_get, arith}
+use Rattle.std.proofs.Common.{◌≡◌, ℕ, zero, suc, ◌+◌, ◌<◌, ◌≤◌, false, List, [], ◌∷◌, map, set, get_or, Option, Some, None, length, refl, sym, ap, ◌∙◌, slice_get, arith}
 use Rattle.std.specs.Prelude.{unwrap_or}
 use Rattle.std.specs.Option.{option_and_then, option_map}
-use Rattle.std.proofs.lemmas.Option.{slice_get-map}
+use Rattle.std.proofs.lemmas.Option.{slice_get-map, slice_get_read, slice_get_within}
 use Rattle.cbl_base.specs.NodeLaw.{Rule}
 use Rattle.cbl_base.specs.NumberRule.{NumberRule}
 use Rattle.cbl_operations.specs.RuleOf.{rule_of}
 use Rattle.cbl_operations.specs.declared.op.Op.{Op}
-use Rattle.cbl_operations.specs.declared.op.Op.TheVariants.{Unary, Binary, Nary, Keyed, Element, Element2, TwoSets, Card, Member, Constraint, User}
+use Rattle.cbl_operations.specs.declared.op.Op.TheVariants.{User}
 use Rattle.node_kinds.specs.OpNodes.{is_user}
 use Rattle.term_graph.specs.Heads.{head_by, head_of}
 use Rattle.term_graph.specs.declared.head.Head.{Head}
@@ -18,48 +18,25 @@ use Rattle.term_model.specs.declared.model.Model.{Model}
 use Rattle.term_model.specs.declared.term.Term.{Term}
 use Rattle.term_model.specs.declared.term.Term.TheOpen.{Term-F}
 use Rattle.term_model.specs.declared.term.Term.TheViews.{out-Term}
-use Rattle.model_nodes.specs.Waiting.{AreLeft, AreUserNodes, AreWaiting, IsTakenFor, user_in, user_in_head}
+use Rattle.model_nodes.specs.Waiting.{AreLeft, AreUserNodes, AreWaiting, IsTakenFor, IsThere, user_in, user_in_head}
 use Rattle.model_nodes.proofs.UsersOnce.{own_by, users_once, users_within}
 
 -- what isn't a user's has one rule, whatever the users' are
 pub same_rule : (users others : ℕ → NumberRule) (op : Op) → user_in op ≡ None → rule_of users op ≡ rule_of others op
-same_rule users others (Unary op) none = refl
-same_rule users others (Binary op) none = refl
-same_rule users others (Nary op) none = refl
-same_rule users others (Keyed op keys) none = refl
-same_rule users others (Element low len) none = refl
-same_rule users others (Element2 low1 len1 low2 len2) none = refl
-same_rule users others (TwoSets op) none = refl
-same_rule users others Card none = refl
-same_rule users others Member none = refl
-same_rule users others (Constraint constraint) none = refl
-same_rule users others (User number) none = let c : Some number ≡ None = none in cc
+same_rule users others (User number) none = let c : Some number ≡ None = none in absurd cc
+same_rule users others op none = refl
 
 pub no_user : (op : Op) → user_in op ≡ None → is_user op ≡ false
-no_user (Unary op) none = refl
-no_user (Binary op) none = refl
-no_user (Nary op) none = refl
-no_user (Keyed op keys) none = refl
-no_user (Element low len) none = refl
-no_user (Element2 low1 len1 low2 len2) none = refl
-no_user (TwoSets op) none = refl
-no_user Card none = refl
-no_user Member none = refl
-no_user (Constraint constraint) none = refl
-no_user (User number) none = let c : Some number ≡ None = none in cc
+no_user (User number) none = let c : Some number ≡ None = none in absurd cc
+no_user op none = refl
+
+pub not_user : (op : Op) → ((number : ℕ) → op ≡ User number → ⊥) → user_in op ≡ None
+not_user (User number) other = absurd (other number refl)
+not_user op other = refl
 
 pub user_is : (op : Op) (number : ℕ) → user_in op ≡ Some number → op ≡ User number
-user_is (Unary op) number e = let c : None ≡ Some number = e in cc
-user_is (Binary op) number e = let c : None ≡ Some number = e in cc
-user_is (Nary op) number e = let c : None ≡ Some number = e in cc
-user_is (Keyed op keys) number e = let c : None ≡ Some number = e in cc
-user_is (Element low len) number e = let c : None ≡ Some number = e in cc
-user_is (Element2 low1 len1 low2 len2) number e = let c : None ≡ Some number = e in cc
-user_is (TwoSets op) number e = let c : None ≡ Some number = e in cc
-user_is Card number e = let c : None ≡ Some number = e in cc
-user_is Member number e = let c : None ≡ Some number = e in cc
-user_is (Constraint constraint) number e = let c : None ≡ Some number = e in cc
 user_is (User other) number e = ap User (ap (λ o. unwrap_or o other) e)
+user_is op number e = let c : None ≡ Some number = e in absurd cc
 
 -- ---- nodes that wait
 -- what is there once one was taken was there
@@ -69,6 +46,21 @@ still {N} node (w ∷ ws) zero zero e = let c : ◌≡◌ {A = Option N} None (S
 still node (w ∷ ws) zero (suc k) e = e
 still node (w ∷ ws) (suc n) zero e = e
 still node (w ∷ ws) (suc n) (suc k) e = still node ws n k e
+
+-- what stands at another place stays
+pub other_place : {X : Type 0} (xs : List X) (n k : ℕ) (x : X) → (n ≡ k → ⊥) → slice_get (set xs n x) k ≡ slice_get xs k
+other_place [] n k x ne = refl
+other_place (y ∷ ys) zero zero x ne = absurd (ne refl)
+other_place (y ∷ ys) zero (suc k) x ne = refl
+other_place (y ∷ ys) (suc n) zero x ne = refl
+other_place (y ∷ ys) (suc n) (suc k) x ne = other_place ys n k x (λ e. ne (ap suc e))
+
+-- the node that is taken out of its place is the one that is there
+pub there_taken : {N : Type 0} (waiting : List (Option N)) (number : ℕ) (taken : Option N) → IsThere waiting number → taken ≡ get_or waiting number taken → slice_get waiting number ≡ Some taken
+there_taken waiting number taken there is = slice_get_read waiting (length waiting) number taken refl (slice_get_within waiting number (Some there.0) there.1) is
+
+pub some_there : {N : Type 0} (waiting : List (Option N)) (number : ℕ) → IsThere waiting number → slice_get waiting number ≡ Some None → ⊥
+some_there {N} waiting number there none = let c : ◌≡◌ {A = Option (Option N)} (Some (Some there.0)) (Some None) = sym there.1 ∙ none in cc
 
 module _ {N : Type 0} (rule : N → Rule) (users : ℕ → NumberRule) where
   pub taken : (waiting : List (Option N)) (number : ℕ) → AreWaiting rule users waiting → AreWaiting rule users (set waiting number None)

@@ -9,6 +9,8 @@ pub mod PartSteps
 pub mod PlannedSteps
 pub mod PostedCells
 pub mod PostedTerms
+pub mod PostedTurns
+pub mod PushedLists
 pub mod Stops
 pub mod UsersOnce
 pub mod WeightLists

@@ -7,6 +7,7 @@ use Rattle.cbl_base.specs.declared.ids.NodeId.{NodeId}
 use Rattle.cbl_base.specs.declared.place.Place.{Place}
 use Rattle.store_build.specs.Lists.{list_in}
 use Rattle.store_build.proofs.GatherLemmas.{before_first}
+use Rattle.store_build.proofs.GroupLemmas.{in_past}
 use Rattle.store_turns.specs.Meaning.{ids_of}
 use Rattle.term_model.specs.declared.model.Model.{Model}
 use Rattle.term_model.specs.declared.term.Term.{Term}
@@ -18,37 +19,7 @@ use Rattle.graph_values.proofs.Wholes.{in_terms}
 use Rattle.model_nodes.specs.CellLists.{AreCellLists}
 use Rattle.model_nodes.specs.Making.{About, AreMade, Fits}
 use Rattle.model_nodes.specs.WholeNodes.{rule_in_whole}
-
--- ---- lists with one more
-pub got_old : {X : Type 0} (xs : List X) (y : X) (k : ℕ) → k < length xs → slice_get (xs ++ y ∷ []) k ≡ slice_get xs k
-got_old [] y k lt = absurd (omega (arith, lt))
-got_old (x ∷ xs) y zero lt = refl
-got_old (x ∷ xs) y (suc k) lt = got_old xs y k (omega (arith, lt))
-
-pub got_new : {X : Type 0} (xs : List X) (y : X) → slice_get (xs ++ y ∷ []) (length xs) ≡ Some y
-got_new [] y = refl
-got_new (x ∷ xs) y = got_new xs y
-
-module _ {Z : Type 0} where
-  in_old : (xs : List (Vec NodeId Z)) (v : Vec NodeId Z) (k : ℕ) → k < length xs → list_in (xs ++ v ∷ []) k ≡ list_in xs k
-  in_old [] v k lt = absurd (omega (arith, lt))
-  in_old (x ∷ xs) v zero lt = refl
-  in_old (x ∷ xs) v (suc k) lt = in_old xs v k (omega (arith, lt))
-
-  in_new : (xs : List (Vec NodeId Z)) (v : Vec NodeId Z) → list_in (xs ++ v ∷ []) (length xs) ≡ v.items
-  in_new [] v = refl
-  in_new (x ∷ xs) v = in_new xs v
-
-  in_all : (bound : ℕ) (xs : List (Vec NodeId Z)) (v : Vec NodeId Z) → ((k : ℕ) → length (list_in xs k) ≤ bound) → length v.items ≤ bound → (k : ℕ) → length (list_in (xs ++ v ∷ []) k) ≤ bound
-  in_all bound [] v all le zero = le
-  in_all bound [] v all le (suc k) = omega arith
-  in_all bound (x ∷ xs) v all le zero = all zero
-  in_all bound (x ∷ xs) v all le (suc k) = in_all bound xs v (λ i. all (suc i)) le k
-
-  pub in_past : (xs : List (Vec NodeId Z)) (k : ℕ) → length xs ≤ k → list_in xs k ≡ []
-  in_past [] k le = refl
-  in_past (x ∷ xs) zero le = absurd (omega (arith, le))
-  in_past (x ∷ xs) (suc k) le = in_past xs k (omega (arith, le))
+use Rattle.model_nodes.proofs.PushedLists.{got_new, got_old, in_all, in_new, in_old}
 
 -- ---- one node more
 module _ {Z : Type 0} (about : About) (rules : List Rule) (lists : List (Vec NodeId Z)) (places : List Place) (made : AreMade about rules lists places) (rule : Rule) (inputs : Vec NodeId Z) (place : Place) (fits : Fits about (length lists) rule inputs.items place) where

@@ -75,7 +75,7 @@ module _ (about : About) where
         ruled = in_terms M id _ _ _ _ _ low ∙ ap (rule_of_subterm about.users) here ∙ rule_headed about.users (out-Term t) head headed ∙ ap (λ r. Some r) (sym ruled);
         placed = λ p known. elim known [
           | inl own ↦ placed p (sym (ap (option_and_then place_of) here) ∙ own.1)
-          | inr own ↦ (let behind = total_behind M own.0 in let same = own.1.1.0 in absurd (omega (arith, low, behind, same)))
+          | inr own ↦ (let behind = total_behind M own.0 in let same = own.2 in absurd (omega (arith, low, behind, same)))
         ];
       }
 
@@ -86,7 +86,7 @@ module _ (about : About) where
     ruled = in_weights M id _ _ _ _ _ le lt ∙ ap (λ w. Some (rule_of_constant (Int w))) weight ∙ ap (λ r. Some r) (sym ruled);
     placed = λ p known. elim known [
       | inl own ↦ (let low = own.0 in absurd (omega (arith, le, low)))
-      | inr own ↦ (let behind = total_behind M own.0 in let same = own.1.1.0 in absurd (omega (arith, lt, behind, same)))
+      | inr own ↦ (let behind = total_behind M own.0 in let same = own.2 in absurd (omega (arith, lt, behind, same)))
     ];
   }
 
@@ -116,7 +116,7 @@ module _ (about : About) where
         ruled = ap (rule_in_whole about.users M) is ∙ known.1 ∙ ap (λ r. Some r) (sym ruled);
         placed = λ p at. elim at [
           | inl low ↦ (let lt = low.0 in absurd (omega (arith, lt, is, behind)))
-          | inr other ↦ placed ∙ ap (place_of_whole M) (one_total M whole other.0 own other.1.0 (sym is ∙ other.1.1.0)) ∙ other.1.1.1
+          | inr other ↦ placed ∙ ap (place_of_whole M) (one_total M whole other.0 own other.1 (sym is ∙ other.2)) ∙ other.3
         ];
       }
 
@@ -130,6 +130,6 @@ module _ (about : About) where
         ruled = in_repeats M id _ _ _ _ _ le ∙ ap (λ r. Some r) (sym ruled);
         placed = λ p at. elim at [
           | inl low ↦ (let few = low.0 in absurd (omega (arith, few, le)))
-          | inr other ↦ (let before = total_before M other.0 other.1.0 in let same = other.1.1.0 in absurd (omega (arith, before, same, le)))
+          | inr other ↦ (let before = total_before M other.0 other.1 in let same = other.2 in absurd (omega (arith, before, same, le)))
         ];
       }

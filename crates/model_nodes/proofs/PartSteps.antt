@@ -1,5 +1,5 @@
 -- The nodes of weights and totals, one after another.
-use Rattle.std.proofs.Common.{◌≡◌, ℕ, ℤ, pos, ◌+◌, ◌<◌, List, ◌++◌, map, Some, length, refl, sym, ap, ◌∙◌, subst, slice_get, get_or, Vec, arith}
+use Rattle.std.proofs.Common.{add-one, ◌≡◌, ℕ, ℤ, pos, ◌+◌, ◌<◌, List, ◌++◌, map, Some, length, refl, sym, ap, ◌∙◌, subst, slice_get, get_or, Vec, arith}
 use Rattle.std.specs.Prelude.{unwrap_or}
 use Rattle.std.specs.Option.{option_map}
 use Rattle.std.specs.List.{range_with_len}
@@ -69,7 +69,8 @@ module _ {Z : Type 0} (M : Model) (side : Side) (members : List (Vec NodeId Z)) 
   pub next_weight : (first next : ℕ) → next ≡ first + length (members_before M side k) → next + length ids ≡ first + length (members_before M side (k + 1))
   next_weight first next at =
       let count = members_count in
-      let long : length (members_before M side (k + 1)) ≡ length (members_before M side k) + length (members_of M (whole_by side k)) = length-append (members_before M side k) (members_of M (whole_by side k)) in
+      let long : length (members_before M side (k + 1)) ≡ length (members_before M side k) + length (members_of M (whole_by side k)) =
+      ap (λ n. length (members_before M side n)) (add-one k) ∙ length-append (members_before M side k) (members_of M (whole_by side k)) in
       omega (arith, at, count, long)
 
   pub total_fits : (about : About) → about.model ≡ M → (total : Total) (id next : ℕ) (rule : Rule) (inputs : List NodeId) → total ≡ get_or (totals_by M side) k total → next ≡ first_weight M side + length (members_before M side k) →

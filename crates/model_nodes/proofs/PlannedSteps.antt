@@ -11,7 +11,7 @@ use Rattle.store_build.specs.Lists.{list_in}
 use Rattle.store_build.proofs.PlannedLayers.{lowest, rising}
 use Rattle.store_turns.specs.Meaning.{Each, ids_of}
 use Rattle.model_nodes.specs.Planned.{ArePlanned, HasLayers}
-use Rattle.model_nodes.proofs.MadeSteps.{in_past}
+use Rattle.store_build.proofs.GroupLemmas.{in_past}
 
 first_or_none : List (List ℕ) → List ℕ
 first_or_none [] = []

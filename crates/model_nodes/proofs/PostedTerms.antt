@@ -1,5 +1,5 @@
 -- The ids of the terms that were posted, one posting after another.
-use Rattle.std.proofs.Common.{◌≡◌, ℕ, ◌+◌, ◌<◌, ◌≤◌, true, inl, inr, List, [], ◌∷◌, ◌++◌, fold, map, Option, Some, None, length, refl, sym, ap, ◌∙◌, slice_get, arith}
+use Rattle.std.proofs.Common.{◌≡◌, ℕ, ◌+◌, ◌<◌, ◌≤◌, true, inl, inr, List, [], ◌∷◌, ◌++◌, fold, map, Option, Some, None, length, refl, sym, ap, ◌∙◌, subst, slice_get, arith}
 use Rattle.std.specs.Prelude.{unwrap_or}
 use Rattle.std.proofs.lemmas.Bool.{cases_lt}
 use Rattle.std.proofs.lemmas.List.{length_push, map_push}
@@ -9,7 +9,9 @@ use Rattle.cbl_base.specs.declared.ids.NodeId.{NodeId}
 use Rattle.term_count.specs.Codes.{is_known}
 use Rattle.term_count.specs.Numbering.{terms_after}
 use Rattle.term_count.proofs.Numbered.{joined_push}
+use Rattle.term_graph.specs.Graphs.{IsGraphOf}
 use Rattle.term_graph.specs.Ids.{id_among}
+use Rattle.term_graph.specs.declared.graph.Graph.{Graph}
 use Rattle.term_graph.proofs.SharedLaws.{id_stays, known_after}
 use Rattle.term_model.specs.Posting.{term_posted}
 use Rattle.term_model.specs.Subterms.{joined_terms, once, subterms_posted, subterms_where, with_subterm}
@@ -17,7 +19,7 @@ use Rattle.term_model.specs.declared.model.Model.{Model}
 use Rattle.term_model.specs.declared.model.Posted.{Posted}
 use Rattle.term_model.specs.declared.term.Term.{Term}
 use Rattle.model_nodes.specs.PostedIds.{ArePostedIds, IsIdOf}
-use Rattle.model_nodes.proofs.MadeSteps.{got_new, got_old}
+use Rattle.model_nodes.proofs.PushedLists.{got_new, got_old}
 
 module _ (M : Model) where
   -- the distinct subterms with one posting more
@@ -32,6 +34,23 @@ module _ (M : Model) where
 
   pub posted_none : (ps : List Posted) (p : Posted) → term_posted M p ≡ None → once (subterms_posted M (ps ++ p ∷ [])) ≡ once (subterms_posted M ps)
   posted_none ps p none = posted_more ps p ∙ ap (λ o. fold with_subterm (once (subterms_posted M ps)) (subterms_where o)) none
+
+  module _ (p : Posted) (t : Term) (is : term_posted M p ≡ Some t) where
+    -- the graph of all subterms so far, and that of one posting more
+    pub graph_posted : (old new : Graph) → ((ts : List Term) → IsGraphOf old ts → IsGraphOf new (terms_after ts t)) → (so_far : List Posted) →
+        IsGraphOf old (once (subterms_posted M so_far)) → IsGraphOf new (once (subterms_posted M (so_far ++ p ∷ [])))
+    graph_posted old new more so_far are = subst (λ ts. IsGraphOf new ts) (sym (posted_some so_far p t is)) (more (once (subterms_posted M so_far)) are)
+
+    -- and the id that the term has there
+    pub id_posted : (old : Graph) (id : NodeId) → ((ts : List Term) → IsGraphOf old ts → id.0 ≡ id_among old.cells (terms_after ts t) t) → (so_far : List Posted) (u : Term) →
+        IsGraphOf old (once (subterms_posted M so_far)) → term_posted M p ≡ Some u → id.0 ≡ id_among old.cells (once (subterms_posted M (so_far ++ p ∷ []))) u
+    id_posted old id own so_far u are other =
+        let same : t ≡ u = ap (λ o. unwrap_or o t) (sym is ∙ other) in
+        own (once (subterms_posted M so_far)) are ∙ ap (λ ts. id_among old.cells ts t) (sym (posted_some so_far p t is))
+        ∙ ap (id_among old.cells (once (subterms_posted M (so_far ++ p ∷ [])))) same
+
+  pub graph_none : (p : Posted) → term_posted M p ≡ None → (graph : Graph) (so_far : List Posted) → IsGraphOf graph (once (subterms_posted M so_far)) → IsGraphOf graph (once (subterms_posted M (so_far ++ p ∷ [])))
+  graph_none p none graph so_far are = subst (λ ts. IsGraphOf graph ts) (sym (posted_none so_far p none)) are
 
   -- what is known stays so, with its id
   stays : (cells : ℕ) (ps : List Posted) (p : Posted) (t : Term) → is_known (once (subterms_posted M ps)) t ≡ true →

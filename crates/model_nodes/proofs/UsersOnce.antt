@@ -135,16 +135,16 @@ lower_but n (x ∷ a) b c h = (h.0, lower_but n a b c h.1)
 module _ (Q : List ℕ → Type 0) (but : (a b c : List ℕ) → Q (a ++ (b ++ c)) → Q (a ++ c)) where
   once_keeps : (ds ts : List Term) → Q (users_in ds ++ users_in ts) → Q (users_in (fold with_subterm ds ts))
   once_keeps ds [] h = subst Q (append-nil (users_in ds)) h
-  once_keeps ds (t ∷ ts) h = by (list_any (same_term t) ds)
+  once_keeps ds (t ∷ ts) h = by (list_any (same_term t) ds) (λ es kept. once_keeps es ts kept)
     where
       with_it : users_in (ds ++ t ∷ []) ++ users_in ts ≡ users_in ds ++ (own_users t ++ users_in ts)
       with_it =
           ap (λ ns. ns ++ users_in ts) (users_append ds (t ∷ []) ∙ ap (λ ns. users_in ds ++ ns) (append-nil (own_users t)))
           ∙ append_assoc (users_in ds) (own_users t) (users_in ts)
 
-      by : (b : Bool) → Q (users_in (fold with_subterm (if b then ds else ds ++ t ∷ []) ts))
-      by true = once_keeps ds ts (but (users_in ds) (own_users t) (users_in ts) h)
-      by false = once_keeps (ds ++ t ∷ []) ts (subst Q (sym with_it) h)
+      by : (b : Bool) → ((es : List Term) → Q (users_in es ++ users_in ts) → Q (users_in (fold with_subterm es ts))) → Q (users_in (fold with_subterm (if b then ds else ds ++ t ∷ []) ts))
+      by true next = next ds (but (users_in ds) (own_users t) (users_in ts) h)
+      by false next = next (ds ++ t ∷ []) (subst Q (sym with_it) h)
 
 -- ---- at one place
 lacks_user : (ts : List Term) (n k : ℕ) (u : Term) → LacksNumber (users_in ts) n → slice_get ts k ≡ Some u → own_users u ≡ n ∷ [] → ⊥

@@ -1,5 +1,5 @@
 -- The weights of the members of systems, or of objectives, one system or objective after another.
-use Rattle.std.proofs.Common.{◌≡◌, ℕ, ℤ, ◌+◌, ◌<◌, List, ◌++◌, map, length, sym, ap, ◌∙◌, get_or}
+use Rattle.std.proofs.Common.{add-one, ◌≡◌, ℕ, ℤ, ◌+◌, ◌<◌, List, ◌++◌, map, length, sym, ap, ◌∙◌, get_or}
 use Rattle.std.proofs.lemmas.List.{map-append}
 use Rattle.model_values.specs.Fresh.{whole_by}
 use Rattle.store_build.proofs.ListLemmas.{at_place}
@@ -20,3 +20,4 @@ weights_more M formed side k total old new lt is before more =
     more ∙ ap (λ ws. ws ++ map (λ (m : Member). m.weight) total.members.items) before
     ∙ ap (λ ms. map (λ (m : Member). m.weight) (members_before M side k) ++ map (λ (m : Member). m.weight) ms) (sym own)
     ∙ sym (map-append (λ (m : Member). m.weight) (members_before M side k) (members_of M (whole_by side k)))
+    ∙ sym (ap (λ n. map (λ (m : Member). m.weight) (members_before M side n)) (add-one k))

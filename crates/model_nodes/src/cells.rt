@@ -1,28 +1,14 @@
 //! The inputs of a model's cells.
-ghost use Rattle.std.specs.Prelude.{◌≡◌, ◌≢◌, ◌<◌, ℕ, [], ◌∷◌, length, IfOk, OnOk};
+ghost use Rattle.std.specs.Prelude.{◌≡◌, length, IfOk, OnOk};
 ghost use Rattle.graph_values.specs.Members.{cells_of};
-ghost use Rattle.store_build.specs.Lists.{list_in};
 ghost use Rattle.model_nodes.specs.PostedIds.{ArePostedIds};
 ghost use Rattle.model_nodes.specs.CellLists.{AreCellLists, IsDefinedBy};
 ghost use Rattle.term_model.specs.Wellformed.{IsWellFormed};
 
-use crate::members::empty_lists;
+use crate::lists::{empty_lists, set_one};
 use cbl_base::{NoMemory, NodeId};
 use std::alloc::Global;
 use term_model::{Definition, Model, Posted};
-
-/// A list of one id in place of another.
-fn set_one(lists: &mut Vec<Vec<NodeId>>, at: usize, id: NodeId) -> Result<(), NoMemory>
-    requires { at < length lists.old.items }
-    ensures count { OnOk result (length lists.new.items ≡ length lists.old.items) }
-    ensures here { OnOk result (list_in lists.new.items at ≡ id ∷ []) }
-    ensures elsewhere { OnOk result ((i : ℕ) → i ≢ at →
-        list_in lists.new.items i ≡ list_in lists.old.items i) }
-{
-    lists[at].clear();
-    lists[at].push(id)?;
-    Ok(())
-}
 
 /// The id of what was posted is the one input of its variable, where it is a definition.
 fn define(

@@ -10,6 +10,7 @@ mod build;
 mod cells;
 mod heads;
 mod laws;
+mod lists;
 mod making;
 mod members;
 mod nodes;

@@ -1,39 +1,14 @@
 //! The ids of the members of systems and of objectives.
-ghost use Rattle.std.specs.Prelude.{◌≡◌, ◌≢◌, ◌<◌, ℕ, ◌++◌, ◌∷◌, [], is_some, length, IfOk, OnOk};
+ghost use Rattle.std.specs.Prelude.{◌≡◌, is_some, length, IfOk, OnOk};
 ghost use Rattle.graph_values.specs.Members.{cells_of};
 ghost use Rattle.model_nodes.specs.PostedIds.{ArePostedIds};
 ghost use Rattle.model_nodes.specs.Gathered.{IsPut, AreGathered};
-ghost use Rattle.store_build.specs.Lists.{list_in};
 ghost use Rattle.term_model.specs.Posting.{member_at, totals_by};
 
+use crate::lists::{empty_lists, put};
 use cbl_base::{NoMemory, NodeId};
 use std::alloc::Global;
 use term_model::{Model, Posted, Posting, Side, Total, posting_of, totals_by};
-
-/// So many empty lists.
-pub(crate) fn empty_lists(alloc: Global, count: usize) -> Result<Vec<Vec<NodeId>>, NoMemory>
-    ensures count { IfOk result (λ lists. length lists.items ≡ count) }
-    ensures empty { IfOk result (λ lists. (k : ℕ) → list_in lists.items k ≡ []) }
-{
-    let mut lists = Vec::with_capacity(alloc, count)?;
-    for _list in 0..count {
-        lists.push(Vec::new(alloc))?;
-    }
-    Ok(lists)
-}
-
-/// An id behind the others of a list.
-fn put(lists: &mut Vec<Vec<NodeId>>, at: usize, id: NodeId) -> Result<(), NoMemory>
-    requires { at < length lists.old.items }
-    ensures count { OnOk result (length lists.new.items ≡ length lists.old.items) }
-    ensures here { OnOk result (list_in lists.new.items at ≡
-        list_in lists.old.items at ++ id ∷ []) }
-    ensures elsewhere { OnOk result ((i : ℕ) → i ≢ at →
-        list_in lists.new.items i ≡ list_in lists.old.items i) }
-{
-    lists[at].push(id)?;
-    Ok(())
-}
 
 /// Whether what was posted is a member that is there.
 fn has_member(totals: &[Total], posting: Posting) -> bool

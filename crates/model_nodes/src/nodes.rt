@@ -2,7 +2,7 @@
 ghost use Rattle.std.specs.Prelude.{◌≡◌, ◌+◌, ◌≤◌, ◌^◌, length, map, IfOk, OnOk};
 ghost use Rattle.cbl_base.specs.declared.limits.TheConstants.{MAX_TERM_NODES};
 ghost use Rattle.graph_values.specs.Graphs.{count_of};
-ghost use Rattle.graph_values.specs.Members.{cells_of, numbers_of};
+ghost use Rattle.graph_values.specs.Members.{cells_of, numbers_of, variables_of};
 ghost use Rattle.graph_values.specs.WholeGraphs.{first_system};
 ghost use Rattle.model_nodes.specs.Making.{About, AreMade, ArePlaces};
 ghost use Rattle.model_nodes.specs.PostedIds.{ArePostedIds};
@@ -116,6 +116,7 @@ pub fn nodes_of<N: SolverNode>(
     requires model { about.model ≡ model.now }
     requires formed { IsWellFormed model.now }
     requires acyclic { IsAcyclic model.now }
+    requires numbers { length assignment.now ≡ variables_of model.now }
     requires users { AreUserNodes N.rule about.users users.items }
     requires posted { length users.items ≡
         length (users_posted model.now model.now.posted.items) }

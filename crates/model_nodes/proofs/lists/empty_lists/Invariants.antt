@@ -1,6 +1,6 @@
 use Rattle.std.proofs.Common.{◌≡◌, ℕ, [], length}
 use Rattle.store_build.specs.Lists.{list_in}
-use Rattle.model_nodes.proofs.members.empty_lists.Given as goal
+use Rattle.model_nodes.proofs.lists.empty_lists.Given as goal
 
 abbrev pub invariant-loop-list : goal.invariant-loop-list
 invariant-loop-list l = record {

@@ -1,6 +1,6 @@
 use Rattle.std.proofs.Common.{◌∙◌, ◌++◌, [], ◌∷◌, ap}
 use Rattle.store_build.proofs.ListLemmas.{in-set_same, in-set_other, in-read}
-use Rattle.model_nodes.proofs.members.put.Goals as goal
+use Rattle.model_nodes.proofs.lists.put.Goals as goal
 
 pub returns-clause-here : goal.returns-clause-here
 returns-clause-here c =

@@ -1,0 +1,26 @@
+use Rattle.std.proofs.Common.{◌≡◌, ◌<◌, ◌≤◌, length, get_or, sym, ap, ◌∙◌, subst, rules, arith}
+use Rattle.std.proofs.lemmas.Option.{slice_get_read}
+use Rattle.term_model.specs.declared.model.Posted.{Posted}
+use Rattle.store_build.proofs.ListLemmas.{at_place}
+use Rattle.model_nodes.proofs.PostedTurns.{graph_all, graph_turn, ids_all, ids_turn}
+use Rattle.model_nodes.proofs.terms.terms_of.Goals as goal
+
+pub loop-turn-preserved : goal.loop-turn-preserved
+loop-turn-preserved c =
+    let M = c.args.model.now in
+    let k = c.loop-turn.turn in
+    let p : Posted = c.index.result.now in
+    let is : p ≡ get_or M.posted.items k p = search rules in
+    let lt : k < length M.posted.items = omega (arith, c.loop-turn-test.true, c.len-turn-end.ensures) in
+    let at = at_place M.posted.items k p lt is in
+    record {
+      cells = c.add_posted.ensures.cells ∙ c.loop-turn.invariant.cells;
+      graph = graph_turn M k p at c.loop-turn.graph c.add_posted.new.graph c.in_ok-id.ensures.graph c.loop-turn.invariant.graph;
+      ids = ?;
+    }
+
+pub returns-clause-graph : goal.returns-clause-graph
+returns-clause-graph c = graph_all c.args.model.now c.loop-turn.turn c.loop-turn.graph (omega (arith, c.loop-turn-test.false, c.len-turn-end.ensures)) c.loop-turn.invariant.graph
+
+pub returns-clause-ids : goal.returns-clause-ids
+returns-clause-ids c = ids_all c.args.model.now c.loop-turn.turn c.args.cells c.loop-turn.ids.items (omega (arith, c.loop-turn-test.false, c.len-turn-end.ensures)) c.loop-turn.invariant.ids
