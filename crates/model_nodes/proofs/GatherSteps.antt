@@ -1,10 +1,11 @@
 -- The ids of members, one posting after another.
-use Rattle.std.proofs.Common.{◌≡◌, ◌≢◌, ℕ, ◌+◌, ◌<◌, ◌≤◌, Bool, true, false, List, [], ◌∷◌, ◌++◌, map, take, Option, Some, None, length, refl, sym, ap, ◌∙◌, Vec, arith}
+use Rattle.std.proofs.Common.{◌≡◌, ◌≢◌, ℕ, ◌+◌, ◌<◌, ◌≤◌, slice_get, Bool, true, false, List, [], ◌∷◌, ◌++◌, map, take, Option, Some, None, length, refl, sym, ap, ◌∙◌, Vec, arith}
 use Rattle.std.specs.Prelude.{if◌then◌else◌, is_some, nat_eq}
 use Rattle.std.specs.List.{cons_option, filter_map}
 use Rattle.std.specs.Option.{option_and_then}
 use Rattle.std.proofs.lemmas.Bool.{eqb-true, eqb-false}
 use Rattle.std.proofs.lemmas.List.{append-nil, map-append, take_all}
+use Rattle.std.proofs.lemmas.Option.{slice_get_within}
 use Rattle.cbl_base.specs.declared.ids.NodeId.{NodeId}
 use Rattle.model_values.specs.Fresh.{whole_by}
 use Rattle.model_values.specs.Support.{member_in}
@@ -14,6 +15,7 @@ use Rattle.term_model.specs.Posting.{member_at, number_by, number_in, term_poste
 use Rattle.term_model.specs.declared.model.Member.{Member}
 use Rattle.term_model.specs.declared.model.Model.{Model}
 use Rattle.term_model.specs.declared.model.Posted.{Posted}
+use Rattle.term_model.specs.declared.model.Total.{Total}
 use Rattle.term_model.specs.declared.posting.Posting.{Posting}
 use Rattle.term_model.specs.declared.posting.Side.{Side}
 use Rattle.term_model.specs.declared.term.Term.{Term}
@@ -51,6 +53,14 @@ none_for id (Some m) e = let c : true ≡ false = e in cc
 one_for : (id : NodeId) (o : Option Member) → is_some o ≡ true → id_for o id ≡ id ∷ []
 one_for id None e = let c : false ≡ true = e in cc
 one_for id (Some m) e = refl
+
+-- there is a system or objective where there is a member of it
+pub total_there : (totals : List Total) (k j : ℕ) → is_some (member_at totals k j) ≡ true → k < length totals
+total_there totals k j some = by (slice_get totals k) refl
+  where
+    by : (o : Option Total) → slice_get totals k ≡ o → k < length totals
+    by (Some total) at = slice_get_within totals k total at
+    by None at = absurd (let c : false ≡ true = sym (ap (λ o. is_some (option_and_then (λ (t : Total). slice_get t.members.items j) o)) at) ∙ some in cc)
 
 -- nothing, where it isn't on this side
 pub put_none : {Z : Type 0} (M : Model) (side : Side) (p : Posted) (id : NodeId) (lists : List (Vec NodeId Z)) → ((k : ℕ) → number_by side k p ≡ number_in k None) → IsPut M side p id lists lists

@@ -1,15 +1,19 @@
 -- Rules of what subterms compute, and the nodes that wait for them.
-use Rattle.std.proofs.Common.{◌≡◌, ℕ, zero, suc, ◌+◌, ◌<◌, ◌≤◌, false, List, [], ◌∷◌, map, set, get_or, Option, Some, None, length, refl, sym, ap, ◌∙◌, slice_get, arith}
+use Rattle.std.proofs.Common.{◌≡◌, ℕ, zero, suc, ◌+◌, ◌-◌, ◌<◌, ◌≤◌, false, List, [], ◌∷◌, map, set, get_or, Option, Some, None, length, refl, sym, ap, ◌∙◌, subst, slice_get, arith}
 use Rattle.std.specs.Prelude.{unwrap_or}
 use Rattle.std.specs.Option.{option_and_then, option_map}
 use Rattle.std.proofs.lemmas.Option.{slice_get-map, slice_get_read, slice_get_within}
 use Rattle.cbl_base.specs.NodeLaw.{Rule}
 use Rattle.cbl_base.specs.NumberRule.{NumberRule}
+use Rattle.cbl_base.specs.declared.ids.NodeId.{NodeId}
 use Rattle.cbl_operations.specs.RuleOf.{rule_of}
 use Rattle.cbl_operations.specs.declared.op.Op.{Op}
 use Rattle.cbl_operations.specs.declared.op.Op.TheVariants.{User}
 use Rattle.node_kinds.specs.OpNodes.{is_user}
+use Rattle.graph_values.specs.Members.{cells_of}
+use Rattle.term_graph.specs.Graphs.{HasNode, IsGraphOf}
 use Rattle.term_graph.specs.Heads.{head_by, head_of}
+use Rattle.term_graph.specs.declared.graph.Graph.{Graph}
 use Rattle.term_graph.specs.declared.head.Head.{Head}
 use Rattle.term_model.specs.Naming.{user_number, users_posted}
 use Rattle.term_model.specs.Subterms.{distinct_subterms}
@@ -87,7 +91,7 @@ own_headed (Term-F.ConstSet s) head n e user = let c : None ≡ Some n = ap (λ 
 own_headed (Term-F.Var v) head n e user = let c : None ≡ Some head = e in cc
 own_headed (Term-F.Node op args place) head n e user = ap user_number (user_is op n (ap (λ h. option_and_then user_in_head h) e ∙ user))
 
-got_within : {X : Type 0} (xs : List X) (k : ℕ) → k < length xs → (x : X) × (slice_get xs k ≡ Some x)
+pub got_within : {X : Type 0} (xs : List X) (k : ℕ) → k < length xs → (x : X) × (slice_get xs k ≡ Some x)
 got_within [] k lt = absurd (omega (arith, lt))
 got_within (x ∷ xs) zero lt = (x, refl)
 got_within (x ∷ xs) (suc k) lt = got_within xs k (omega (arith, lt))
@@ -105,3 +109,23 @@ module _ {N : Type 0} (M : Model) (formed : IsWellFormed M) where
       let apart : user_in_head head ≡ Some number → ⊥ = (λ here. (let e = users_once M formed k j number t u at there (own_headed (out-Term t) head number headed here) own in omega (arith, e, le))) in
       let before = left j u other (omega (arith, le)) there other_headed number user in
       (before.0, taken number apart ∙ before.1)
+
+-- ---- a subterm's node
+pub subterm_here : (M : Model) (graph : Graph) (id : NodeId) → HasNode graph id → IsGraphOf graph (distinct_subterms M) → graph.cells ≡ cells_of M →
+    (t : Term) × (slice_get (distinct_subterms M) (id.0 - cells_of M) ≡ Some t) × (slice_get (distinct_subterms M) (id.0 - graph.cells) ≡ Some t)
+subterm_here M graph id node are same =
+    let count = are.count in
+    let low = node.0 in
+    let high = node.1 in
+    let got = got_within (distinct_subterms M) (id.0 - cells_of M) (omega (arith, count, low, high, same)) in
+    (got.0, got.1, ap (λ n. slice_get (distinct_subterms M) (id.0 - n)) same ∙ got.1)
+
+module _ {N : Type 0} (M : Model) (id cells k : ℕ) (same : cells ≡ cells_of M) (is : id ≡ cells + k) (waiting : List (Option N)) where
+  place_of_id : id - cells_of M ≡ k
+  place_of_id = omega (arith, same, is)
+
+  pub left_here : AreLeft M k waiting → AreLeft M (id - cells_of M) waiting
+  left_here left = subst (λ (j : ℕ). AreLeft M j waiting) (sym place_of_id) left
+
+  pub left_next : AreLeft M (id - cells_of M + 1) waiting → AreLeft M (k + 1) waiting
+  left_next left = subst (λ (j : ℕ). AreLeft M (j + 1) waiting) place_of_id left

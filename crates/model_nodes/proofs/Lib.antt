@@ -3,6 +3,7 @@ pub mod GatherSteps
 pub mod HeadLemmas
 pub mod Linked
 pub mod MadeSteps
+pub mod OkAnswers
 pub mod OwnMembers
 pub mod PartFits
 pub mod PartSteps
@@ -12,6 +13,7 @@ pub mod PostedTerms
 pub mod PostedTurns
 pub mod PushedLists
 pub mod Stops
+pub mod Stored
 pub mod UsersOnce
 pub mod WeightLists
 pub mod WholeLinks

@@ -9,13 +9,16 @@ use Rattle.store_build.specs.Lists.{list_in}
 use Rattle.store_build.proofs.GatherLemmas.{before_first}
 use Rattle.store_turns.specs.Meaning.{AreLayers, Each, ids_of, is_empty}
 use Rattle.store_laws.specs.ModelTouch.{many_nodes}
+use Rattle.term_model.specs.Definitions.{IsAcyclic}
+use Rattle.term_model.specs.Wellformed.{IsWellFormed}
 use Rattle.term_model.specs.declared.model.Model.{Model}
 use Rattle.term_model.specs.declared.term.Term.{Term}
 use Rattle.graph_values.specs.Graphs.{id_of, inputs_of_cell, inputs_of_node, term_at, term_defined}
 use Rattle.graph_values.specs.Members.{cells_of}
 use Rattle.graph_values.specs.WholeGraphs.{whole_graph}
 use Rattle.graph_values.proofs.Wholes.{in_terms}
-use Rattle.model_nodes.specs.Making.{About, AreMade}
+use Rattle.graph_values.proofs.WholeLayers.{layer_in, whole_layers}
+use Rattle.model_nodes.specs.Making.{About, AreMade, ArePlaces}
 use Rattle.model_nodes.specs.Planned.{ArePlanned, HasLayers}
 use Rattle.model_nodes.specs.WholeNodes.{AreWholeNodes}
 
@@ -60,3 +63,26 @@ module _ {Z : Type 0} (about : About) (rules : List Rule) (lists : List (Vec Nod
     lowest = λ id free. (let low = ltb-true id (cells_of M) (and_parts (nat_lt id (cells_of M)) (is_empty (ids_of (list_in lists id))) free).0 in
         planned.lowest rules (cells_of M) id (omega (arith, low, all)) free);
   }
+
+-- ---- the same of a model that is the one that it is about
+module _ {Z : Type 0} (about : About) (M : Model) (same : about.model ≡ M) (rules : List Rule) (lists : List (Vec NodeId Z)) (places : List Place) (made : AreMade about rules lists places) (all : length lists ≡ many_nodes M) where
+  all_own : length lists ≡ many_nodes about.model
+  all_own = all ∙ ap many_nodes (sym same)
+
+  pub nodes_given : AreWholeNodes about.users M rules lists
+  nodes_given = subst (λ (N : Model). AreWholeNodes about.users N rules lists) same (made_whole about rules lists places made all_own)
+
+  pub layers_given : IsWellFormed M → IsAcyclic M → HasLayers lists
+  layers_given formed acyclic =
+      let own_formed = subst IsWellFormed (sym same) formed in
+      let own_acyclic = subst IsAcyclic (sym same) acyclic in
+      made_layers about rules lists places made all_own (layer_in about.users about.model own_formed own_acyclic) (whole_layers about.users about.model own_formed own_acyclic)
+
+  pub linked_given : (layers : List ℕ) → ArePlanned lists layers → AreLinked rules (cells_of M) lists layers
+  linked_given layers planned = subst (λ (N : Model). AreLinked rules (cells_of N) lists layers) same (made_linked about rules lists places made all_own layers planned)
+
+  pub places_given : ArePlaces M places
+  places_given = subst (λ (N : Model). ArePlaces N places) same made.places_are
+
+  pub places_all : length places ≡ many_nodes M
+  places_all = made.placed ∙ all

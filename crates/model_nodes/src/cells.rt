@@ -3,7 +3,6 @@ ghost use Rattle.std.specs.Prelude.{◌≡◌, length, IfOk, OnOk};
 ghost use Rattle.graph_values.specs.Members.{cells_of};
 ghost use Rattle.model_nodes.specs.PostedIds.{ArePostedIds};
 ghost use Rattle.model_nodes.specs.CellLists.{AreCellLists, IsDefinedBy};
-ghost use Rattle.term_model.specs.Wellformed.{IsWellFormed};
 
 use crate::lists::{empty_lists, set_one};
 use cbl_base::{NoMemory, NodeId};
@@ -41,9 +40,8 @@ pub(crate) fn cell_lists(
     cells: usize,
     ids: &[NodeId],
 ) -> Result<Vec<Vec<NodeId>>, NoMemory>
-    requires formed { IsWellFormed model.now }
     requires cells { cells ≡ cells_of model.now }
-    requires ids { ArePostedIds model.now cells model.now.posted.items ids.now }
+    requires ids { ArePostedIds model.now (cells_of model.now) model.now.posted.items ids.now }
     ensures { IfOk result (λ lists. AreCellLists model.now lists.items) }
 {
     let mut lists = empty_lists(alloc, cells)?;

@@ -47,11 +47,12 @@ pub(crate) fn put<N: NodeRule>(
     inputs: Vec<NodeId>,
     place: Place,
 ) -> Result<(), NoMemory>
-    ensures made { OnOk result ((about : About) →
-        AreMade about (map N.rule making.old.nodes.items)
-        making.old.lists.items making.old.places.items →
-        Fits about (length making.old.lists.items) (N.rule node) inputs.items place →
-        AreMade about (map N.rule making.new.nodes.items)
+    ghost about: { About }
+    requires made { AreMade about (map N.rule making.old.nodes.items)
+        making.old.lists.items making.old.places.items }
+    requires fits { Fits about (length making.old.lists.items) (N.rule node)
+        inputs.items place }
+    ensures made { OnOk result (AreMade about (map N.rule making.new.nodes.items)
         making.new.lists.items making.new.places.items) }
     ensures count { OnOk result (length making.new.lists.items ≡
         length making.old.lists.items + 1) }

@@ -42,8 +42,9 @@ fn put_term<N: SolverNode>(
     requires made { AreMade about (map N.rule making.old.nodes.items)
         making.old.lists.items making.old.places.items }
     requires next { length making.old.lists.items ≡ id.0 }
-    ensures waiting { AreWaiting N.rule about.users waiting.new.items }
-    ensures left { AreLeft about.model (id.0 - cells_of about.model + 1) waiting.new.items }
+    ensures waiting { OnOk result (AreWaiting N.rule about.users waiting.new.items) }
+    ensures left { OnOk result (AreLeft about.model (id.0 - cells_of about.model + 1)
+        waiting.new.items) }
     ensures made { OnOk result (AreMade about (map N.rule making.new.nodes.items)
         making.new.lists.items making.new.places.items) }
     ensures count { OnOk result (length making.new.lists.items ≡ id.0 + 1) }

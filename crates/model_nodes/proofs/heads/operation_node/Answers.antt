@@ -1,6 +1,5 @@
-use Rattle.std.proofs.Common.{◌∙◌, sym, ap, subst, ℕ}
+use Rattle.std.proofs.Common.{◌∙◌, None, Some, sym, ap, subst, slice_get}
 use Rattle.std.proofs.lemmas.Result.{IfOk-weaker}
-use Rattle.cbl_base.specs.NumberRule.{NumberRule}
 use Rattle.cbl_operations.specs.RuleOf.{rule_of}
 use Rattle.node_kinds.specs.OpNodes.{users_of}
 use Rattle.model_nodes.specs.Waiting.{AreWaiting}
@@ -19,11 +18,12 @@ returns-in-Some-clause-waiting g c = λ users are.
     subst (λ ws. AreWaiting g.N.NodeRule.rule users ws) (sym c.take_user.ensures.waiting) (taken g.N.NodeRule.rule users c.args.waiting.now.items c.in-Some.number are)
 
 pub returns-in-Some-clause-others : goal.returns-in-Some-clause-others
-returns-in-Some-clause-others g c = ?
+returns-in-Some-clause-others g c = λ n apart.
+    ap (λ ws. slice_get ws n) c.take_user.ensures.waiting ∙ other_place c.args.waiting.now.items c.in-Some.number n None (λ same. apart (sym c.user_in.ensures ∙ c.in-Some.is ∙ ap (λ k. Some k) same))
 
 pub of_operation-requires : goal.of_operation-requires
 of_operation-requires g c = no_user c.args.op.now (sym c.user_in.ensures ∙ c.in-None.is)
 
 pub returns-in-None-clause-node : goal.returns-in-None-clause-node
 returns-in-None-clause-node g c =
-    IfOk-weaker c.of_operation.result _ _ (λ node own users are. own ∙ same_rule _ users c.args.op.now (sym c.user_in.ensures ∙ c.in-None.is)) c.of_operation.ensures
+    IfOk-weaker c.of_operation.result _ _ (λ node own users are. own ∙ same_rule (users_of None) users c.args.op.now (sym c.user_in.ensures ∙ c.in-None.is)) c.of_operation.ensures

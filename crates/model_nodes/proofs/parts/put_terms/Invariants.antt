@@ -5,9 +5,9 @@ use Rattle.model_nodes.proofs.parts.put_terms.Given as goal
 
 abbrev pub invariant-loop-place : goal.invariant-loop-place
 invariant-loop-place g l = record {
-  waiting : AreWaiting g.N.SolverNode.NodeRule.rule g.about.users l.waiting.items;
+  waiting : AreWaiting g.N.NodeRule.rule g.about.users l.waiting.items;
   left : AreLeft g.about.model l.place l.waiting.items;
-  made : AreMade g.about (map g.N.SolverNode.NodeRule.rule l.making.nodes.items) l.making.lists.items l.making.places.items;
+  made : AreMade g.about (map g.N.NodeRule.rule l.making.nodes.items) l.making.lists.items l.making.places.items;
   count : length l.making.lists.items ≡ l.graph.cells + l.place;
 }
 

@@ -1,12 +1,5 @@
-use Rattle.std.proofs.Common.{◌≡◌, ◌∷◌, ◌++◌, [], List, None, Some, sym, ap, subst, ◌∙◌}
+use Rattle.std.proofs.Common.{◌≡◌, ◌∙◌, None, Some, sym}
 use Rattle.std.proofs.lemmas.Result.{IfOk-weaker, on_ok_weaker}
-use Rattle.cbl_base.specs.declared.ids.NodeId.{NodeId}
-use Rattle.term_graph.specs.Graphs.{IsGraphOf}
-use Rattle.term_graph.specs.Ids.{id_among}
-use Rattle.term_model.specs.Posting.{term_posted}
-use Rattle.term_model.specs.Subterms.{once, subterms_posted}
-use Rattle.term_model.specs.declared.model.Posted.{Posted}
-use Rattle.term_model.specs.declared.term.Term.{Term}
 use Rattle.model_nodes.proofs.PostedTerms.{id_posted, graph_none, graph_posted}
 use Rattle.model_nodes.proofs.terms.add_posted.Goals as goal
 

@@ -1,5 +1,6 @@
-use Rattle.std.proofs.Common.{◌≡◌, ◌<◌, ◌≤◌, length, get_or, sym, ap, ◌∙◌, subst, rules, arith}
-use Rattle.std.proofs.lemmas.Option.{slice_get_read}
+use Rattle.std.proofs.Common.{◌≡◌, ◌<◌, [], ◌∷◌, ◌++◌, length, get_or, take, ap, ◌∙◌, rules, arith}
+use Rattle.term_graph.specs.Ids.{id_among}
+use Rattle.term_model.specs.Subterms.{once, subterms_posted}
 use Rattle.term_model.specs.declared.model.Posted.{Posted}
 use Rattle.store_build.proofs.ListLemmas.{at_place}
 use Rattle.model_nodes.proofs.PostedTurns.{graph_all, graph_turn, ids_all, ids_turn}
@@ -16,7 +17,9 @@ loop-turn-preserved c =
     record {
       cells = c.add_posted.ensures.cells ∙ c.loop-turn.invariant.cells;
       graph = graph_turn M k p at c.loop-turn.graph c.add_posted.new.graph c.in_ok-id.ensures.graph c.loop-turn.invariant.graph;
-      ids = ?;
+      ids = ids_turn M k p at c.args.cells c.loop-turn.ids.items c.push.new.self.items c.in_ok-id.id c.in_ok-push.ensures.items
+          (λ t e. c.in_ok-id.ensures.id (take k M.posted.items) t c.loop-turn.invariant.graph e ∙ ap (λ n. id_among n (once (subterms_posted M (take k M.posted.items ++ p ∷ []))) t) c.loop-turn.invariant.cells)
+          c.loop-turn.invariant.ids;
     }
 
 pub returns-clause-graph : goal.returns-clause-graph
