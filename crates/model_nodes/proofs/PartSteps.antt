@@ -1,10 +1,10 @@
 -- The nodes of weights and totals, one after another.
-use Rattle.std.proofs.Common.{add-one, ◌≡◌, ℕ, ℤ, pos, ◌+◌, ◌<◌, List, ◌++◌, map, Some, length, refl, sym, ap, ◌∙◌, subst, slice_get, get_or, Vec, arith}
+use Rattle.std.proofs.Common.{add-one, ◌≡◌, ℕ, zero, suc, ℤ, pos, ◌+◌, ◌<◌, List, [], ◌∷◌, ◌++◌, map, Some, length, refl, sym, ap, ◌∙◌, subst, slice_get, get_or, Vec, arith}
 use Rattle.std.specs.Prelude.{unwrap_or}
 use Rattle.std.specs.Option.{option_map}
 use Rattle.std.specs.List.{range_with_len}
-use Rattle.std.proofs.lemmas.List.{length-append, length-map}
-use Rattle.std.proofs.lemmas.Option.{slice_get-map}
+use Rattle.std.proofs.lemmas.List.{append_assoc, length-append, length-map, map_push}
+use Rattle.std.proofs.lemmas.Option.{slice_get-get_or, slice_get-map}
 use Rattle.cbl_base.specs.NodeLaw.{Rule}
 use Rattle.cbl_base.specs.declared.ids.NodeId.{NodeId}
 use Rattle.cbl_violations.specs.Violations.WeightedTotal.{weighted_total}
@@ -29,10 +29,22 @@ use Rattle.model_nodes.specs.Making.{About, Fits}
 use Rattle.model_nodes.specs.Totals.{first_total, first_weight}
 use Rattle.model_nodes.proofs.PartFits.{fits_total}
 
+range_push : (first k : ℕ) → range_with_len first (k + 1) ≡ range_with_len first k ++ (first + k) ∷ []
+range_push first zero = ap (λ n. n ∷ []) (let e : first ≡ first + 0 = omega arith in e)
+range_push first (suc k) =
+    let next : first + 1 + k ≡ first + suc k = omega arith in
+    ap (range_with_len first) (add-one (suc k)) ∙ ap (λ ns. first ∷ ns) (ap (range_with_len (first + 1)) (sym (add-one k)) ∙ range_push (first + 1) k ∙ ap (λ n. range_with_len (first + 1) k ++ n ∷ []) next)
+
+-- one weight's id more behind those of the members
+pub range_more : (ids old new : List NodeId) (id : NodeId) (first k : ℕ) → ids_of old ≡ ids_of ids ++ range_with_len first k → new ≡ old ++ id ∷ [] → id.0 ≡ first + k → ids_of new ≡ ids_of ids ++ range_with_len first (k + 1)
+range_more ids old new id first k before is at =
+    ap ids_of is ∙ map_push (λ (i : NodeId). i.0) old id ∙ ap (λ n. ids_of old ++ n ∷ []) at ∙ ap (λ ns. ns ++ (first + k) ∷ []) before
+    ∙ append_assoc (ids_of ids) (range_with_len first k) ((first + k) ∷ []) ∙ ap (λ ns. ids_of ids ++ ns) (sym (range_push first k))
+
 -- the weight of an objective's member
-pub weight_there : (M : Model) (k : ℕ) (x : ℤ) (weights : List ℤ) → weights ≡ map (λ m. m.weight) (members_by M Objectives) → k < length weights → x ≡ get_or weights k x → weight_at M k ≡ x
-weight_there M k x weights are lt is =
-    ap (λ o. unwrap_or o (pos 0)) (sym (slice_get-map (λ (m : Member). m.weight) (members_by M Objectives) k) ∙ ap (λ ws. slice_get ws k) (sym are) ∙ at_place weights k x lt is)
+pub weight_there : (M : Model) (k : ℕ) (d : ℤ) (weights : List ℤ) → weights ≡ map (λ m. m.weight) (members_by M Objectives) → k < length weights → weight_at M k ≡ get_or weights k d
+weight_there M k d weights are lt =
+    ap (λ o. unwrap_or o (pos 0)) (sym (slice_get-map (λ (m : Member). m.weight) (members_by M Objectives) k) ∙ ap (λ ws. slice_get ws k) (sym are) ∙ slice_get-get_or weights k d lt)
 
 module _ (M : Model) where
   total_at : (side : Side) (k : ℕ) → first_total M side + k ≡ total_id M (whole_by side k)

@@ -1,10 +1,22 @@
-use Rattle.std.proofs.Common.{◌≡◌, ◌<◌, [], ◌∷◌, ◌++◌, length, get_or, take, ap, ◌∙◌, rules, arith}
+use Rattle.std.proofs.Common.{◌≡◌, ◌<◌, [], ◌∷◌, ◌++◌, length, get_or, take, ap, ◌∙◌, ℕ, rules, subst, sym, arith}
 use Rattle.term_graph.specs.Ids.{id_among}
 use Rattle.term_model.specs.Subterms.{once, subterms_posted}
 use Rattle.term_model.specs.declared.model.Posted.{Posted}
 use Rattle.store_build.proofs.ListLemmas.{at_place}
+use Rattle.model_nodes.specs.PostedIds.{ArePostedIds, HasPostedCells}
+use Rattle.model_nodes.proofs.PostedTerms.{ids_none}
 use Rattle.model_nodes.proofs.PostedTurns.{graph_all, graph_turn, ids_all, ids_turn}
 use Rattle.model_nodes.proofs.terms.terms_of.Goals as goal
+
+pub loop-turn-init : goal.loop-turn-init
+loop-turn-init c = record {
+  cells = c.new-graph.ensures.cells;
+  graph = c.new-graph.ensures.graph;
+  ids = subst (λ js. ArePostedIds c.args.model.now c.args.cells [] js) (sym c.new-ids.ensures.items) (ids_none c.args.model.now c.args.cells);
+}
+
+pub add_posted-requires : goal.add_posted-requires
+add_posted-requires c = subst (λ (n : ℕ). HasPostedCells c.args.model.now n) (sym c.loop-turn.invariant.cells) c.requires.cells
 
 pub loop-turn-preserved : goal.loop-turn-preserved
 loop-turn-preserved c =
