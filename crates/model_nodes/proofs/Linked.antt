@@ -15,7 +15,7 @@ use Rattle.term_model.specs.declared.model.Model.{Model}
 use Rattle.term_model.specs.declared.term.Term.{Term}
 use Rattle.graph_values.specs.Graphs.{id_of, inputs_of_cell, inputs_of_node, term_at, term_defined}
 use Rattle.graph_values.specs.Members.{cells_of}
-use Rattle.graph_values.specs.WholeGraphs.{whole_graph}
+use Rattle.graph_values.specs.WholeGraphs.{first_repeat, whole_graph}
 use Rattle.graph_values.proofs.Wholes.{in_terms}
 use Rattle.graph_values.proofs.WholeLayers.{layer_in, whole_layers}
 use Rattle.model_nodes.specs.Making.{About, AreMade, ArePlaces}
@@ -86,3 +86,7 @@ module _ {Z : Type 0} (about : About) (M : Model) (same : about.model ≡ M) (ru
 
   pub places_all : length places ≡ many_nodes M
   places_all = made.placed ∙ all
+
+-- the repeats are the last
+pub repeats_counted : (N M : Model) → N ≡ M → (n count : ℕ) → count ≡ length M.objectives.items → n ≡ first_repeat N + count → n ≡ many_nodes M
+repeats_counted N M same n count is at = at ∙ ap (λ k. k + count) (ap first_repeat same) ∙ ap (λ k. first_repeat M + k) is

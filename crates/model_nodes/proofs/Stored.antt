@@ -1,20 +1,26 @@
 -- The nodes of a model are what a store of it asks for, and the graph that such a store keeps is the model's.
 use Rattle.std.proofs.Common.{◌≡◌, ℕ, ℤ, List, length, sym, ap, ◌∙◌, subst, Vec}
+use Rattle.std.specs.declared.alloc.Global.{Global}
 use Rattle.cbl_base.specs.NodeLaw.{Rule}
 use Rattle.cbl_base.specs.declared.ids.NodeId.{NodeId}
 use Rattle.graph_values.specs.Links.{AreModelLinks, AreTakers}
 use Rattle.graph_values.specs.Members.{cells_of, numbers_of, variables_of}
 use Rattle.graph_values.specs.WholeGraphs.{total_id}
 use Rattle.graph_values.proofs.WeightCells.{length_numbers}
+use Rattle.model_store.specs.ModelStores.{StopsAt}
 use Rattle.model_store.specs.Settings.{AreNodesOf, AreStartsOf, IsSetting, Setting, numbers_in, users_in}
 use Rattle.model_values.specs.declared.wholes.Whole.{Whole}
 use Rattle.store_build.specs.Aims.{AreLinked, graph_over, start_of}
+use Rattle.store_build.specs.Stops.{IsStop}
+use Rattle.store_build.specs.declared.parts.StoreFault.{StoreFault}
 use Rattle.store_laws.specs.ModelTouch.{IsWhole}
 use Rattle.store_turns.specs.Meaning.{Graph}
 use Rattle.term_model.specs.Definitions.{IsAcyclic}
 use Rattle.term_model.specs.Wellformed.{IsWellFormed}
 use Rattle.term_model.specs.declared.model.Model.{Model}
+use Rattle.model_nodes.specs.StopPlaces.{IsBehind}
 use Rattle.model_nodes.specs.WholeNodes.{AreWholeNodes}
+use Rattle.model_nodes.proofs.Stops.{stops_behind}
 use Rattle.model_nodes.proofs.WholeLinks.{nodes_linked, nodes_take, nodes_whole}
 
 module _ (setting : Setting) (M : Model) (a : List ℤ) (model : setting.model ≡ M) (assigned : setting.assignment ≡ a) (given : IsSetting setting) where
@@ -43,6 +49,12 @@ module _ (setting : Setting) (M : Model) (a : List ℤ) (model : setting.model �
     pub whole_stored : (g : Graph) → g ≡ graph_over rules (length start) lists → AreWholeNodes (users_in setting) M rules lists → IsWhole (users_in setting) M g
     whole_stored g same are =
         subst (λ (h : Graph). IsWhole (users_in setting) M h) (sym (same ∙ ap (λ n. graph_over rules n lists) cells_here)) (nodes_whole (users_in setting) M rules lists are)
+
+  pub behind_stored : (rules : List Rule) (lists : List (Vec NodeId Global)) (start : List ℤ) → start ≡ numbers_of M a → (layers : List ℕ) → AreLinked rules (cells_of M) lists layers → AreWholeNodes (users_in setting) M rules lists →
+      (stop : StoreFault) → StopsAt rules start lists stop → IsBehind setting.model stop
+  behind_stored rules lists start is layers linked are stop fails =
+      subst (λ (N : Model). IsBehind N stop) (sym model)
+      (stops_behind M rules lists layers linked are.size (start_of start) stop (subst (λ (n : ℕ). IsStop (graph_over rules n lists) (start_of start) stop) (cells_here rules lists start is) fails))
 
   pub nodes_stored : {Z : Type 0} (rules : List Rule) (lists : List (Vec NodeId Z)) → setting.total ≡ total_id M → AreWholeNodes (users_in setting) M rules lists → AreNodesOf setting rules lists
   nodes_stored rules lists total are =
