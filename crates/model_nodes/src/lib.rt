@@ -6,7 +6,6 @@
 //! of them has the model's values, or else the model's fault with its place.
 #![tactic(auto)]
 
-mod build;
 mod cells;
 mod heads;
 mod laws;
@@ -17,8 +16,9 @@ mod nodes;
 mod numbers;
 mod parts;
 mod planned;
+mod storing;
 mod terms;
 
-pub use build::{Built, build, stop_of};
 pub use laws::nodes_law;
 pub use nodes::{ModelNodes, nodes_of};
+pub use storing::{Built, build, stop_of};

@@ -3,7 +3,7 @@ use Rattle.graph_values.specs.Links.{IsModelStop}
 use Rattle.graph_values.specs.WholeGraphs.{total_id}
 use Rattle.model_nodes.specs.StopPlaces.{IsBehind}
 use Rattle.model_nodes.proofs.Stops.{fault_placed}
-use Rattle.model_nodes.proofs.build.stop_of.Goals as goal
+use Rattle.model_nodes.proofs.storing.stop_of.Goals as goal
 
 pub returns-in-Some : goal.returns-in-Some
 returns-in-Some c = λ users M a all are behind found.

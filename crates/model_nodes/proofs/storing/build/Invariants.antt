@@ -1,5 +1,5 @@
 use Rattle.model_store.specs.Settings.{users_in}
-use Rattle.model_nodes.proofs.build.build.Given as goal
+use Rattle.model_nodes.proofs.storing.build.Given as goal
 
 abbrev pub ghost-nodes_of : goal.ghost-nodes_of
 ghost-nodes_of g a = record { users = users_in g.setting; model = a.model.now }

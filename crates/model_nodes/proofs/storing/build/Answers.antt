@@ -7,7 +7,7 @@ use Rattle.store_laws.specs.ModelTouch.{many_nodes}
 use Rattle.term_model.specs.declared.model.Model.{Model}
 use Rattle.model_nodes.specs.Making.{ArePlaces}
 use Rattle.model_nodes.proofs.Stored.{behind_stored, linked_stored, nodes_stored, own_acyclic, own_formed, own_long, start_stored, whole_stored}
-use Rattle.model_nodes.proofs.build.build.Goals as goal
+use Rattle.model_nodes.proofs.storing.build.Goals as goal
 
 pub nodes_of-requires : goal.nodes_of-requires
 nodes_of-requires g c κs within =
