@@ -1,5 +1,5 @@
 //! A store of a model.
-ghost use Rattle.std.specs.Prelude.{◌≡◌, ℕ, ℤ, Err, IfErr, IfOk, List, Ok, length};
+ghost use Rattle.std.specs.Prelude.{◌≡◌, ℕ, ℤ, Err, IfErr, IfOk, List, Ok, length, slice_get};
 ghost use Rattle.cbl_base.specs.NumberRule.{NumberRule};
 ghost use Rattle.graph_values.specs.Links.{IsModelStop};
 ghost use Rattle.graph_values.specs.WholeGraphs.{total_id};
@@ -29,6 +29,13 @@ pub struct Built<N: NodeRule> {
     pub places: Vec<Place>,
 }
 
+/// The place of an id.
+fn place_at(places: &[Place], id: u32) -> Option<Place>
+    ensures { result ≡ slice_get places.now id }
+{
+    places.get(id as usize).copied()
+}
+
 /// A store's fault at its node's place.
 pub fn stop_of(places: &[Place], stop: StoreFault) -> ModelStop
     ensures { (users : ℕ → NumberRule) (M : Model) (a : List ℤ) →
@@ -38,8 +45,8 @@ pub fn stop_of(places: &[Place], stop: StoreFault) -> ModelStop
     let StoreFault::Node(node, fault) = stop else {
         return ModelStop::NoMemory;
     };
-    match places.get(node.0 as usize) {
-        Some(place) => ModelStop::Fault(*place, fault),
+    match place_at(places, node.0) {
+        Some(place) => ModelStop::Fault(place, fault),
         None => ModelStop::NoMemory,
     }
 }
