@@ -1,5 +1,5 @@
 -- The nodes of a model that were made are all of them, and a store may be built of them.
-use Rattle.std.proofs.Common.{◌≡◌, ℕ, ◌+◌, ◌-◌, ◌<◌, ◌≤◌, true, false, cond, nat_lt, List, [], ◌∷◌, Option, Some, None, length, refl, sym, ap, ◌∙◌, subst, Vec, arith}
+use Rattle.std.proofs.Common.{◌≡◌, ℕ, ◌+◌, ◌<◌, true, false, cond, nat_lt, List, [], ◌∷◌, Option, Some, None, length, refl, sym, ap, ◌∙◌, subst, Vec, arith}
 use Rattle.std.proofs.lemmas.Bool.{ltb-true, and_parts}
 use Rattle.cbl_base.specs.NodeLaw.{Rule}
 use Rattle.cbl_base.specs.declared.ids.NodeId.{NodeId}

@@ -1,5 +1,5 @@
 -- Each variable in a posted term has a cell.
-use Rattle.std.proofs.Common.{◌≡◌, ℕ, ◌<◌, ◌≤◌, IsSome, length, sym, arith}
+use Rattle.std.proofs.Common.{ℕ, ◌<◌, ◌≤◌, IsSome, length, sym, arith}
 use Rattle.std.proofs.lemmas.List.Elements.{All-weaker}
 use Rattle.term_model.specs.Definitions.{vars_of}
 use Rattle.term_model.specs.Kinds.{kinds_in}

@@ -1,5 +1,5 @@
 -- No cell of a model fails, and a node's fault is the model's at its place.
-use Rattle.std.proofs.Common.{◌≡◌, ℕ, ℤ, ◌-◌, ◌<◌, ◌≤◌, Bool, true, false, cond, nat_lt, ◌&&◌, inl, inr, List, [], ◌∷◌, map, Some, length, refl, sym, ap, ◌∙◌, slice_get, Result, Err, Vec, arith}
+use Rattle.std.proofs.Common.{◌≡◌, ℕ, ℤ, ◌-◌, ◌<◌, ◌≤◌, Bool, true, false, cond, nat_lt, ◌&&◌, inl, inr, List, [], map, Some, length, refl, sym, ap, ◌∙◌, slice_get, Result, Err, Vec, arith}
 use Rattle.std.specs.Prelude.{unwrap_or}
 use Rattle.std.specs.declared.alloc.Global.{Global}
 use Rattle.std.proofs.lemmas.Bool.{cases_lt}

@@ -1,7 +1,7 @@
 -- What has the rules and the inputs of a model's nodes is the graph of the model with its totals, and what a store of
 -- the model may be built of.
-use Rattle.std.proofs.Common.{◌≡◌, ◌⊎◌, inl, inr, ℕ, ℤ, pos, suc, ◌+◌, ◌-◌, ◌<◌, ◌≤◌, true, cond, nat_lt, ◌&&◌, IsTrue, List, [], ◌∷◌, ◌++◌, map, Option, Some, None, length, refl, sym, ap, ◌∙◌, subst, slice_get, Result, Ok, Err, Vec, arith}
-use Rattle.std.specs.Prelude.{nat_eq, unwrap_or}
+use Rattle.std.proofs.Common.{◌≡◌, ◌⊎◌, inl, inr, ℕ, pos, suc, ◌+◌, ◌-◌, ◌<◌, ◌≤◌, cond, nat_lt, ◌&&◌, IsTrue, List, [], ◌∷◌, ◌++◌, map, Option, Some, None, length, refl, sym, ap, ◌∙◌, subst, slice_get, Err, Vec, arith}
+use Rattle.std.specs.Prelude.{unwrap_or}
 use Rattle.std.specs.Option.{option_map}
 use Rattle.std.specs.List.{range_with_len}
 use Rattle.std.proofs.lemmas.Bool.{cases_lt}
@@ -32,12 +32,12 @@ use Rattle.term_model.specs.declared.posting.Side.TheVariants.{Objectives}
 use Rattle.term_model.specs.declared.term.Term.{Term}
 use Rattle.term_model.specs.declared.term.Term.TheOpen.{Term-F}
 use Rattle.term_model.specs.declared.term.Term.TheViews.{out-Term}
-use Rattle.graph_values.specs.Graphs.{count_of, inputs_of, model_graph, term_at, value_by, value_of_node}
-use Rattle.graph_values.specs.Links.{AreLinks, AreModelLinks, AreNumbers, AreTakers, AreWeighed, Gives, IsNumber, IsOther, IsTotalLink}
+use Rattle.graph_values.specs.Graphs.{count_of, term_at, value_by, value_of_node}
+use Rattle.graph_values.specs.Links.{AreLinks, AreModelLinks, AreNumbers, AreTakers, AreWeighed, IsNumber, IsOther, IsTotalLink}
 use Rattle.graph_values.specs.Members.{cells_of, members_before, members_by, members_of}
 use Rattle.graph_values.specs.Taken.{takes_by}
 use Rattle.graph_values.specs.Totals.{weight_ids}
-use Rattle.graph_values.specs.WholeGraphs.{by_range, first_objective, first_repeat, first_system, inputs_in_whole, inputs_of_total, total_id, value_of_total, weight_at, whole_graph}
+use Rattle.graph_values.specs.WholeGraphs.{first_objective, first_repeat, first_system, inputs_in_whole, inputs_of_total, total_id, weight_at, whole_graph}
 use Rattle.graph_values.proofs.Arguments.{arguments_there}
 use Rattle.graph_values.proofs.WeightCells.{split}
 use Rattle.graph_values.proofs.Wholes.{in_objectives, in_repeats, in_systems, in_terms, in_weights, whole_holds}

@@ -1,5 +1,5 @@
 -- The place of the fault by which a store of a model can't be built. A rule of this project.
-use Rattle.std.specs.Prelude.{ℕ, ◌<◌, ◌≤◌}
+use Rattle.std.specs.Prelude.{◌<◌, ◌≤◌}
 use Rattle.store_build.specs.declared.parts.StoreFault.{StoreFault}
 use Rattle.store_build.specs.declared.parts.StoreFault.TheVariants.{Node, NoMemory}
 use Rattle.store_laws.specs.ModelTouch.{many_nodes}

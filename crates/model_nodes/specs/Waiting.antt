@@ -1,5 +1,5 @@
 -- The nodes of users' constraints, by number, each in its place until it is taken for its subterm. A rule of this project.
-use Rattle.std.specs.Prelude.{◌≡◌, ℕ, ◌≤◌, List, [], ◌∷◌, Option, Some, None, slice_get}
+use Rattle.std.specs.Prelude.{◌≡◌, ℕ, ◌≤◌, List, Option, Some, None, slice_get}
 use Rattle.cbl_base.specs.NodeLaw.{Rule}
 use Rattle.cbl_base.specs.NumberRule.{NumberRule}
 use Rattle.cbl_operations.specs.RuleOf.{rule_of}

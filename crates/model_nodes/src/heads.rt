@@ -1,6 +1,5 @@
 //! The node of what a subterm computes.
 ghost use Rattle.std.specs.Prelude.{◌≡◌, ℕ, IfOk, None, Some, map, slice_get, slice_set};
-ghost use Rattle.std.specs.Option.{option_map};
 ghost use Rattle.cbl_base.specs.NumberRule.{NumberRule};
 ghost use Rattle.cbl_operations.specs.RuleOf.{rule_of};
 ghost use Rattle.model_nodes.specs.HeadRules.{rule_of_head};

@@ -1,5 +1,5 @@
 //! Nodes that are made one after another.
-ghost use Rattle.std.specs.Prelude.{◌≡◌, ◌+◌, length, map, IfOk, OnOk, []};
+ghost use Rattle.std.specs.Prelude.{◌≡◌, ◌+◌, length, map, IfOk, OnOk};
 ghost use Rattle.model_nodes.specs.Making.{About, AreMade, Fits};
 ghost use Rattle.model_nodes.specs.CellLists.{AreCellLists};
 

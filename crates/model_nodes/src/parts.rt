@@ -1,9 +1,8 @@
 //! The nodes of a model, part by part.
-ghost use Rattle.std.specs.Prelude.{◌≡◌, ◌+◌, ◌-◌, ◌<◌, ℕ, ◌++◌, length, map, IfOk, OnOk};
+ghost use Rattle.std.specs.Prelude.{◌≡◌, ◌+◌, ◌-◌, ◌<◌, ◌++◌, length, map, IfOk, OnOk};
 ghost use Rattle.std.specs.List.{range_with_len};
-ghost use Rattle.cbl_base.specs.declared.place.Place.{Place};
 ghost use Rattle.graph_values.specs.Graphs.{count_of};
-ghost use Rattle.graph_values.specs.Members.{cells_of, members_before, members_by, variables_of};
+ghost use Rattle.graph_values.specs.Members.{cells_of, members_by};
 ghost use Rattle.graph_values.specs.WholeGraphs.{first_objective, first_repeat, first_system};
 ghost use Rattle.model_nodes.specs.Gathered.{AreGathered};
 ghost use Rattle.model_nodes.specs.Making.{About, AreMade};

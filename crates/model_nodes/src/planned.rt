@@ -1,8 +1,6 @@
 //! The layers of a model's nodes.
-ghost use Rattle.std.specs.Prelude.{◌≡◌, ◌<◌, ◌^◌, ℕ, length, map, IfOk};
-ghost use Rattle.layer_plan.specs.Dependencies.{list_of};
+ghost use Rattle.std.specs.Prelude.{◌≡◌, ◌<◌, ◌^◌, length, map, IfOk};
 ghost use Rattle.model_nodes.specs.Planned.{ArePlanned, HasLayers};
-ghost use Rattle.store_build.specs.Lists.{list_in};
 ghost use Rattle.store_turns.specs.Meaning.{ids_of};
 
 use cbl_base::{NoMemory, NodeId};

@@ -1,4 +1,4 @@
-use Rattle.std.proofs.Common.{◌≡◌, ◌∙◌, ap, length, map, subst, sym, ℕ, arith}
+use Rattle.std.proofs.Common.{◌∙◌, ap, length, map, subst, sym, ℕ, arith}
 use Rattle.graph_values.specs.Graphs.{count_of}
 use Rattle.graph_values.specs.Members.{cells_of, members_by}
 use Rattle.graph_values.specs.WholeGraphs.{first_system}
@@ -29,11 +29,25 @@ put_terms-requires g c κs within =
     let M = g.about.model in
     let same = sym c.requires.1.0 in
     let formed = subst IsWellFormed same c.requires.1.1.0 in
-    let count = c.requires.1.1.1.1.1.1 ∙ ap (λ (N : Model). length (users_posted N N.posted.items)) same in
-    (within, (subst (λ (N : Model). IsGraphOf c.in_ok-terms.terms.graph (distinct_subterms N)) same c.in_ok-terms.ensures.graph, (c.in_ok-terms.ensures.cells ∙ c.requires.1.1.1.0 ∙ ap cells_of same, (formed,
-    (subst (λ ws. AreWaiting g.N.NodeRule.rule g.about.users ws) (sym c.in_ok-waiting.ensures) (all_wait g.N.NodeRule.rule g.about.users c.args.users.items c.requires.1.1.1.1.1.0),
-    (subst (λ ws. AreLeft M 0 ws) (sym c.in_ok-waiting.ensures) (left_all M formed c.args.users.items count),
-    (c.in_ok-making.ensures.made g.about (subst (λ (N : Model). AreCellLists N c.in_ok-lists.lists.items) same c.in_ok-lists.ensures), c.in_ok-making.ensures.count ∙ c.in_ok-lists.ensures.count ∙ ap cells_of same)))))))
+    let count = c.requires.1.1.1.1.1.1 ∙ ap (λ (N : Model). length (users_posted N N.posted.items)) same in (
+      within,
+      (
+        subst (λ (N : Model). IsGraphOf c.in_ok-terms.terms.graph (distinct_subterms N)) same c.in_ok-terms.ensures.graph,
+        (
+          c.in_ok-terms.ensures.cells ∙ c.requires.1.1.1.0 ∙ ap cells_of same,
+          (
+            formed,
+            (
+              subst (λ ws. AreWaiting g.N.NodeRule.rule g.about.users ws) (sym c.in_ok-waiting.ensures) (all_wait g.N.NodeRule.rule g.about.users c.args.users.items c.requires.1.1.1.1.1.0),
+              (
+                subst (λ ws. AreLeft M 0 ws) (sym c.in_ok-waiting.ensures) (left_all M formed c.args.users.items count),
+                (c.in_ok-making.ensures.made g.about (subst (λ (N : Model). AreCellLists N c.in_ok-lists.lists.items) same c.in_ok-lists.ensures), c.in_ok-making.ensures.count ∙ c.in_ok-lists.ensures.count ∙ ap cells_of same),
+              ),
+            ),
+          ),
+        ),
+      ),
+    )
 
 pub overflow_cast-counted : goal.overflow_cast-counted
 overflow_cast-counted g c =
@@ -48,7 +62,16 @@ put_weights-requires g c κs within =
 pub put_wholes-requires : goal.put_wholes-requires
 put_wholes-requires g c κs within =
     let M = c.args.model.now in
-    let count = c.in_ok-put_terms.ensures.count ∙ ap count_of c.requires.1.0 in
-    (within, (c.requires.1.0, (c.requires.1.1.0,
-    (subst (λ is. ArePostedIds M (cells_of M) M.posted.items is) (sym c.deref-3.ensures.value) (subst (λ (n : ℕ). ArePostedIds M n M.posted.items c.in_ok-terms.terms.ids.items) c.requires.1.1.1.0 c.in_ok-terms.ensures.ids),
-    (omega (arith, count, c.put_terms.new.making.lists.ok.0), (c.in_ok-put_weights.ensures.made, c.in_ok-put_weights.ensures.count ∙ ap first_system c.requires.1.0))))))
+    let count = c.in_ok-put_terms.ensures.count ∙ ap count_of c.requires.1.0 in (
+      within,
+      (
+        c.requires.1.0,
+        (
+          c.requires.1.1.0,
+          (
+            subst (λ is. ArePostedIds M (cells_of M) M.posted.items is) (sym c.deref-3.ensures.value) (subst (λ (n : ℕ). ArePostedIds M n M.posted.items c.in_ok-terms.terms.ids.items) c.requires.1.1.1.0 c.in_ok-terms.ensures.ids),
+            (omega (arith, count, c.put_terms.new.making.lists.ok.0), (c.in_ok-put_weights.ensures.made, c.in_ok-put_weights.ensures.count ∙ ap first_system c.requires.1.0)),
+          ),
+        ),
+      ),
+    )

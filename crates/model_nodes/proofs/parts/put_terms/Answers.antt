@@ -15,11 +15,28 @@ pub put_term-requires : goal.put_term-requires
 put_term-requires g c κs within =
     let M = g.about.model in
     let k = c.loop-place.place in
-    let is = ap (λ n. n + k) c.cells.ensures in
-    (within, ((omega (arith, c.cells.ensures), omega (arith, c.cells.ensures, c.loop-place-test.true, c.len-place-end.ensures.count)),
-    (c.requires.1.0, (c.requires.1.1.0, (c.requires.1.1.1.0, (c.loop-place.invariant.waiting,
-    (left_here M (c.cells.result + k) c.args.graph.now.cells k c.requires.1.1.0 is c.loop-place.waiting.items c.loop-place.invariant.left,
-    (c.loop-place.invariant.made, c.loop-place.invariant.count ∙ sym is))))))))
+    let is = ap (λ n. n + k) c.cells.ensures in (
+      within,
+      (
+        (omega (arith, c.cells.ensures), omega (arith, c.cells.ensures, c.loop-place-test.true, c.len-place-end.ensures.count)),
+        (
+          c.requires.1.0,
+          (
+            c.requires.1.1.0,
+            (
+              c.requires.1.1.1.0,
+              (
+                c.loop-place.invariant.waiting,
+                (
+                  left_here M (c.cells.result + k) c.args.graph.now.cells k c.requires.1.1.0 is c.loop-place.waiting.items c.loop-place.invariant.left,
+                  (c.loop-place.invariant.made, c.loop-place.invariant.count ∙ sym is),
+                ),
+              ),
+            ),
+          ),
+        ),
+      ),
+    )
 
 pub loop-place-preserved : goal.loop-place-preserved
 loop-place-preserved g c =

@@ -1,4 +1,4 @@
-use Rattle.std.proofs.Common.{◌≡◌, ◌+◌, ◌∙◌, ◌<◌, ap, get_or, length, subst, sym, arith}
+use Rattle.std.proofs.Common.{◌≡◌, ◌+◌, ◌∙◌, ◌<◌, ap, get_or, length, subst, arith}
 use Rattle.cbl_base.specs.declared.place.Place.{Place}
 use Rattle.cbl_violations.specs.Violations.WeightedTotal.{weighted_total}
 use Rattle.graph_values.specs.Members.{members_before}

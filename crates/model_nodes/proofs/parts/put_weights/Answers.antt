@@ -1,4 +1,4 @@
-use Rattle.std.proofs.Common.{◌≡◌, ◌∙◌, ◌-◌, ◌<◌, ◌≤◌, FitsSigned, ap, get_or, length, pos, refl, rules, w64, ℕ, ℤ, arith}
+use Rattle.std.proofs.Common.{◌≡◌, ◌∙◌, ◌-◌, ◌<◌, ◌≤◌, FitsSigned, ap, get_or, length, pos, rules, w64, ℤ, arith}
 use Rattle.std.proofs.lemmas.Int.{to_z-of_z}
 use Rattle.std.proofs.lemmas.List.{length-map}
 use Rattle.cbl_base.specs.declared.input.Input.TheVariants.{Int}
@@ -23,9 +23,14 @@ put-requires g c κs within =
     let long = ap length c.requires.1.0 ∙ length-map (members_by M Objectives) (λ (m : Member). m.weight) in
     let le : count_of M ≤ id = omega (arith, c.loop-weight.invariant.count) in
     let low : id < first_system M = omega (arith, c.loop-weight.invariant.count, lt, long) in
-    let place : id - count_of M ≡ k = omega (arith, c.loop-weight.invariant.count) in
-    (within, (c.loop-weight.invariant.made, fits_weight g.about id x (g.N.NodeRule.rule c.of_constant-node.result) c.new.result.items (record { line = 0; col = 0 }) le low
-    (ap (weight_at M) place ∙ weight_there M k (pos 0) c.args.weights.now c.requires.1.0 lt) (c.of_constant-node.ensures ∙ ap (λ y. rule_of_constant (Int y)) (to_z-of_z w64 x fits)) c.new.ensures.items))
+    let place : id - count_of M ≡ k = omega (arith, c.loop-weight.invariant.count) in (
+      within,
+      (
+        c.loop-weight.invariant.made,
+        fits_weight g.about id x (g.N.NodeRule.rule c.of_constant-node.result) c.new.result.items (record { line = 0; col = 0 }) le low
+            (ap (weight_at M) place ∙ weight_there M k (pos 0) c.args.weights.now c.requires.1.0 lt) (c.of_constant-node.ensures ∙ ap (λ y. rule_of_constant (Int y)) (to_z-of_z w64 x fits)) c.new.ensures.items,
+      ),
+    )
 
 pub loop-weight-preserved : goal.loop-weight-preserved
 loop-weight-preserved g c = record {

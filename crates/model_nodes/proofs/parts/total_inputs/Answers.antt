@@ -1,4 +1,4 @@
-use Rattle.std.proofs.Common.{◌≡◌, ◌∙◌, ◌+◌, ◌++◌, ◌∷◌, [], ap, length, refl, arith}
+use Rattle.std.proofs.Common.{◌≡◌, ◌∙◌, ◌+◌, ◌++◌, ap, length, refl, arith}
 use Rattle.std.specs.List.{range_with_len}
 use Rattle.cbl_base.specs.declared.ids.NodeId.{NodeId}
 use Rattle.store_turns.specs.Meaning.{ids_of}

@@ -15,11 +15,22 @@ nodes_of-requires g c κs within =
     (within, (refl, (own_formed g.setting c.args.model.now c.args.assignment.now c.requires.1.0 c.requires.1.1.0 c.requires.1.1.1.1.0, (own_acyclic g.setting c.args.model.now c.args.assignment.now c.requires.1.0 c.requires.1.1.0 c.requires.1.1.1.1.0, (own_long g.setting c.args.model.now c.args.assignment.now c.requires.1.0 c.requires.1.1.0 c.requires.1.1.1.1.0, (c.requires.1.1.1.1.1.0, c.requires.1.1.1.1.1.1))))))
 
 pub build-requires : goal.build-requires
-build-requires g c κs within =
-    (within, (λ a m. absurd (not-mem-nil m), (c.requires.1.1.1.1.0,
-    (nodes_stored g.setting c.args.model.now c.args.assignment.now c.requires.1.0 c.requires.1.1.0 c.requires.1.1.1.1.0 (map g.N.NodeRule.rule c.in_ok-made.made.nodes.items) c.in_ok-made.made.links.inputs.items c.requires.1.1.1.0 c.in_ok-made.ensures.nodes,
-    (start_stored g.setting c.args.model.now c.args.assignment.now c.requires.1.0 c.requires.1.1.0 c.requires.1.1.1.1.0 (map g.N.NodeRule.rule c.in_ok-made.made.nodes.items) c.in_ok-made.made.links.inputs.items c.deref.result.now (c.deref.ensures.value ∙ c.in_ok-made.ensures.start),
-    linked_stored g.setting c.args.model.now c.args.assignment.now c.requires.1.0 c.requires.1.1.0 c.requires.1.1.1.1.0 (map g.N.NodeRule.rule c.in_ok-made.made.nodes.items) c.in_ok-made.made.links.inputs.items c.deref.result.now (c.deref.ensures.value ∙ c.in_ok-made.ensures.start) c.in_ok-made.made.layers c.in_ok-made.ensures.linked)))))
+build-requires g c κs within = (
+  within,
+  (
+    λ a m. absurd (not-mem-nil m),
+    (
+      c.requires.1.1.1.1.0,
+      (
+        nodes_stored g.setting c.args.model.now c.args.assignment.now c.requires.1.0 c.requires.1.1.0 c.requires.1.1.1.1.0 (map g.N.NodeRule.rule c.in_ok-made.made.nodes.items) c.in_ok-made.made.links.inputs.items c.requires.1.1.1.0 c.in_ok-made.ensures.nodes,
+        (
+          start_stored g.setting c.args.model.now c.args.assignment.now c.requires.1.0 c.requires.1.1.0 c.requires.1.1.1.1.0 (map g.N.NodeRule.rule c.in_ok-made.made.nodes.items) c.in_ok-made.made.links.inputs.items c.deref.result.now (c.deref.ensures.value ∙ c.in_ok-made.ensures.start),
+          linked_stored g.setting c.args.model.now c.args.assignment.now c.requires.1.0 c.requires.1.1.0 c.requires.1.1.1.1.0 (map g.N.NodeRule.rule c.in_ok-made.made.nodes.items) c.in_ok-made.made.links.inputs.items c.deref.result.now (c.deref.ensures.value ∙ c.in_ok-made.ensures.start) c.in_ok-made.made.layers c.in_ok-made.ensures.linked,
+        ),
+      ),
+    ),
+  ),
+)
 
 pub returns-in-Ok-clause-whole : goal.returns-in-Ok-clause-whole
 returns-in-Ok-clause-whole g c =
