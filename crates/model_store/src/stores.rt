@@ -1,6 +1,6 @@
 //! Stores of models.
 ghost use Rattle.std.specs.Prelude.{◌≡◌, Ok, length, map, IfOk, IfErr, OnOk, is_ok};
-ghost use Rattle.store_build.specs.Aims.{AreLinked};
+ghost use Rattle.store_build.specs.Aims.{AreLinked, graph_over};
 ghost use Rattle.inc_store.specs.Moves.{AreMoves};
 ghost use Rattle.inc_store.specs.Stores.{changes_between};
 ghost use Rattle.inc_store.specs.Views.{graph_in};
@@ -39,6 +39,8 @@ pub fn build<N: NodeRule, E: LayerEval<N>>(
     ensures least { IfErr result (λ stop.
         StopsAt (map N.rule nodes.items) start.now links.inputs.items stop) }
     ensures agrees { Agrees result (fresh_in setting) }
+    ensures graph { IfOk result (λ s. graph_in N.rule s ≡
+        graph_over (map N.rule nodes.items) (length start.now) links.inputs.items) }
 {
     Store::build(alloc, nodes, links, start, layers, eval)
 }

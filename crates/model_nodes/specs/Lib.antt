@@ -1,0 +1,10 @@
+pub mod CellLists
+pub mod Gathered
+pub mod HeadRules
+pub mod Making
+pub mod Planned
+pub mod PostedIds
+pub mod StopPlaces
+pub mod Totals
+pub mod Waiting
+pub mod WholeNodes
