@@ -1,0 +1,116 @@
+-- A variable depends on another where it is that one, or depends on one whose definition names that one.
+use Rattle.std.proofs.Common.{◌≡◌, ◌⊎◌, inl, inr, ℕ, zero, suc, ◌+◌, ◌<◌, ◌≤◌, Bool, true, false, ◌||◌, List, [], ◌∷◌, ◌++◌, length, refl, sym, ap, ◌∙◌, subst, arith, Contains, true≢false, eqb-true, eq-eqb}
+use Rattle.std.specs.Prelude.{nat_eq}
+use Rattle.std.specs.List.{list_any}
+use Rattle.std.proofs.lemmas.Bool.{or_left, or_right}
+use Rattle.std.proofs.lemmas.List.Elements.{Contains-append_cases, Contains-append_left, Contains-append_right, Contains-push}
+use Rattle.model_values.specs.Dependence.{var_depends}
+use Rattle.model_values.proofs.MarkLaws.{depends_more, depends_step}
+use Rattle.term_model.specs.Definitions.{definition_of, named_by, DependsOn, IsAcyclic}
+use Rattle.term_model.specs.Wellformed.{IsWellFormed}
+use Rattle.term_model.specs.declared.model.Model.{Model}
+use Rattle.term_model.proofs.NamingLaws.{contains_one}
+use Rattle.term_model.proofs.Rounds.{names_within}
+use Rattle.store_shares.specs.Closing.{AreUsers, Closes, depends_in, names_in}
+use Rattle.store_shares.specs.Slots.{slot_at}
+
+-- ---- one of a list passes
+pub any_from : (f : ℕ → Bool) (xs : List ℕ) (d : ℕ) → Contains xs d → f d ≡ true → list_any f xs ≡ true
+any_from f [] d (k, lt, at) h = absurd (omega (arith, lt))
+any_from f (x ∷ xs) d in' h = choose (Contains-append_cases (x ∷ []) xs d in')
+  where
+    choose : Contains (x ∷ []) d ⊎ Contains xs d → (f x || list_any f xs) ≡ true
+    choose (inl one) = or_left (f x) (list_any f xs) (ap f (sym (contains_one x d one)) ∙ h)
+    choose (inr rest) = or_right (f x) (list_any f xs) (any_from f xs d rest h)
+
+pub any_to : (f : ℕ → Bool) (xs : List ℕ) → list_any f xs ≡ true → (d : ℕ) × Contains xs d × (f d ≡ true)
+any_to f [] h = absurd (true≢false (sym h))
+any_to f (x ∷ xs) h = choose (f x) refl
+  where
+    choose : (b : Bool) → f x ≡ b → (d : ℕ) × Contains (x ∷ xs) d × (f d ≡ true)
+    choose true e = (x, Contains-append_left (x ∷ []) xs x (Contains-push [] x), e)
+    choose false e = let rest = any_to f xs (ap (λ b. b || list_any f xs) (sym e) ∙ h) in (rest.0, Contains-append_right (x ∷ []) xs rest.0 rest.1, rest.2)
+
+or_split : (a b : Bool) → (a || b) ≡ true → (a ≡ true) ⊎ (b ≡ true)
+or_split true b h = inl refl
+or_split false b h = inr h
+
+same_tests : (a b : Bool) → (a ≡ true → b ≡ true) → (b ≡ true → a ≡ true) → a ≡ b
+same_tests true b there back = sym (there refl)
+same_tests false true there back = back refl
+same_tests false false there back = refl
+
+module _ (M : Model) (formed : IsWellFormed M) (acyclic : IsAcyclic M) where
+  depends_law : (x d : ℕ) → d < length M.vars.items → var_depends M x d ≡ (nat_eq d x || list_any (var_depends M x) (named_by M.defs.items (definition_of M d)))
+  depends_law x d lt = depends_more M formed acyclic x (length M.vars.items) d (acyclic.within d lt) ∙ depends_step M formed acyclic x (length M.vars.items) d
+
+  depends_cases : (x d : ℕ) → d < length M.vars.items → var_depends M x d ≡ true → (d ≡ x) ⊎ ((e : ℕ) × DependsOn M d e × (var_depends M x e ≡ true))
+  depends_cases x d lt h = choose (or_split (nat_eq d x) (list_any (var_depends M x) (named_by M.defs.items (definition_of M d))) (sym (depends_law x d lt) ∙ h))
+    where
+      choose : (nat_eq d x ≡ true) ⊎ (list_any (var_depends M x) (named_by M.defs.items (definition_of M d)) ≡ true) → (d ≡ x) ⊎ ((e : ℕ) × DependsOn M d e × (var_depends M x e ≡ true))
+      choose (inl e) = inl (eqb-true d x e)
+      choose (inr h') = inr (any_to (var_depends M x) (named_by M.defs.items (definition_of M d)) h')
+
+  depends_itself : (x : ℕ) → x < length M.vars.items → var_depends M x x ≡ true
+  depends_itself x lt = depends_law x x lt ∙ or_left (nat_eq x x) (list_any (var_depends M x) (named_by M.defs.items (definition_of M x))) (eq-eqb x x refl)
+
+  depends_by : (x d e : ℕ) → d < length M.vars.items → DependsOn M d e → var_depends M x e ≡ true → var_depends M x d ≡ true
+  depends_by x d e lt in' h = depends_law x d lt ∙ or_right (nat_eq d x) (list_any (var_depends M x) (named_by M.defs.items (definition_of M d))) (any_from (var_depends M x) (named_by M.defs.items (definition_of M d)) e in' h)
+
+  module _ (users : ℕ → List ℕ) (uses : AreUsers M users) (x : ℕ) (is_var : x < length M.vars.items) where
+    -- what depends on one whose definition names it depends on it
+    depends_through_user : (k d u : ℕ) → acyclic.rank d < k → d < length M.vars.items → Contains (users x) u → var_depends M u d ≡ true → var_depends M x d ≡ true
+    depends_through_user zero d u low lt in' h = absurd (omega (arith, low))
+    depends_through_user (suc k) d u low lt in' h = choose (depends_cases u d lt h)
+      where
+        choose : (d ≡ u) ⊎ ((e : ℕ) × DependsOn M d e × (var_depends M u e ≡ true)) → var_depends M x d ≡ true
+        choose (inl e) = depends_by x d x lt (subst (λ v. DependsOn M v x) (sym e) (uses.only x u in').1) (depends_itself x is_var)
+        choose (inr more) =
+            let falls = acyclic.falls d more.0 more.1 in
+            depends_by x d more.0 lt more.1 (depends_through_user k more.0 u (omega (arith, falls, low)) (names_within M formed d more.0 lt more.1) in' more.2)
+
+    depends_on_user : (k d : ℕ) → acyclic.rank d < k → d < length M.vars.items → var_depends M x d ≡ true → (d ≡ x) ⊎ ((u : ℕ) × Contains (users x) u × (var_depends M u d ≡ true))
+    depends_on_user zero d low lt h = absurd (omega (arith, low))
+    depends_on_user (suc k) d low lt h = choose (depends_cases x d lt h)
+      where
+        later : (e : ℕ) → DependsOn M d e → (e ≡ x) ⊎ ((u : ℕ) × Contains (users x) u × (var_depends M u e ≡ true)) → (u : ℕ) × Contains (users x) u × (var_depends M u d ≡ true)
+        later e in' (inl is) = (d, uses.each d x lt (subst (DependsOn M d) is in'), depends_itself d lt)
+        later e in' (inr more) = (more.0, more.1, depends_by more.0 d e lt in' more.2)
+
+        choose : (d ≡ x) ⊎ ((e : ℕ) × DependsOn M d e × (var_depends M x e ≡ true)) → (d ≡ x) ⊎ ((u : ℕ) × Contains (users x) u × (var_depends M u d ≡ true))
+        choose (inl e) = inl e
+        choose (inr more) =
+            let falls = acyclic.falls d more.0 more.1 in
+            inr (later more.0 more.1 (depends_on_user k more.0 (omega (arith, falls, low)) (names_within M formed d more.0 lt more.1) more.2))
+
+    module _ (slots : List (List ℕ)) (k : ℕ) (within : (d : ℕ) → Contains (slot_at slots k) d → d < length M.vars.items) where
+      there : depends_in M slots x k ≡ true → (names_in slots x k || list_any (λ u. depends_in M slots u k) (users x)) ≡ true
+      there h = choose (any_to (var_depends M x) (slot_at slots k) h)
+        where
+          decide : (d : ℕ) → Contains (slot_at slots k) d → (d ≡ x) ⊎ ((u : ℕ) × Contains (users x) u × (var_depends M u d ≡ true)) → (names_in slots x k || list_any (λ u. depends_in M slots u k) (users x)) ≡ true
+          decide d in' (inl e) = or_left (names_in slots x k) (list_any (λ u. depends_in M slots u k) (users x)) (any_from (λ e. nat_eq e x) (slot_at slots k) d in' (eq-eqb d x e))
+          decide d in' (inr more) =
+              or_right (names_in slots x k) (list_any (λ u. depends_in M slots u k) (users x))
+              (any_from (λ u. depends_in M slots u k) (users x) more.0 more.1 (any_from (var_depends M more.0) (slot_at slots k) d in' more.2))
+
+          choose : (d : ℕ) × Contains (slot_at slots k) d × (var_depends M x d ≡ true) → (names_in slots x k || list_any (λ u. depends_in M slots u k) (users x)) ≡ true
+          choose one = decide one.0 one.1 (depends_on_user (acyclic.rank one.0 + 1) one.0 (omega arith) (within one.0 one.1) one.2)
+
+      back : (names_in slots x k || list_any (λ u. depends_in M slots u k) (users x)) ≡ true → depends_in M slots x k ≡ true
+      back h = choose (or_split (names_in slots x k) (list_any (λ u. depends_in M slots u k) (users x)) h)
+        where
+          choose : (names_in slots x k ≡ true) ⊎ (list_any (λ u. depends_in M slots u k) (users x) ≡ true) → depends_in M slots x k ≡ true
+          choose (inl own) =
+              let one = any_to (λ e. nat_eq e x) (slot_at slots k) own in
+              any_from (var_depends M x) (slot_at slots k) one.0 one.1 (ap (var_depends M x) (eqb-true one.0 x one.2) ∙ depends_itself x is_var)
+          choose (inr used) =
+              let user = any_to (λ u. depends_in M slots u k) (users x) used in
+              let one = any_to (var_depends M user.0) (slot_at slots k) user.2 in
+              any_from (var_depends M x) (slot_at slots k) one.0 one.1 (depends_through_user (acyclic.rank one.0 + 1) one.0 user.0 (omega arith) (within one.0 one.1) user.1 one.2)
+
+      pub closes_at : depends_in M slots x k ≡ (names_in slots x k || list_any (λ u. depends_in M slots u k) (users x))
+      closes_at = same_tests (depends_in M slots x k) (names_in slots x k || list_any (λ u. depends_in M slots u k) (users x)) there back
+
+  -- the slots that depend on a variable are its own and those of the variables whose definitions name it
+  pub closes : (users : ℕ → List ℕ) → AreUsers M users → (slots : List (List ℕ)) → ((k d : ℕ) → Contains (slot_at slots k) d → d < length M.vars.items) → Closes (depends_in M slots) (names_in slots) users (length M.vars.items)
+  closes users uses slots within x k lt = closes_at users uses x lt slots k (within k)

@@ -1,0 +1,64 @@
+//! What is kept of a model so that the violations of a variable in a system are read.
+
+ghost use Rattle.std.specs.Prelude.{◌≡◌, ◌<◌, ℕ, Bool, length};
+ghost use Rattle.cbl_base.specs.NumberRule.{NumberRule};
+ghost use Rattle.model_values.specs.Dependence.{var_depends};
+ghost use Rattle.model_values.specs.Outcomes.{Outcome};
+ghost use Rattle.term_model.specs.declared.model.Model.{Model};
+ghost use Rattle.term_model.specs.declared.term.Term.{Term};
+ghost use Rattle.term_model.specs.Wellformed.{IsWellFormed};
+ghost use Rattle.violation_shares.specs.VariableViolations.{violation_in_system};
+ghost use Rattle.store_shares.specs.Made.{AreKnown, AreWeights, IsOrdered, IsSharesOf};
+ghost use Rattle.store_shares.specs.Telling.{AreReads};
+
+use crate::calls::total_of;
+use crate::closing::known_words;
+use crate::held::Held;
+use crate::parts::Part;
+use crate::words::Word;
+use cbl_base::RunFault;
+
+/// The members of a system: those from the first one on, as many as there are.
+#[derive(Clone, Copy)]
+pub(crate) struct Span {
+    pub(crate) first: usize,
+    pub(crate) end: usize,
+}
+
+/// The parts of the members of all systems, and for each variable the slots and the members in which it stands, also
+/// through definitions.
+#[derive(Drop)]
+pub struct Shares {
+    pub(crate) systems: Vec<Span>,
+    pub(crate) parts: Vec<Part>,
+    pub(crate) slots: Vec<Option<Vec<Word>>>,
+    pub(crate) members: Vec<Option<Vec<Word>>>,
+}
+
+impl Shares {
+    /// The violations of a variable in a system whose terms all have values, read without taking memory: in a plain
+    /// constraint the greatest of the violations at the places whose term depends on the variable, also through
+    /// definitions, and 0 where there is none; in a combination of constraints by those of its members, and in
+    /// the system their total, each times its weight. The system and the variable are named by their numbers, from 0.
+    ///
+    /// `Overflow` exactly where a total doesn't fit 64 bits.
+    pub fn variable_violations<H: Held>(
+        &self,
+        held: &H,
+        system: u32,
+        variable: u32,
+    ) -> Result<i64, RunFault>
+        requires system { system < length self.now.systems.items }
+        requires ordered { IsOrdered self.now }
+        ensures { (users : ℕ → NumberRule) (M : Model) (env : ℕ → Outcome) (ids : Term → ℕ) (known : Term → Bool) →
+            IsWellFormed M → IsSharesOf M ids self.now → AreReads users env ids known (record { number = H.number_of held.now; violation = H.violation_of held.now }) →
+            AreWeights M system (H.weight_of held.now) → AreKnown M system known → variable < length M.vars.items →
+            result ≡ violation_in_system users M env (var_depends M variable) system }
+    {
+        let slots = known_words(&self.slots, variable as usize);
+        let members = known_words(&self.members, variable as usize);
+        let span = self.systems[system as usize];
+        let parts = &self.parts[span.first..span.end];
+        total_of(held, slots, members, parts, span.first, system as usize)
+    }
+}
