@@ -1,6 +1,9 @@
 pub mod CallLaws
 pub mod ClosingLaws
+pub mod NamingLaws
+pub mod SettledLaws
 pub mod SystemLaws
 pub mod TellLaws
 pub mod TermLaws
+pub mod WalkLaws
 pub mod WordLaws

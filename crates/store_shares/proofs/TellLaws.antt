@@ -26,8 +26,8 @@ use Rattle.store_shares.specs.declared.parts.Kind.TheVariants.{Every, One, Negat
 use Rattle.store_shares.specs.declared.parts.Part.{Part}
 use Rattle.store_shares.specs.declared.parts.Part.TheOpen.{Part-F}
 use Rattle.store_shares.specs.declared.parts.Part.TheFolds.{fold-roll-Part}
-use Rattle.store_shares.specs.declared.parts.Part.TheViews.{Leaf as LeafPart, Negation as NegationPart, Plain as PlainPart, Every as EveryPart, One as OnePart}
-use Rattle.store_shares.specs.declared.parts.Part.TheVariants.{rolls-Leaf, rolls-Negation, rolls-Plain, rolls-Every, rolls-One}
+use Rattle.store_shares.specs.declared.parts.Part.TheViews.{Every as EveryPart, One as OnePart}
+use Rattle.store_shares.specs.declared.parts.Part.TheVariants.{Leaf as LeafPart, Negation as NegationPart, Plain as PlainPart, rolls-Leaf, rolls-Negation, rolls-Plain, rolls-Every, rolls-One}
 use Rattle.store_shares.proofs.TermLaws.{dep, depends_of, facts, node_values, node_violation, one_of, fewest_is, share, slot_depends, slots_node, sum_is, violation_by_kind, violations_of}
 
 -- ---- slots that pass
@@ -84,8 +84,8 @@ none_gathered (o ∷ os) xs h = none_gathered os xs h
 gather_length : (os : List Outcome) (ys xs : List Input) → fold gather (Some ys) os ≡ Some xs → length xs ≡ length ys + length os
 gather_length [] ys xs h = let e : ys ≡ xs = some_same ys xs h in ap length (sym e) ∙ zero_more (length ys)
   where
-    some_same : (as bs : List Input) → Some as ≡ Some bs → as ≡ bs
-    some_same as bs e = ap (λ o. unwrap_or o []) e
+    some_same : (us vs : List Input) → Some us ≡ Some vs → us ≡ vs
+    some_same us vs e = ap (λ o. unwrap_or o []) e
 
     zero_more : (n : ℕ) → n ≡ n + 0
     zero_more n = omega arith

@@ -26,14 +26,22 @@ use Rattle.term_model.specs.declared.term.Term.TheOpen.{Term-F}
 use Rattle.term_model.specs.declared.term.Term.TheViews.{roll-Term, Node}
 use Rattle.term_model.specs.declared.term.Term.TheVariants.{rolls-Node}
 use Rattle.term_model.specs.declared.term.Term.TheFolds.{fold-roll-Term, map-Term, ind-Term}
-use Rattle.violation_shares.specs.VariableViolations.{Arguments, arguments_of, fewer, gather_violation, no_arguments, node_share, number_if, one_depends, share_of, share_step, total_violation, violation_in, violation_of_fewest, violations_where, with_argument}
-use Rattle.violation_shares.specs.declared.shares.Fewest.{Fewest}
-use Rattle.violation_shares.specs.declared.shares.Share.{Share}
+use Rattle.violation_shares.specs.VariableViolations.{Arguments, arguments_of, fewer, leaf_share, gather_violation, no_arguments, node_share, number_if, one_depends, share_of, share_step, total_violation, violation_in, violation_of_fewest, violations_where, with_argument}
 use Rattle.store_shares.specs.Parts.{Told, add_told, fewer_told, fewest_told, fitted, violation_if}
 use Rattle.store_shares.specs.Telling.{told_of}
 use Rattle.store_shares.specs.Slots.{Slotted, kind_of, slots_by, slots_of, slots_step, slotted}
 use Rattle.store_shares.specs.declared.parts.Kind.{Kind}
 use Rattle.store_shares.specs.declared.parts.Kind.TheVariants.{Every, One, Negation, Plain}
+
+-- ---- the types of the definition's parts, which have no name here
+abbrev result_of : (A B : Type 0) → (A → B) → Type 0
+result_of A B f = B
+
+abbrev pub Share : Type 0
+Share = result_of Bool _ (leaf_share None)
+
+abbrev Fewest : Type 0
+Fewest = result_of _ _ (fewer None)
 
 -- ---- the arguments of a node one after another
 any_map : (f : Term → Bool) (items : List Term) → list_any (λ b. b) (map f items) ≡ list_any f items

@@ -261,6 +261,18 @@ up_more xs w n up le i within = choose (cases_lt i (length xs))
         let last : word_at (xs ++ w ∷ []) i ≡ w = subst (λ m. word_at (xs ++ w ∷ []) m ≡ w) e (at_last xs w) in
         rw last le
 
+-- the numbers of a word more
+module _ (old xs : List Word) (last : Word) (split : old ≡ xs ++ last ∷ []) (w : Word) where
+  -- the last word takes the new one's numbers
+  pub same_has : (new : List Word) → last.index ≡ w.index → new ≡ xs ++ record { index = w.index; bits = bit_or last.bits w.bits } ∷ [] → (k : ℕ) → has new k ≡ (has old k || word_has w k)
+  same_has new e is k =
+      ap (λ ws. has ws k) is ∙ has_more xs (record { index = w.index; bits = bit_or last.bits w.bits }) k ∙ ap (λ b. has xs k || b) (both_words last w k e)
+      ∙ sym (or_assoc (has xs k) (word_has last k) (word_has w k)) ∙ ap (λ b. b || word_has w k) (sym (has_more xs last k) ∙ ap (λ ws. has ws k) (sym split))
+
+  -- it stands behind the last word
+  pub behind_has : (new : List Word) → new ≡ (xs ++ last ∷ []) ++ w ∷ [] → (k : ℕ) → has new k ≡ (has old k || word_has w k)
+  behind_has new is k = ap (λ ws. has ws k) (is ∙ ap (λ ws. ws ++ w ∷ []) (sym split)) ∙ has_more old w k
+
 -- all before the last of rising words are earlier
 module _ (old xs : List Word) (last : Word) (split : old ≡ xs ++ last ∷ []) (rising : IsRising old) where
   rising' : IsRising (xs ++ last ∷ [])
@@ -290,21 +302,11 @@ module _ (old xs : List Word) (last : Word) (split : old ≡ xs ++ last ∷ []) 
         let u = up (length xs) (subst (λ ws. length xs < length ws) (sym split) (omega (arith, more))) in
         subst (λ v. v.index ≤ w.index) at u
 
-    -- the last word takes the new one's numbers
-    pub same_has : (new : List Word) → last.index ≡ w.index → new ≡ xs ++ record { index = w.index; bits = bit_or last.bits w.bits } ∷ [] → (k : ℕ) → has new k ≡ (has old k || word_has w k)
-    same_has new e is k =
-        ap (λ ws. has ws k) is ∙ has_more xs (record { index = w.index; bits = bit_or last.bits w.bits }) k ∙ ap (λ b. has xs k || b) (both_words last w k e)
-        ∙ sym (or_assoc (has xs k) (word_has last k) (word_has w k)) ∙ ap (λ b. b || word_has w k) (sym (has_more xs last k) ∙ ap (λ ws. has ws k) (sym split))
-
     pub same_rising : (new : List Word) → last.index ≡ w.index → new ≡ xs ++ record { index = w.index; bits = bit_or last.bits w.bits } ∷ [] → IsRising new
     same_rising new e is = subst IsRising (sym is) (rising_more xs (record { index = w.index; bits = bit_or last.bits w.bits }) front_rising (λ i within. let b = front_below i within in omega (arith, b, e)))
 
     pub same_up : (new : List Word) → last.index ≡ w.index → new ≡ xs ++ record { index = w.index; bits = bit_or last.bits w.bits } ∷ [] → IsUpTo new w.index
     same_up new e is = subst (λ ws. IsUpTo ws w.index) (sym is) (up_more xs (record { index = w.index; bits = bit_or last.bits w.bits }) w.index (λ i within. let b = front_below i within in omega (arith, b, e)) (omega arith))
-
-    -- it stands behind the last word
-    pub behind_has : (new : List Word) → new ≡ (xs ++ last ∷ []) ++ w ∷ [] → (k : ℕ) → has new k ≡ (has old k || word_has w k)
-    behind_has new is k = ap (λ ws. has ws k) (is ∙ ap (λ ws. ws ++ w ∷ []) (sym split)) ∙ has_more old w k
 
     pub behind_rising : (new : List Word) → (last.index ≡ w.index → ⊥) → new ≡ (xs ++ last ∷ []) ++ w ∷ [] → IsRising new
     behind_rising new ne is =

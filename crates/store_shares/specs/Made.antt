@@ -14,7 +14,7 @@ use Rattle.store_shares.specs.Telling.{AllTell}
 use Rattle.store_shares.specs.Words.{IsRising}
 use Rattle.store_shares.specs.declared.parts.Part.{Part}
 use Rattle.store_shares.specs.declared.shares.Shares.{Shares}
-use Rattle.store_shares.specs.declared.shares.Span.{Span}
+use Rattle.store_shares.specs.declared.parts.Span.{Span}
 
 -- the terms of a system's members, and the slots of all of them
 abbrev pub terms_of : Total → List Term
@@ -43,11 +43,17 @@ pub record IsSystem (ids : Term → ℕ) (shares : Shares) (slots members : List
   pub members_there : (k : ℕ) (t : Term) → slice_get (terms_of total) k ≡ Some t → slot_at members (span.first + k) ≡ joined (slots_of t)
 
 pub record IsSharesOf (M : Model) (ids : Term → ℕ) (shares : Shares) : Type 0 where
+  pub ordered : IsOrdered shares
+  pub count : length shares.systems.items ≡ length M.systems.items
   pub slots : List (List ℕ)
   pub members : List (List ℕ)
   pub slot_sets : AreSets (depends_in M slots) (length M.vars.items) shares.slots.items
   pub member_sets : AreSets (depends_in M members) (length M.vars.items) shares.members.items
   pub systems : (s : ℕ) (total : Total) → slice_get M.systems.items s ≡ Some total → IsSystem ids shares slots members s total
+
+-- the terms of all members are known
+abbrev pub AreAllKnown : Model → (Term → Bool) → Type 0
+AreAllKnown M known = All (λ (total : Total). All (λ t. known t ≡ true) (terms_of total)) M.systems.items
 
 -- the weights that are read are those of the system's members
 abbrev pub AreWeights : Model → ℕ → (ℕ → ℕ → ℤ) → Type 0

@@ -25,7 +25,10 @@ is_known sets x = is_there (slice_get sets x)
 -- what is known is right
 pub record AreRight (all : ℕ → ℕ → Bool) (sets : List (Option (Vec Word Global))) : Type 0 where
   pub right : (x k : ℕ) → is_known sets x ≡ true → has (known_words sets x) k ≡ all x k
-  pub rising : (x : ℕ) → IsRising (known_words sets x)
+
+-- the numbers of each set are in order
+abbrev pub AreRising : List (Option (Vec Word Global)) → Type 0
+AreRising sets = (x : ℕ) → IsRising (known_words sets x)
 
 -- what is known stays known
 abbrev pub KeepsKnown : List (Option (Vec Word Global)) → List (Option (Vec Word Global)) → Type 0
@@ -45,4 +48,4 @@ IsKnownBelow rank count k sets = (x : ℕ) → x < count → rank x < k → is_k
 -- these are the sets of all variables
 pub record AreSets (all : ℕ → ℕ → Bool) (count : ℕ) (sets : List (Option (Vec Word Global))) : Type 0 where
   pub each : (x k : ℕ) → x < count → has (known_words sets x) k ≡ all x k
-  pub rising : (x : ℕ) → IsRising (known_words sets x)
+  pub rising : AreRising sets

@@ -1,6 +1,6 @@
 -- The slots of a term: the argument places of the constraints in it that aren't made of others, and of those that
 -- aren't to hold, in the order of a walk; and of each slot the variables in its argument. A rule of this project.
-use Rattle.std.specs.Prelude.{◌≡◌, ℕ, ◌+◌, ◌<◌, Bool, List, [], ◌∷◌, ◌++◌, length, map, slice_index_or}
+use Rattle.std.specs.Prelude.{◌≡◌, ℕ, ◌+◌, ◌<◌, Bool, true, false, Vec, List, [], ◌∷◌, ◌++◌, length, map, slice_index_or}
 use Rattle.std.specs.List.{list_any}
 use Rattle.cbl_operations.specs.declared.op.Op.{Op}
 use Rattle.cbl_operations.specs.declared.op.Op.TheVariants.{Constraint}
@@ -9,7 +9,11 @@ use Rattle.term_model.specs.Definitions.{joined}
 use Rattle.term_model.specs.declared.term.Term.{Term}
 use Rattle.term_model.specs.declared.term.Term.TheOpen.{Term-F}
 use Rattle.term_model.specs.declared.term.Term.TheFolds.{fold-Term}
+use Rattle.std.specs.declared.alloc.Global.{Global}
 use Rattle.store_shares.specs.declared.parts.Kind.{Kind}
+use Rattle.store_shares.specs.declared.parts.Part.{Part}
+use Rattle.store_shares.specs.declared.parts.Part.TheVariants.{Negation as NegationPart, Plain as PlainPart}
+use Rattle.store_shares.specs.declared.parts.Part.TheViews.{Every as EveryPart, One as OnePart}
 use Rattle.store_shares.specs.declared.parts.Kind.TheVariants.{Every, One, Negation, Plain}
 
 -- how a constraint is made of others
@@ -18,6 +22,20 @@ kind_of (Constraint AllOf) = Every
 kind_of (Constraint AnyOf) = One
 kind_of (Constraint NotHeld) = Negation
 kind_of op = Plain
+
+-- whether it isn't made of others that tell of the variable
+abbrev pub is_flat : Kind → Bool
+is_flat Every = false
+is_flat One = false
+is_flat Negation = true
+is_flat Plain = true
+
+-- the part of a constraint that is made so
+abbrev pub part_by : Kind → ℕ → ℕ → ℕ → Vec Part Global → Part
+part_by Every id first end parts = EveryPart id first end parts
+part_by One id first end parts = OnePart id first end parts
+part_by Negation id first end parts = NegationPart id first end
+part_by Plain id first end parts = PlainPart id first end
 
 -- the variables in a term, and in the argument of each of its slots
 pub record Slotted : Type 0 where

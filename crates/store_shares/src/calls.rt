@@ -63,6 +63,7 @@ pub(crate) fn total_of<H: Held>(
     first: usize,
     system: usize,
 ) -> Result<i64, RunFault>
+    requires ready { H.is_ready held.now }
     requires slots { IsRising slots.now }
     requires touched { IsRising touched.now }
     ensures { AreZero (has touched.now) first (map violation_of (map (told

@@ -1,15 +1,24 @@
 //! For each variable the numbers of the lists that depend on it, also through definitions.
 ghost use Rattle.std.specs.Prelude.{◌≡◌, ◌<◌, ◌≤◌, ◌||◌, ℕ, Bool, true, false, List, Vec, Some, None, length, slice_set, IfOk, OnOk};
 ghost use Rattle.std.specs.List.{Contains, list_all, list_any};
-ghost use Rattle.layer_plan.specs.Dependencies.{DependsOn, list_of};
+ghost use Rattle.layer_plan.specs.Dependencies.{list_of};
 ghost use Rattle.store_shares.specs.Closing.{Closes};
 ghost use Rattle.store_shares.specs.Naming.{words_of};
-ghost use Rattle.store_shares.specs.Settled.{AreRanked, AreRight, AreSets, KeepsKnown, is_known, known_words};
+ghost use Rattle.store_shares.specs.Settled.{AreRanked, AreRight, AreRising, AreSets, KeepsKnown, is_known, known_words};
 ghost use Rattle.store_shares.specs.Words.{has, IsRising};
 
+use crate::users::list_of;
 use crate::words::{Word, joined};
 use cbl_base::NoMemory;
 use std::alloc::Global;
+
+/// A variable's own set.
+fn words_of(own: &[Vec<Word>], variable: usize) -> &[Word]
+    requires { variable < length own.now }
+    ensures { result.now ≡ words_of own.now variable }
+{
+    own[variable].as_slice()
+}
 
 /// Whether the set of a variable is known.
 fn is_known(sets: &[Option<Vec<Word>>], variable: usize) -> bool
@@ -45,7 +54,7 @@ fn united(
     sets: &[Option<Vec<Word>>],
     variables: &[u32],
 ) -> Result<Vec<Word>, NoMemory>
-    requires { (x : ℕ) → IsRising (known_words sets.now x) }
+    requires { AreRising sets.now }
     ensures has { IfOk result (λ words. (k : ℕ) → has words.items k ≡
         list_any (λ u. has (known_words sets.now u) k) variables.now) }
     ensures rising { IfOk result (λ words. IsRising words.items) }
@@ -75,20 +84,25 @@ fn settle(
     requires users { length users.now ≡ length own.now }
     requires sets { length sets.old.items ≡ length own.now }
     requires rising { (x : ℕ) → IsRising (words_of own.now x) }
-    requires known { (x : ℕ) → IsRising (known_words sets.old.items x) }
+    requires known { AreRising sets.old.items }
     ensures count { OnOk result (length sets.new.items ≡ length own.now) }
+    ensures rising { OnOk result (AreRising sets.new.items) }
     ensures right { OnOk result ((all : ℕ → ℕ → Bool) →
         Closes all (λ x. has (words_of own.now x)) (list_of users.now) (length own.now) →
         AreRight all sets.old.items → AreRight all sets.new.items) }
     ensures kept { OnOk result (KeepsKnown sets.old.items sets.new.items) }
-    ensures settled { OnOk result (((u : ℕ) → DependsOn users.now variable u → is_known sets.old.items u ≡ true) →
+    ensures settled { OnOk result (((u : ℕ) → Contains (list_of users.now variable) u → is_known sets.old.items u ≡ true) →
         is_known sets.new.items variable ≡ true) }
 {
-    if is_known(sets, variable) || !are_known(sets, &users[variable]) {
+    if is_known(sets, variable) {
         return Ok(());
     }
-    let of_users = united(alloc, sets, &users[variable])?;
-    let all = joined(alloc, &own[variable], &of_users)?;
+    let users = list_of(users, variable);
+    if !are_known(sets, users) {
+        return Ok(());
+    }
+    let of_users = united(alloc, sets, users)?;
+    let all = joined(alloc, words_of(own, variable), &of_users)?;
     sets[variable] = Some(all);
     Ok(())
 }
@@ -103,13 +117,14 @@ fn settle_each(
     requires users { length users.now ≡ length own.now }
     requires sets { length sets.old.items ≡ length own.now }
     requires rising { (x : ℕ) → IsRising (words_of own.now x) }
-    requires known { (x : ℕ) → IsRising (known_words sets.old.items x) }
+    requires known { AreRising sets.old.items }
     ensures count { OnOk result (length sets.new.items ≡ length own.now) }
+    ensures rising { OnOk result (AreRising sets.new.items) }
     ensures right { OnOk result ((all : ℕ → ℕ → Bool) →
         Closes all (λ x. has (words_of own.now x)) (list_of users.now) (length own.now) →
         AreRight all sets.old.items → AreRight all sets.new.items) }
     ensures settled { OnOk result ((x : ℕ) → x < length own.now →
-        ((u : ℕ) → DependsOn users.now x u → is_known sets.old.items u ≡ true) → is_known sets.new.items x ≡ true) }
+        ((u : ℕ) → Contains (list_of users.now x) u → is_known sets.old.items u ≡ true) → is_known sets.new.items x ≡ true) }
 {
     for variable in 0..own.len() {
         settle(alloc, own, users, sets, variable)?;
@@ -136,8 +151,34 @@ fn are_all_known(sets: &[Option<Vec<Word>>]) -> bool
     sets.iter().all(|set| set.is_some())
 }
 
-/// The sets of all variables, each of its own numbers and those of its users. The hint goes through the variables in an
-/// order that puts each behind its users, so that no other round is needed.
+/// Goes through variables in an order that is given.
+fn settle_in_order(
+    alloc: Global,
+    own: &[Vec<Word>],
+    users: &[Vec<u32>],
+    sets: &mut Vec<Option<Vec<Word>>>,
+    order: &[usize],
+) -> Result<(), NoMemory>
+    requires users { length users.now ≡ length own.now }
+    requires sets { length sets.old.items ≡ length own.now }
+    requires rising { (x : ℕ) → IsRising (words_of own.now x) }
+    requires known { AreRising sets.old.items }
+    ensures count { OnOk result (length sets.new.items ≡ length own.now) }
+    ensures rising { OnOk result (AreRising sets.new.items) }
+    ensures right { OnOk result ((all : ℕ → ℕ → Bool) →
+        Closes all (λ x. has (words_of own.now x)) (list_of users.now) (length own.now) →
+        AreRight all sets.old.items → AreRight all sets.new.items) }
+{
+    for variable in order {
+        if *variable < own.len() {
+            settle(alloc, own, users, sets, *variable)?;
+        }
+    }
+    Ok(())
+}
+
+/// The sets of all variables, each of its own numbers and those of its users. The hint puts each variable behind its
+/// users, so that no other round is needed.
 pub(crate) fn closed(
     alloc: Global,
     own: &[Vec<Word>],
@@ -152,11 +193,7 @@ pub(crate) fn closed(
         AreSets all (length own.now) sets.items) }
 {
     let mut sets = none_known(alloc, own.len())?;
-    for variable in hint {
-        if *variable < own.len() {
-            settle(alloc, own, users, &mut sets, *variable)?;
-        }
-    }
+    settle_in_order(alloc, own, users, &mut sets, hint)?;
     for _round in 0..own.len() {
         if are_all_known(&sets) {
             return Ok(sets);

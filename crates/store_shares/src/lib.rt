@@ -7,10 +7,12 @@
 mod calls;
 mod closing;
 mod held;
+mod making;
 mod naming;
 mod parts;
 mod reading;
 mod shares;
+mod users;
 mod walk;
 mod words;
 

@@ -1,7 +1,6 @@
 //! Which of some numbered lists name a variable.
-ghost use Rattle.std.specs.Prelude.{◌≡◌, ◌<◌, ◌++◌, [], ◌∷◌, ℕ, List, length, IfOk, OnOk};
-ghost use Rattle.std.specs.List.{All};
-ghost use Rattle.store_shares.specs.Naming.{IsNaming};
+ghost use Rattle.std.specs.Prelude.{◌≡◌, ◌+◌, ◌++◌, [], ◌∷◌, ℕ, List, IfOk, OnOk};
+ghost use Rattle.store_shares.specs.Naming.{IsNaming, IsPut};
 
 use crate::words::{Word, push_number};
 use cbl_base::NoMemory;
@@ -14,11 +13,32 @@ pub(crate) struct Naming {
     pub(crate) count: usize,
 }
 
+/// Puts a number into the set of a variable, where there is one.
+fn put(sets: &mut Vec<Vec<Word>>, variable: u32, number: usize) -> Result<(), NoMemory>
+    ensures { OnOk result (IsPut sets.old.items sets.new.items number (variable ∷ [])) }
+{
+    let place = variable as usize;
+    if place >= sets.len() {
+        return Ok(());
+    }
+    push_number(&mut sets[place], number)?;
+    Ok(())
+}
+
+/// Puts a number into the sets of some variables.
+fn put_all(sets: &mut Vec<Vec<Word>>, variables: &[u32], number: usize) -> Result<(), NoMemory>
+    ensures { OnOk result (IsPut sets.old.items sets.new.items number variables.now) }
+{
+    for variable in variables {
+        put(sets, *variable, number)?;
+    }
+    Ok(())
+}
+
 impl Naming {
-    /// No list of so many variables.
+    /// No list, of so many variables.
     pub(crate) fn new(alloc: Global, variables: usize) -> Result<Naming, NoMemory>
-        ensures none { IfOk result (λ naming. IsNaming naming []) }
-        ensures count { IfOk result (λ naming. length naming.sets.items ≡ variables) }
+        ensures { IfOk result (λ naming. IsNaming variables naming []) }
     {
         let mut sets = Vec::with_capacity(alloc, variables)?;
         for _variable in 0..variables {
@@ -28,19 +48,15 @@ impl Naming {
     }
 
     /// A list more.
-    pub(crate) fn push(&mut self, vars: &[u32]) -> Result<(), NoMemory>
-        requires vars { All (λ x. x < length self.old.sets.items) vars.now }
-        ensures more { OnOk result ((lists : List (List ℕ)) → IsNaming self.old lists →
-            IsNaming self.new (lists ++ vars.now ∷ [])) }
-        ensures count { OnOk result (length self.new.sets.items ≡ length self.old.sets.items) }
+    pub(crate) fn push(&mut self, list: &[u32]) -> Result<(), NoMemory>
+        ensures more { OnOk result ((variables : ℕ) (lists : List (List ℕ)) →
+            IsNaming variables self.old lists → IsNaming variables self.new (lists ++ list.now ∷ [])) }
+        ensures count { OnOk result (self.new.count ≡ self.old.count + 1) }
     {
-        let number = self.count;
-        let Some(next) = number.checked_add(1) else {
+        let Some(next) = self.count.checked_add(1) else {
             return Err(NoMemory);
         };
-        for var in vars {
-            push_number(&mut self.sets[*var as usize], number)?;
-        }
+        put_all(&mut self.sets, list, self.count)?;
         self.count = next;
         Ok(())
     }

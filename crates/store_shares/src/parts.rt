@@ -3,7 +3,7 @@
 
 ghost use Rattle.std.specs.Prelude.{◌≡◌, ℕ, Bool};
 ghost use Rattle.store_shares.specs.Parts.{Reading, told};
-ghost use Rattle.store_shares.specs.Slots.{kind_of};
+ghost use Rattle.store_shares.specs.Slots.{is_flat, kind_of, part_by};
 
 use cbl_operations::Op;
 use cbl_violations::Constraint;
@@ -32,6 +32,13 @@ pub(crate) enum Part {
     },
 }
 
+/// The members of a system: those from the first one on to before the end.
+#[derive(Clone, Copy)]
+pub(crate) struct Span {
+    pub(crate) first: usize,
+    pub(crate) end: usize,
+}
+
 /// How a constraint is made of others: all are to hold, or one, or the only one isn't to hold; or it is plain.
 #[derive(Clone, Copy)]
 pub(crate) enum Kind {
@@ -50,6 +57,40 @@ pub(crate) fn kind_of(op: &Op) -> Kind
         Op::Constraint(Constraint::AnyOf) => Kind::One,
         Op::Constraint(Constraint::NotHeld) => Kind::Negation,
         _ => Kind::Plain,
+    }
+}
+
+/// Whether a constraint isn't made of others that tell of the variable.
+pub(crate) fn is_flat(kind: Kind) -> bool
+    ensures { result ≡ is_flat kind }
+{
+    match kind {
+        Kind::Every => false,
+        Kind::One => false,
+        Kind::Negation => true,
+        Kind::Plain => true,
+    }
+}
+
+/// The part of a constraint that is made so.
+pub(crate) fn part_by(kind: Kind, id: u32, first: usize, end: usize, parts: Vec<Part>) -> Part
+    ensures { result ≡ part_by kind id first end parts }
+{
+    match kind {
+        Kind::Every => Part::Every {
+            id,
+            first,
+            end,
+            parts,
+        },
+        Kind::One => Part::One {
+            id,
+            first,
+            end,
+            parts,
+        },
+        Kind::Negation => Part::Negation { id, first, end },
+        Kind::Plain => Part::Plain { id, first, end },
     }
 }
 

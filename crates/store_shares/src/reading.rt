@@ -35,7 +35,8 @@ fn greater(so_far: Option<i64>, number: i64) -> i64
 
 /// The greatest of the violations at the places of a range whose slots are in a set, 0 where none is.
 fn greatest<H: Held>(held: &H, words: &[Word], id: u32, first: usize, end: usize) -> i64
-    requires { IsRising words.now }
+    requires ready { H.is_ready held.now }
+    requires rising { IsRising words.now }
     ensures { result ≡ greatest_of (violations_in
         (record { number = H.number_of held.now; violation = H.violation_of held.now })
         (has words.now) id first end) }
@@ -53,7 +54,7 @@ fn greatest<H: Held>(held: &H, words: &[Word], id: u32, first: usize, end: usize
 }
 
 /// A sum of so many numbers, and one more.
-fn plus(sum: i128, number: i64, count: usize) -> i128
+pub(crate) fn plus(sum: i128, number: i64, count: usize) -> i128
     requires low { neg_ℤ (pos (2 ^ 63 * count)) ≤ℤ sum }
     requires high { sum ≤ℤ pos (2 ^ 63 * count) }
     requires few { count < 2 ^ 63 }
@@ -65,7 +66,7 @@ fn plus(sum: i128, number: i64, count: usize) -> i128
 }
 
 /// The sum as a 64-bit number. `Overflow` exactly where it doesn't fit.
-fn narrowed(sum: i128) -> Result<i64, RunFault>
+pub(crate) fn narrowed(sum: i128) -> Result<i64, RunFault>
     ensures { result ≡ exact sum }
 {
     i64::try_from(sum).map_err(|_| RunFault::Overflow)
@@ -73,6 +74,7 @@ fn narrowed(sum: i128) -> Result<i64, RunFault>
 
 /// Of two parts, at places counted from 0, the one with fewer violations, the first where they have as many.
 fn fewer<H: Held>(held: &H, parts: &[Part], best: Option<usize>, at: usize) -> Option<usize>
+    requires ready { H.is_ready held.now }
     requires best { IfSome best (λ k. k < length parts.now) }
     requires at { at < length parts.now }
     ensures within { IfSome result (λ k. k < length parts.now) }
@@ -92,6 +94,7 @@ fn fewer<H: Held>(held: &H, parts: &[Part], best: Option<usize>, at: usize) -> O
 
 /// The place of the first part with the fewest violations.
 fn fewest<H: Held>(held: &H, parts: &[Part]) -> Option<usize>
+    requires ready { H.is_ready held.now }
     ensures within { IfSome result (λ k. k < length parts.now) }
     ensures fewest { (test : ℕ → Bool) →
         told_at (told (record { number = H.number_of held.now; violation = H.violation_of held.now }) test) parts.now result
@@ -106,7 +109,8 @@ fn fewest<H: Held>(held: &H, parts: &[Part]) -> Option<usize>
 
 /// The violations of a variable in a part, whose slots that depend on the variable are in a set.
 pub(crate) fn share<H: Held>(held: &H, words: &[Word], part: &Part) -> Result<i64, RunFault>
-    requires { IsRising words.now }
+    requires ready { H.is_ready held.now }
+    requires rising { IsRising words.now }
     ensures { result ≡ (told (record { number = H.number_of held.now; violation = H.violation_of held.now })
         (has words.now) part.now).violation }
 {

@@ -93,13 +93,13 @@ pub(crate) fn next(words: &[Word], from: usize, limit: usize) -> usize
     limit
 }
 
-/// Puts the numbers of a word into a set that has none of a later word.
-pub(crate) fn push_word(words: &mut Vec<Word>, word: Word) -> Result<(), NoMemory>
-    requires rising { IsRising words.old.items }
-    requires up { IsUpTo words.old.items word.index }
-    ensures has { OnOk result ((k : ℕ) → has words.new.items k ≡ (has words.old.items k || word_has word k)) }
-    ensures rising { OnOk result (IsRising words.new.items) }
-    ensures up { OnOk result (IsUpTo words.new.items word.index) }
+/// Puts the numbers of a word into a set, which stays in order where it has none of a later word.
+fn push_word(words: &mut Vec<Word>, word: Word) -> Result<(), NoMemory>
+    ensures has { OnOk result ((k : ℕ) →
+        has words.new.items k ≡ (has words.old.items k || word_has word k)) }
+    ensures rising { OnOk result (IsRising words.old.items → IsUpTo words.old.items word.index →
+        IsRising words.new.items) }
+    ensures up { OnOk result (IsUpTo words.old.items word.index → IsUpTo words.new.items word.index) }
 {
     let Some(last) = words.pop() else {
         return Ok(words.push(word)?);
@@ -126,13 +126,14 @@ fn word_of(number: usize) -> Word
     }
 }
 
-/// Puts a number into a set that has none of a later word.
+/// Puts a number into a set, which stays in order where it has none of a later word.
 pub(crate) fn push_number(words: &mut Vec<Word>, number: usize) -> Result<(), NoMemory>
-    requires rising { IsRising words.old.items }
-    requires up { IsUpTo words.old.items (number / 64) }
-    ensures has { OnOk result ((k : ℕ) → has words.new.items k ≡ (has words.old.items k || nat_eq k number)) }
-    ensures rising { OnOk result (IsRising words.new.items) }
-    ensures up { OnOk result (IsUpTo words.new.items (number / 64)) }
+    ensures has { OnOk result ((k : ℕ) →
+        has words.new.items k ≡ (has words.old.items k || nat_eq k number)) }
+    ensures rising { OnOk result (IsRising words.old.items → IsUpTo words.old.items (number / 64) →
+        IsRising words.new.items) }
+    ensures up { OnOk result (IsUpTo words.old.items (number / 64) →
+        IsUpTo words.new.items (number / 64)) }
 {
     push_word(words, word_of(number))
 }
@@ -187,7 +188,7 @@ pub(crate) fn joined(alloc: Global, first: &[Word], second: &[Word]) -> Result<V
     ensures rising { IfOk result (λ words. IsRising words.items) }
 {
     let mut state = Joining {
-        words: Vec::new(alloc),
+        words: Vec::with_capacity(alloc, first.len() + second.len())?,
         left: 0,
         right: 0,
     };
