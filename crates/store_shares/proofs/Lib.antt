@@ -1,6 +1,8 @@
 pub mod CallLaws
 pub mod ClosingLaws
+pub mod MakingLaws
 pub mod NamingLaws
+pub mod ReadingLaws
 pub mod SettledLaws
 pub mod SystemLaws
 pub mod TellLaws

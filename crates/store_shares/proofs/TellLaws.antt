@@ -31,12 +31,12 @@ use Rattle.store_shares.specs.declared.parts.Part.TheVariants.{Leaf as LeafPart,
 use Rattle.store_shares.proofs.TermLaws.{dep, depends_of, facts, node_values, node_violation, one_of, fewest_is, share, slot_depends, slots_node, sum_is, violation_by_kind, violations_of}
 
 -- ---- slots that pass
-slot_left : (ss rest : List (List ℕ)) (k : ℕ) → k < length ss → slot_at (ss ++ rest) k ≡ slot_at ss k
+pub slot_left : (ss rest : List (List ℕ)) (k : ℕ) → k < length ss → slot_at (ss ++ rest) k ≡ slot_at ss k
 slot_left [] rest k lt = absurd (omega (arith, lt))
 slot_left (s ∷ ss) rest zero lt = refl
 slot_left (s ∷ ss) rest (suc k) lt = slot_left ss rest k (omega (arith, lt))
 
-slot_right : (ss rest : List (List ℕ)) (k : ℕ) → slot_at (ss ++ rest) (length ss + k) ≡ slot_at rest k
+pub slot_right : (ss rest : List (List ℕ)) (k : ℕ) → slot_at (ss ++ rest) (length ss + k) ≡ slot_at rest k
 slot_right [] rest k = let e : 0 + k ≡ k = omega arith in ap (slot_at rest) e
 slot_right (s ∷ ss) rest k =
     let e : length (s ∷ ss) + k ≡ suc (length ss + k) = omega arith in
@@ -190,7 +190,9 @@ module _ (ids : Term → ℕ) (part : Part) (t : Term) (first id : ℕ) (at : id
         let slots : slots_of t ≡ map (λ (s : Slotted). s.vars) (map slotted args.items) = slots_node users env depends t op args place node ∙ ap (λ k. slots_by k (map slotted args.items)) kind in
         let long : length (slots_of t) ≡ length args.items = ap length slots ∙ length_mapped (λ (s : Slotted). s.vars) (map slotted args.items) ∙ length_mapped slotted args.items in
         let whole : first + length (slots_of t) ≡ end = ap (λ n. first + n) long ∙ sym width in
-        let count : length values.0 ≡ length args.items = gather_length (map (outcome_of users env) args.items) [] values.0 values.1 ∙ length_mapped (outcome_of users env) args.items in
+        let gathers = gather_length (map (outcome_of users env) args.items) [] values.0 values.1 in
+        let outcomes = length_mapped (outcome_of users env) args.items in
+        let count : length values.0 ≡ length args.items = omega (arith, gathers, outcomes) in
         let span : end - first ≡ length values.0 = omega (arith, width, count) in
         let here : first ≡ first + 0 = omega arith in
         let each : (j : ℕ) → 0 ≤ j → j < 0 + length values.0 → (test (first + j) ≡ marked (map (dep users env depends) args.items) j) × ((rule_of users op).violation_at values.0 j ≡ reading.violation id j) =

@@ -1,6 +1,7 @@
 -- Walks one after another, and parts one after another.
-use Rattle.std.proofs.Common.{◌≡◌, ℕ, pos, zero, suc, ◌+◌, ◌<◌, Bool, true, false, true≢false, List, [], ◌∷◌, ◌++◌, Vec, Global, Result, Ok, length, length-append, get_or, take, map, refl, sym, ap, ◌∙◌, subst, arith}
-use Rattle.std.proofs.lemmas.List.{append_assoc, append-nil, map-append, take_more}
+use Rattle.std.proofs.Common.{◌≡◌, ℕ, pos, zero, suc, ◌+◌, ◌-◌, ◌<◌, ◌≤◌, Bool, true, false, true≢false, List, [], ◌∷◌, ◌++◌, Vec, Global, All, Result, Ok, length, length-append, get_or, take, drop, map, refl, sym, ap, ◌∙◌, subst, arith}
+use Rattle.std.proofs.lemmas.List.{append_assoc, append-nil, map-append, take_more, take_all}
+use Rattle.std.proofs.lemmas.List.Elements.{All-get_or}
 use Rattle.cbl_base.specs.NumberRule.{NumberRule}
 use Rattle.cbl_base.specs.declared.faults.RunFault.{RunFault}
 use Rattle.cbl_base.specs.declared.place.Place.{Place}
@@ -15,7 +16,7 @@ use Rattle.term_model.specs.declared.term.Term.TheFolds.{fold-roll-Term, map-Ter
 use Rattle.violation_shares.specs.VariableViolations.{share_step}
 use Rattle.store_shares.specs.Naming.{IsNaming}
 use Rattle.store_shares.specs.Slots.{Slotted, is_flat, joined_slots, kind_of, part_by, slots_by, slots_of, slots_step, slotted}
-use Rattle.store_shares.specs.Telling.{AllTell, Tells}
+use Rattle.store_shares.specs.Telling.{AllTell, IsClosed, Tells}
 use Rattle.store_shares.specs.Walked.{IsWalked}
 use Rattle.store_shares.specs.declared.parts.Kind.{Kind}
 use Rattle.store_shares.specs.declared.parts.Kind.TheVariants.{Every, One, Negation, Plain}
@@ -39,6 +40,19 @@ pub slots_more : (terms : List Term) (t : Term) → joined_slots (map slots_of (
 slots_more terms t =
     ap joined_slots (map-append slots_of terms (t ∷ [])) ∙ joined_slots_append (map slots_of terms) (slots_of t ∷ [])
     ∙ ap (λ l. joined_slots (map slots_of terms) ++ l) (append-nil (slots_of t))
+
+-- what was put behind a list
+pub behind_of : (old vars new : List ℕ) → new ≡ old ++ vars → take (length new - length old) (drop (length old) new) ≡ vars
+behind_of old vars new e = subst (λ l. take (length l - length old) (drop (length old) l) ≡ vars) (sym e) (behind old)
+  where
+    dropped : (xs : List ℕ) → drop (length xs) (xs ++ vars) ≡ vars
+    dropped [] = refl
+    dropped (x ∷ xs) = dropped xs
+
+    behind : (xs : List ℕ) → take (length (xs ++ vars) - length xs) (drop (length xs) (xs ++ vars)) ≡ vars
+    behind xs =
+        let long = length-append xs vars in
+        ap (take (length (xs ++ vars) - length xs)) (dropped xs) ∙ take_all (length (xs ++ vars) - length xs) vars (omega (arith, long))
 
 -- ---- walks
 pub walked_none : (walk : Walk) → IsWalked walk walk []
@@ -250,3 +264,10 @@ module _ (ids : Term → ℕ) (t : Term) (op : Op) (args : Vec Term Global) (pla
           (ap (λ k. part_by k id old.slots.count new.slots.count parts) e) e
       by_kind Negation e = absurd (true≢false (sym (ap is_flat e) ∙ made))
       by_kind Plain e = absurd (true≢false (sym (ap is_flat e) ∙ made))
+
+-- an argument of what is known is known
+pub known_arg : (known : Term → Bool) → IsClosed known → (t : Term) (op : Op) (args : Vec Term Global) (place : Place) → t ≡ Node op args place → known t ≡ true → (items : List Term) (i : ℕ) (item : Term) →
+    items ≡ args.items → i < length items → item ≡ get_or items i item → known item ≡ true
+known_arg known closed t op args place node is_known items i item same lt is =
+    let all = subst (All (λ u. known u ≡ true)) (sym same) (closed t op args place node is_known) in
+    subst (λ u. known u ≡ true) (sym is) (All-get_or (λ u. known u ≡ true) items i item lt all)

@@ -18,7 +18,7 @@ pub(crate) struct Tally {
     pub(crate) fits: bool,
 }
 
-/// A number more, times its weight; how many there are so far bounds the sum.
+/// A number more, times its weight. How many there may be so far bounds the sum.
 fn with_weighed(tally: Tally, number: i64, weight: i64, count: usize) -> Tally
     requires low { neg_ℤ (pos (2 ^ 63 * count)) ≤ℤ tally.sum }
     requires high { tally.sum ≤ℤ pos (2 ^ 63 * count) }
@@ -64,6 +64,7 @@ pub(crate) fn total_of<H: Held>(
     system: usize,
 ) -> Result<i64, RunFault>
     requires ready { H.is_ready held.now }
+    requires within { first + length parts.now < 2 ^ 63 }
     requires slots { IsRising slots.now }
     requires touched { IsRising touched.now }
     ensures { AreZero (has touched.now) first (map violation_of (map (told
@@ -73,14 +74,12 @@ pub(crate) fn total_of<H: Held>(
         (map (H.weight_of held.now system) (range_with_len 0 (length parts.now)))) }
 {
     let mut tally = Tally { sum: 0, fits: true };
-    let mut count = 0;
     let end = first + parts.len();
     let mut at = next(touched, first, end);
     while at < end {
         let member = at - first;
         let violation = share(held, slots, &parts[member])?;
-        tally = with_weighed(tally, violation, held.weight(system, member), count);
-        count += 1;
+        tally = with_weighed(tally, violation, held.weight(system, member), member);
         at = next(touched, at + 1, end);
     }
     total_told(tally)

@@ -1,5 +1,5 @@
 //! What a part tells of a variable, read without taking memory.
-ghost use Rattle.std.specs.Prelude.{◌≡◌, ◌+◌, ◌*◌, ◌^◌, ◌<◌, ◌≤◌, ◌+ℤ◌, ◌≤ℤ◌, ℕ, ℤ, Bool, true, neg_ℤ, pos, length, fold, map, nat_lt, Option, Some, None, Result, IfSome, slice_get};
+ghost use Rattle.std.specs.Prelude.{int_lt, ◌≡◌, ◌+◌, ◌*◌, ◌^◌, ◌<◌, ◌≤◌, ◌+ℤ◌, ◌≤ℤ◌, ℕ, ℤ, Bool, true, neg_ℤ, pos, length, fold, map, nat_lt, Option, Some, None, Result, IfSome, slice_get};
 ghost use Rattle.cbl_base.specs.Arithmetic.{exact};
 ghost use Rattle.cbl_base.specs.declared.faults.RunFault.{RunFault};
 ghost use Rattle.cbl_operations.specs.Operations.Greatest.{greatest_of};
@@ -20,7 +20,11 @@ fn has_one(words: &[Word], first: usize, end: usize) -> bool
     if end <= first {
         return false;
     }
-    next(words, first, end) < end
+    let at = next(words, first, end);
+    if at < end {
+        return true;
+    }
+    false
 }
 
 /// The greater of a number so far and another.
@@ -72,6 +76,16 @@ pub(crate) fn narrowed(sum: i128) -> Result<i64, RunFault>
     i64::try_from(sum).map_err(|_| RunFault::Overflow)
 }
 
+/// Whether a part has fewer violations than another.
+fn is_fewer<H: Held>(held: &H, part: &Part, other: &Part) -> bool
+    requires ready { H.is_ready held.now }
+    ensures { (test : ℕ → Bool) → result ≡ int_lt
+        (told (record { number = H.number_of held.now; violation = H.violation_of held.now }) test part.now).number
+        (told (record { number = H.number_of held.now; violation = H.violation_of held.now }) test other.now).number }
+{
+    held.number(id_of(part)) < held.number(id_of(other))
+}
+
 /// Of two parts, at places counted from 0, the one with fewer violations, the first where they have as many.
 fn fewer<H: Held>(held: &H, parts: &[Part], best: Option<usize>, at: usize) -> Option<usize>
     requires ready { H.is_ready held.now }
@@ -86,7 +100,7 @@ fn fewer<H: Held>(held: &H, parts: &[Part], best: Option<usize>, at: usize) -> O
     let Some(first) = best else {
         return Some(at);
     };
-    if held.number(id_of(&parts[at])) < held.number(id_of(&parts[first])) {
+    if is_fewer(held, &parts[at], &parts[first]) {
         return Some(at);
     }
     Some(first)

@@ -45,7 +45,8 @@ fn push_slot(walk: &mut Walk, argument: &Term) -> Result<(), NoMemory>
 {
     let first = walk.named.len();
     push_variables(argument, &mut walk.named)?;
-    walk.slots.push(&walk.named[first..])
+    walk.slots.push(&walk.named[first..])?;
+    Ok(())
 }
 
 /// A slot more for each argument.
