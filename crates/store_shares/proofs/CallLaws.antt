@@ -22,11 +22,17 @@ use Rattle.term_model.specs.declared.model.Total.{Total}
 use Rattle.term_model.specs.declared.term.Term.{Term}
 use Rattle.violation_shares.specs.VariableViolations.{violation_in_system}
 use Rattle.store_shares.specs.Calls.{AreZero, no_tally, tallied, tally_all}
-use Rattle.store_shares.specs.Made.{AreWeights, slots_in, terms_of}
+use Rattle.store_shares.specs.Made.{AreKnown, AreWeights, IsSharesOf, parts_in, slots_in, terms_of}
 use Rattle.store_shares.specs.Parts.{Reading, one_in, told, violation_of}
 use Rattle.store_shares.specs.Slots.{AreMarked, joined_slots, slots_of}
 use Rattle.store_shares.specs.Telling.{AllTell, AreReads}
+use Rattle.store_shares.specs.Settled.{known_words}
+use Rattle.store_shares.specs.Words.{has}
 use Rattle.store_shares.specs.declared.parts.Part.{Part}
+use Rattle.store_shares.specs.declared.parts.Span.{Span}
+use Rattle.store_shares.specs.declared.shares.Shares.{Shares}
+use Rattle.std.proofs.lemmas.Option.{slice_get_within}
+use Rattle.store_shares.proofs.MakingLaws.{tell_length}
 use Rattle.store_shares.proofs.SystemLaws.{system_is, tally_is}
 use Rattle.store_shares.proofs.TellLaws.{all_right, marks_left, marks_right, one_in_any, violations_told}
 use Rattle.store_shares.proofs.TermLaws.{share}
@@ -47,11 +53,11 @@ member_by M s total e (Constrain system member) = by_test (nat_eq system s) refl
 
 filter_two : {X : Type 0} (f : Posted → Option X) (g : Posted → Option ℕ) (h : ℕ → Option X) → ((p : Posted) → f p ≡ option_and_then h (g p)) → (posted : List Posted) → filter_map f posted ≡ filter_map h (filter_map g posted)
 filter_two f g h same [] = refl
-filter_two f g h same (p ∷ posted) = ap (λ o. cons_option o (filter_map f posted)) (same p) ∙ one (g p)
+filter_two f g h same (p ∷ posted) = ap (λ o. cons_option o (filter_map f posted)) (same p) ∙ one (filter_two f g h same posted) (g p)
   where
-    one : (o : Option ℕ) → cons_option (option_and_then h o) (filter_map f posted) ≡ filter_map h (cons_option o (filter_map g posted))
-    one (Some k) = ap (cons_option (h k)) (filter_two f g h same posted)
-    one None = filter_two f g h same posted
+    one : filter_map f posted ≡ filter_map h (filter_map g posted) → (o : Option ℕ) → cons_option (option_and_then h o) (filter_map f posted) ≡ filter_map h (cons_option o (filter_map g posted))
+    one rest (Some k) = ap (cons_option (h k)) rest
+    one rest None = rest
 
 all_listed : {X : Type 0} (f : ℕ → Option X) (xs : List X) (a : ℕ) → ((k : ℕ) → f (a + k) ≡ slice_get xs k) → filter_map f (range_with_len a (length xs)) ≡ xs
 all_listed f [] a h = refl
@@ -120,3 +126,62 @@ module _ (ids : Term → ℕ) (users : ℕ → NumberRule) (env : ℕ → Outcom
       ∙ ap (λ ws. tallied (tally_all no_tally (map (λ (m : Member). share users env depends m.term) total.members.items) ws)) weights
       ∙ sym (tally_is (map (λ (m : Member). share users env depends m.term) total.members.items) (map (λ (m : Member). m.weight) total.members.items) long)
       ∙ sym (system_is users env depends M s total.members.items (members_are M formed s total e))
+
+-- ---- what a call answers
+there_is : {X : Type 0} (xs : List X) (i : ℕ) → i < length xs → (x : X) × (slice_get xs i ≡ Some x)
+there_is [] i lt = absurd (omega (arith, lt))
+there_is (x ∷ xs) zero lt = (x, refl)
+there_is (x ∷ xs) (suc i) lt = there_is xs i (omega (arith, lt))
+
+term_there : (terms : List Term) (f : Term → Result ℤ RunFault) (k : ℕ) (v : Result ℤ RunFault) → slice_get (map f terms) k ≡ Some v → (t : Term) × (slice_get terms k ≡ Some t)
+term_there [] f k v at = let c : None ≡ Some v = at in cc
+term_there (t ∷ terms) f zero v at = (t, refl)
+term_there (t ∷ terms) f (suc k) v at = term_there terms f k v at
+
+same_term_there : (terms : List Term) (k : ℕ) (t u : Term) → slice_get terms k ≡ Some t → slice_get terms k ≡ Some u → t ≡ u
+same_term_there terms k t u one other = ap (λ o. unwrap_or o t) (sym one ∙ other)
+
+module _ (users : ℕ → NumberRule) (M : Model) (env : ℕ → Outcome) (ids : Term → ℕ) (known : Term → Bool) (reading : Reading) (formed : IsWellFormed M) (shares : Shares) (kept : IsSharesOf M ids shares) (reads : AreReads users env ids known reading)
+    (s : ℕ) (weight : ℕ → ℕ → ℤ) (weights : AreWeights M s weight) (knows : AreKnown M s known) (x : ℕ) (is_var : x < length M.vars.items) where
+  module _ (total : Total) (at : slice_get M.systems.items s ≡ Some total) (span : Span) (is : span ≡ (kept.systems s total at).span) where
+    tells : AllTell ids (parts_in shares (Some span)) (terms_of total) (kept.systems s total at).first_slot
+    tells = subst (λ r. AllTell ids (parts_in shares (Some r)) (terms_of total) (kept.systems s total at).first_slot) (sym is) (kept.systems s total at).tell
+
+    marks : AreMarked (has (known_words shares.slots.items x)) (var_depends M x) (kept.systems s total at).first_slot (slots_in total)
+    marks k lt =
+        kept.slot_sets.each x ((kept.systems s total at).first_slot + k) is_var
+        ∙ ap (list_any (var_depends M x)) ((kept.systems s total at).slots_there k lt)
+
+    told_is : map violation_of (map (told reading (has (known_words shares.slots.items x))) (parts_in shares (Some span))) ≡ map (share users env (var_depends M x)) (terms_of total)
+    told_is =
+        ap (map violation_of) (all_right ids users env (var_depends M x) known reading (has (known_words shares.slots.items x)) reads (parts_in shares (Some span)) (terms_of total) (kept.systems s total at).first_slot tells (knows total at) marks)
+        ∙ violations_told users env (var_depends M x) (terms_of total)
+
+    zeros : AreZero (has (known_words shares.members.items x)) span.first (map violation_of (map (told reading (has (known_words shares.slots.items x))) (parts_in shares (Some span))))
+    zeros k v there none =
+        let here : slice_get (map (share users env (var_depends M x)) (terms_of total)) k ≡ Some v = ap (λ l. slice_get l k) (sym told_is) ∙ there in
+        untouched ids users env (var_depends M x) known reading (has (known_words shares.slots.items x)) reads (parts_in shares (Some span)) (terms_of total) (kept.systems s total at).first_slot tells (knows total at) marks k v here
+        (λ t term.
+            let first : (kept.systems s total at).span.first + k ≡ span.first + k = ap (λ (r : Span). r.first + k) (sym is) in
+            ap (list_any (var_depends M x)) (sym ((kept.systems s total at).members_there k t term))
+            ∙ sym (kept.member_sets.each x ((kept.systems s total at).span.first + k) is_var) ∙ ap (has (known_words shares.members.items x)) first ∙ none)
+
+    count : length (parts_in shares (Some span)) ≡ length total.members.items
+    count = tell_length ids (parts_in shares (Some span)) (terms_of total) (kept.systems s total at).first_slot tells ∙ length_of (λ (m : Member). m.term) total.members.items
+
+    pub total_is : tallied (tally_all no_tally (map violation_of (map (told reading (has (known_words shares.slots.items x))) (parts_in shares (Some span)))) (map (weight s) (range_with_len 0 (length (parts_in shares (Some span)))))) ≡ violation_in_system users M env (var_depends M x) s
+    total_is =
+        ap (λ n. tallied (tally_all no_tally (map violation_of (map (told reading (has (known_words shares.slots.items x))) (parts_in shares (Some span)))) (map (weight s) (range_with_len 0 n)))) count
+        ∙ call_is ids users env (var_depends M x) known reading (has (known_words shares.slots.items x)) reads M formed s total at (parts_in shares (Some span)) (kept.systems s total at).first_slot (weight s) tells (knows total at) marks
+          (λ k m there. weights total k m at there)
+
+  pub answer_is : (span : Span) → slice_get shares.systems.items s ≡ Some span → (result : Result ℤ RunFault) →
+      (AreZero (has (known_words shares.members.items x)) span.first (map violation_of (map (told reading (has (known_words shares.slots.items x))) (parts_in shares (Some span)))) →
+       result ≡ tallied (tally_all no_tally (map violation_of (map (told reading (has (known_words shares.slots.items x))) (parts_in shares (Some span)))) (map (weight s) (range_with_len 0 (length (parts_in shares (Some span))))))) →
+      result ≡ violation_in_system users M env (var_depends M x) s
+  answer_is span there result answers =
+      let within : s < length shares.systems.items = slice_get_within shares.systems.items s span there in
+      let lt : s < length M.systems.items = subst (λ n. s < n) kept.count within in
+      let total = there_is M.systems.items s lt in
+      let is : span ≡ (kept.systems s total.0 total.1).span = ap (λ (o : Option Span). unwrap_or o span) (sym there ∙ (kept.systems s total.0 total.1).kept) in
+      answers (zeros total.0 total.1 span is) ∙ total_is total.0 total.1 span is

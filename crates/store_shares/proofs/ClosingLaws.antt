@@ -29,19 +29,19 @@ use Rattle.store_shares.specs.declared.naming.Naming.{Naming}
 -- ---- one of a list passes
 pub any_from : (f : ℕ → Bool) (xs : List ℕ) (d : ℕ) → Contains xs d → f d ≡ true → list_any f xs ≡ true
 any_from f [] d (k, lt, at) h = absurd (omega (arith, lt))
-any_from f (x ∷ xs) d in' h = choose (Contains-append_cases (x ∷ []) xs d in')
+any_from f (x ∷ xs) d in' h = choose (λ rest. any_from f xs d rest h) (Contains-append_cases (x ∷ []) xs d in')
   where
-    choose : Contains (x ∷ []) d ⊎ Contains xs d → (f x || list_any f xs) ≡ true
-    choose (inl one) = or_left (f x) (list_any f xs) (ap f (sym (contains_one x d one)) ∙ h)
-    choose (inr rest) = or_right (f x) (list_any f xs) (any_from f xs d rest h)
+    choose : (Contains xs d → list_any f xs ≡ true) → Contains (x ∷ []) d ⊎ Contains xs d → (f x || list_any f xs) ≡ true
+    choose others (inl one) = or_left (f x) (list_any f xs) (ap f (sym (contains_one x d one)) ∙ h)
+    choose others (inr rest) = or_right (f x) (list_any f xs) (others rest)
 
 pub any_to : (f : ℕ → Bool) (xs : List ℕ) → list_any f xs ≡ true → (d : ℕ) × Contains xs d × (f d ≡ true)
 any_to f [] h = absurd (true≢false (sym h))
-any_to f (x ∷ xs) h = choose (f x) refl
+any_to f (x ∷ xs) h = choose (any_to f xs) (f x) refl
   where
-    choose : (b : Bool) → f x ≡ b → (d : ℕ) × Contains (x ∷ xs) d × (f d ≡ true)
-    choose true e = (x, Contains-append_left (x ∷ []) xs x (Contains-push [] x), e)
-    choose false e = let rest = any_to f xs (ap (λ b. b || list_any f xs) (sym e) ∙ h) in (rest.0, Contains-append_right (x ∷ []) xs rest.0 rest.1, rest.2)
+    choose : (list_any f xs ≡ true → (d : ℕ) × Contains xs d × (f d ≡ true)) → (b : Bool) → f x ≡ b → (d : ℕ) × Contains (x ∷ xs) d × (f d ≡ true)
+    choose others true e = (x, Contains-append_left (x ∷ []) xs x (Contains-push [] x), e)
+    choose others false e = let rest = others (ap (λ b. b || list_any f xs) (sym e) ∙ h) in (rest.0, Contains-append_right (x ∷ []) xs rest.0 rest.1, rest.2)
 
 or_split : (a b : Bool) → (a || b) ≡ true → (a ≡ true) ⊎ (b ≡ true)
 or_split true b h = inl refl
@@ -102,27 +102,29 @@ module _ (M : Model) (formed : IsWellFormed M) (acyclic : IsAcyclic M) where
     -- what depends on one whose definition names it depends on it
     depends_through_user : (k d u : ℕ) → acyclic.rank d < k → d < length M.vars.items → Contains (users x) u → var_depends M u d ≡ true → var_depends M x d ≡ true
     depends_through_user zero d u low lt in' h = absurd (omega (arith, low))
-    depends_through_user (suc k) d u low lt in' h = choose (depends_cases u d lt h)
+    depends_through_user (suc k) d u low lt in' h =
+        choose (λ e lower within depends. depends_through_user k e u lower within in' depends) (depends_cases u d lt h)
       where
-        choose : (d ≡ u) ⊎ ((e : ℕ) × DependsOn M d e × (var_depends M u e ≡ true)) → var_depends M x d ≡ true
-        choose (inl e) = depends_by x d x lt (subst (λ v. DependsOn M v x) (sym e) (uses.only x u in').1) (depends_itself x is_var)
-        choose (inr more) =
+        choose : ((e : ℕ) → acyclic.rank e < k → e < length M.vars.items → var_depends M u e ≡ true → var_depends M x e ≡ true) → (d ≡ u) ⊎ ((e : ℕ) × DependsOn M d e × (var_depends M u e ≡ true)) → var_depends M x d ≡ true
+        choose others (inl e) = depends_by x d x lt (subst (λ v. DependsOn M v x) (sym e) (uses.only x u in').1) (depends_itself x is_var)
+        choose others (inr more) =
             let falls = acyclic.falls d more.0 more.1 in
-            depends_by x d more.0 lt more.1 (depends_through_user k more.0 u (omega (arith, falls, low)) (names_within M formed d more.0 lt more.1) in' more.2)
+            depends_by x d more.0 lt more.1 (others more.0 (omega (arith, falls, low)) (names_within M formed d more.0 lt more.1) more.2)
 
     depends_on_user : (k d : ℕ) → acyclic.rank d < k → d < length M.vars.items → var_depends M x d ≡ true → (d ≡ x) ⊎ ((u : ℕ) × Contains (users x) u × (var_depends M u d ≡ true))
     depends_on_user zero d low lt h = absurd (omega (arith, low))
-    depends_on_user (suc k) d low lt h = choose (depends_cases x d lt h)
+    depends_on_user (suc k) d low lt h = choose (depends_on_user k) (depends_cases x d lt h)
       where
         later : (e : ℕ) → DependsOn M d e → (e ≡ x) ⊎ ((u : ℕ) × Contains (users x) u × (var_depends M u e ≡ true)) → (u : ℕ) × Contains (users x) u × (var_depends M u d ≡ true)
         later e in' (inl is) = (d, uses.each d x lt (subst (DependsOn M d) is in'), depends_itself d lt)
         later e in' (inr more) = (more.0, more.1, depends_by more.0 d e lt in' more.2)
 
-        choose : (d ≡ x) ⊎ ((e : ℕ) × DependsOn M d e × (var_depends M x e ≡ true)) → (d ≡ x) ⊎ ((u : ℕ) × Contains (users x) u × (var_depends M u d ≡ true))
-        choose (inl e) = inl e
-        choose (inr more) =
+        choose : ((e : ℕ) → acyclic.rank e < k → e < length M.vars.items → var_depends M x e ≡ true → (e ≡ x) ⊎ ((u : ℕ) × Contains (users x) u × (var_depends M u e ≡ true))) →
+            (d ≡ x) ⊎ ((e : ℕ) × DependsOn M d e × (var_depends M x e ≡ true)) → (d ≡ x) ⊎ ((u : ℕ) × Contains (users x) u × (var_depends M u d ≡ true))
+        choose others (inl e) = inl e
+        choose others (inr more) =
             let falls = acyclic.falls d more.0 more.1 in
-            inr (later more.0 more.1 (depends_on_user k more.0 (omega (arith, falls, low)) (names_within M formed d more.0 lt more.1) more.2))
+            inr (later more.0 more.1 (others more.0 (omega (arith, falls, low)) (names_within M formed d more.0 lt more.1) more.2))
 
     module _ (slots : List (List ℕ)) (k : ℕ) where
       there : depends_in M slots x k ≡ true → (names_in slots x k || list_any (λ u. depends_in M slots u k) (users x)) ≡ true

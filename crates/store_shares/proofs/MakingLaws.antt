@@ -1,7 +1,8 @@
 -- The parts of one member more, and of one system more; and which of all parts are a system's.
-use Rattle.std.proofs.Common.{◌≡◌, ℕ, zero, suc, ◌+◌, ◌-◌, ◌<◌, ◌≤◌, Bool, List, [], ◌∷◌, ◌++◌, Option, Some, None, Vec, Global, length, length-append, map, take, drop, refl, sym, ap, ◌∙◌, subst, arith, slice_get}
+use Rattle.std.proofs.Common.{◌≡◌, ℕ, zero, suc, ◌+◌, ◌-◌, ◌<◌, ◌≤◌, Bool, List, [], ◌∷◌, ◌++◌, Option, Some, None, Vec, Global, All, true, length, length-append, get_or, map, take, drop, refl, sym, ap, ◌∙◌, subst, arith, slice_get}
 use Rattle.std.specs.Prelude.{slice_range, unwrap_or}
-use Rattle.std.proofs.lemmas.List.{append_assoc, append-nil, map-append, length-map}
+use Rattle.std.proofs.lemmas.List.{append_assoc, append-nil, map-append, length-map, take_more}
+use Rattle.std.proofs.lemmas.List.Elements.{All-head, All-tail}
 use Rattle.term_model.specs.Definitions.{joined}
 use Rattle.term_model.specs.declared.model.Member.{Member}
 use Rattle.term_model.specs.declared.model.Model.{Model}
@@ -146,7 +147,7 @@ module _ (M : Model) (ids : Term → ℕ) (making : Making) (made : IsMakingOf (
   spans : shares.systems.items ≡ spans_of 0 M.systems.items
   spans = systems ∙ made.spans
 
-  system_is : (s : ℕ) (total : Total) → slice_get M.systems.items s ≡ Some total → IsSystem ids shares (slots_among (terms_in M.systems.items)) (named_among (terms_in M.systems.items)) s total
+  system_is : (s : ℕ) (total : Total) → slice_get M.systems.items s ≡ Some total → IsSystem ids shares (slots_among (terms_in M.systems.items)) (named_among (terms_in M.systems.items)) s (terms_of total)
   system_is s total at =
       let cut = cut_at M.systems.items [] s total at in
       let terms = terms_of total in
@@ -197,3 +198,24 @@ module _ (M : Model) (ids : Term → ℕ) (making : Making) (made : IsMakingOf (
     member_sets = member_sets;
     systems = system_is;
   }
+
+-- ---- the members of a system one after another
+abbrev term_in : Member → Term
+term_in m = m.term
+
+pub members_none : (terms : List Term) → terms ≡ terms ++ []
+members_none terms = sym (append-nil terms)
+
+pub members_step : (members : List Member) (i : ℕ) (member : Member) (terms : List Term) → i < length members → member ≡ get_or members i member →
+    (terms ++ map (λ (m : Member). m.term) (take i members)) ++ member.term ∷ [] ≡ terms ++ map (λ (m : Member). m.term) (take (i + 1) members)
+members_step members i member terms lt is =
+    append_assoc terms (map (λ (m : Member). m.term) (take i members)) (member.term ∷ [])
+    ∙ ap (λ l. terms ++ l)
+      (sym (ap (map (λ (m : Member). m.term)) (take_more members i member lt ∙ ap (λ (u : Member). take i members ++ u ∷ []) (sym is))
+      ∙ map-append (λ (m : Member). m.term) (take i members) (member ∷ [])))
+
+pub known_member : (known : Term → Bool) (members : List Member) (i : ℕ) (member : Member) → All (λ t. known t ≡ true) (map (λ (m : Member). m.term) members) → i < length members → member ≡ get_or members i member →
+    known member.term ≡ true
+known_member known [] i member all lt is = absurd (omega (arith, lt))
+known_member known (m ∷ members) zero member all lt is = ap (λ (u : Member). known u.term) is ∙ All-head (λ t. known t ≡ true) m.term (map (λ (m : Member). m.term) members) all
+known_member known (m ∷ members) (suc i) member all lt is = known_member known members i member (All-tail (λ t. known t ≡ true) m.term (map (λ (m : Member). m.term) members) all) (omega (arith, lt)) is

@@ -26,11 +26,11 @@ any_none test a (suc n) none =
 
 any_some : (test : ℕ → Bool) (a n k : ℕ) → a ≤ k → k < a + n → test k ≡ true → list_any test (range_with_len a n) ≡ true
 any_some test a zero k le lt is = absurd (omega (arith, le, lt))
-any_some test a (suc n) k le lt is = choose (cases_eq k a)
+any_some test a (suc n) k le lt is = choose (λ ne. any_some test (a + 1) n k (omega (arith, le, ne)) (omega (arith, lt)) is) (cases_eq k a)
   where
-    choose : (k ≡ a) ⊎ (k ≡ a → ⊥) → (test a || list_any test (range_with_len (a + 1) n)) ≡ true
-    choose (inl e) = ap (λ b. b || list_any test (range_with_len (a + 1) n)) (ap test (sym e) ∙ is)
-    choose (inr ne) = or_right (test a) (list_any test (range_with_len (a + 1) n)) (any_some test (a + 1) n k (omega (arith, le, ne)) (omega (arith, lt)) is)
+    choose : ((k ≡ a → ⊥) → list_any test (range_with_len (a + 1) n) ≡ true) → (k ≡ a) ⊎ (k ≡ a → ⊥) → (test a || list_any test (range_with_len (a + 1) n)) ≡ true
+    choose rest (inl e) = ap (λ b. b || list_any test (range_with_len (a + 1) n)) (ap test (sym e) ∙ is)
+    choose rest (inr ne) = or_right (test a) (list_any test (range_with_len (a + 1) n)) (rest ne)
 
 pub one_found : (test : ℕ → Bool) (first end at : ℕ) → IsNext test first end at → at < end → one_in test first end ≡ true
 one_found test first end at next lt =

@@ -110,7 +110,10 @@ rising_none sets none x = subst IsRising (sym (no_words (slice_get sets x) (none
     no_words (Some None) h = refl
     no_words None h = refl
 
-pub none_more : (sets : List (Option (Vec Word Global))) → ((x : ℕ) → is_known sets x ≡ false) → (x : ℕ) → is_known (sets ++ None ∷ []) x ≡ false
+abbrev pub AreUnknown : List (Option (Vec Word Global)) → Type 0
+AreUnknown sets = (x : ℕ) → is_known sets x ≡ false
+
+pub none_more : (sets : List (Option (Vec Word Global))) → AreUnknown sets → AreUnknown (sets ++ None ∷ [])
 none_more [] none zero = refl
 none_more [] none (suc x) = refl
 none_more (s ∷ sets) none zero = none zero

@@ -31,12 +31,12 @@ module _ (users : ℕ → NumberRule) (env : ℕ → Outcome) (depends : ℕ →
   posted_members : (weighed : Weighed) (posted : List Posted) →
       fold (weigh_posted users env depends M s) weighed posted ≡ fold (λ w (m : Member). with_member users env depends w (Some m)) weighed (filter_map (member_in M (System s)) posted)
   posted_members weighed [] = refl
-  posted_members weighed (p ∷ posted) = one (member_in M (System s) p)
+  posted_members weighed (p ∷ posted) = one (λ w. posted_members w posted) (member_in M (System s) p)
     where
-      one : (o : Option Member) →
+      one : ((w : Weighed) → fold (weigh_posted users env depends M s) w posted ≡ fold (λ v (m : Member). with_member users env depends v (Some m)) w (filter_map (member_in M (System s)) posted)) → (o : Option Member) →
           fold (weigh_posted users env depends M s) (with_member users env depends weighed o) posted ≡ fold (λ w (m : Member). with_member users env depends w (Some m)) weighed (cons_option o (filter_map (member_in M (System s)) posted))
-      one (Some m) = posted_members (with_member users env depends weighed (Some m)) posted
-      one None = posted_members weighed posted
+      one rest (Some m) = rest (with_member users env depends weighed (Some m))
+      one rest None = rest weighed
 
   listed_members : (weighed : Weighed) (members : List Member) → fold (λ w (m : Member). with_member users env depends w (Some m)) weighed members ≡
       record { violations = fold gather_violation weighed.violations (map (λ m. share users env depends m.term) members); weights = weighed.weights ++ map (λ m. m.weight) members }

@@ -33,14 +33,14 @@ pub record IsOrdered (shares : Shares) : Type 0 where
   pub members : (x : ℕ) → IsRising (known_words shares.members.items x)
   pub spans : (s : ℕ) (span : Span) → slice_get shares.systems.items s ≡ Some span → (span.first ≤ span.end) × (span.end ≤ length shares.parts.items)
 
--- the parts of a system tell its members, with their slots from a first one on
-pub record IsSystem (ids : Term → ℕ) (shares : Shares) (slots members : List (List ℕ)) (s : ℕ) (total : Total) : Type 0 where
+-- the parts of a system tell its members' terms, with their slots from a first one on
+pub record IsSystem (ids : Term → ℕ) (shares : Shares) (slots members : List (List ℕ)) (s : ℕ) (terms : List Term) : Type 0 where
   pub span : Span
   pub kept : slice_get shares.systems.items s ≡ Some span
   pub first_slot : ℕ
-  pub tell : AllTell ids (parts_in shares (Some span)) (terms_of total) first_slot
-  pub slots_there : (k : ℕ) → k < length (slots_in total) → slot_at slots (first_slot + k) ≡ slot_at (slots_in total) k
-  pub members_there : (k : ℕ) (t : Term) → slice_get (terms_of total) k ≡ Some t → slot_at members (span.first + k) ≡ joined (slots_of t)
+  pub tell : AllTell ids (parts_in shares (Some span)) terms first_slot
+  pub slots_there : (k : ℕ) → k < length (joined_slots (map slots_of terms)) → slot_at slots (first_slot + k) ≡ slot_at (joined_slots (map slots_of terms)) k
+  pub members_there : (k : ℕ) (t : Term) → slice_get terms k ≡ Some t → slot_at members (span.first + k) ≡ joined (slots_of t)
 
 pub record IsSharesOf (M : Model) (ids : Term → ℕ) (shares : Shares) : Type 0 where
   pub ordered : IsOrdered shares
@@ -49,7 +49,7 @@ pub record IsSharesOf (M : Model) (ids : Term → ℕ) (shares : Shares) : Type 
   pub members : List (List ℕ)
   pub slot_sets : AreSets (depends_in M slots) (length M.vars.items) shares.slots.items
   pub member_sets : AreSets (depends_in M members) (length M.vars.items) shares.members.items
-  pub systems : (s : ℕ) (total : Total) → slice_get M.systems.items s ≡ Some total → IsSystem ids shares slots members s total
+  pub systems : (s : ℕ) (total : Total) → slice_get M.systems.items s ≡ Some total → IsSystem ids shares slots members s (terms_of total)
 
 -- the terms of all members are known
 abbrev pub AreAllKnown : Model → (Term → Bool) → Type 0
@@ -62,3 +62,10 @@ AreWeights M s weight = (total : Total) (k : ℕ) (member : Member) → slice_ge
 -- the terms of the system's members are known
 abbrev pub AreKnown : Model → ℕ → (Term → Bool) → Type 0
 AreKnown M s known = (total : Total) → slice_get M.systems.items s ≡ Some total → All (λ t. known t ≡ true) (terms_of total)
+
+-- two models that differ in weights alone
+pub record AreSameButWeights (M N : Model) : Type 0 where
+  pub vars : length N.vars.items ≡ length M.vars.items
+  pub defs : N.defs.items ≡ M.defs.items
+  pub posted : N.posted.items ≡ M.posted.items
+  pub terms : map terms_of N.systems.items ≡ map terms_of M.systems.items

@@ -27,15 +27,20 @@ pub(crate) struct Making {
 fn none_made(alloc: Global, variables: usize) -> Result<Making, NoMemory>
     ensures { (ids : Term → ℕ) → IfOk result (λ making. IsMakingOf variables ids making []) }
 {
+    let slots = Naming::new(alloc, variables)?;
+    let members = Naming::new(alloc, variables)?;
+    let parts = Vec::new(alloc);
+    let systems = Vec::new(alloc);
+    let named = Vec::new(alloc);
     Ok(Making {
         walk: Walk {
             alloc,
-            slots: Naming::new(alloc, variables)?,
-            named: Vec::new(alloc),
+            slots,
+            named,
         },
-        members: Naming::new(alloc, variables)?,
-        parts: Vec::new(alloc),
-        systems: Vec::new(alloc),
+        members,
+        parts,
+        systems,
     })
 }
 

@@ -1,5 +1,5 @@
 //! What a part tells of a variable, read without taking memory.
-ghost use Rattle.std.specs.Prelude.{int_lt, ◌≡◌, ◌+◌, ◌*◌, ◌^◌, ◌<◌, ◌≤◌, ◌+ℤ◌, ◌≤ℤ◌, ℕ, ℤ, Bool, true, neg_ℤ, pos, length, fold, map, nat_lt, Option, Some, None, Result, IfSome, slice_get};
+ghost use Rattle.std.specs.Prelude.{if◌then◌else◌, int_lt, ◌≡◌, ◌+◌, ◌*◌, ◌^◌, ◌<◌, ◌≤◌, ◌+ℤ◌, ◌≤ℤ◌, ℕ, ℤ, Bool, true, neg_ℤ, pos, length, fold, map, nat_lt, Option, Some, None, Result, IfSome, slice_get};
 ghost use Rattle.cbl_base.specs.Arithmetic.{exact};
 ghost use Rattle.cbl_base.specs.declared.faults.RunFault.{RunFault};
 ghost use Rattle.cbl_operations.specs.Operations.Greatest.{greatest_of};
@@ -55,6 +55,18 @@ fn greatest<H: Held>(held: &H, words: &[Word], id: u32, first: usize, end: usize
         at = next(words, at + 1, end);
     }
     most.unwrap_or(0)
+}
+
+/// The violations of a constraint that isn't to hold, where one of its slots is in a set, else 0.
+fn negation<H: Held>(held: &H, words: &[Word], id: u32, first: usize, end: usize) -> i64
+    requires ready { H.is_ready held.now }
+    requires rising { IsRising words.now }
+    ensures { result ≡ (if one_in (has words.now) first end then H.number_of held.now id else pos 0) }
+{
+    if has_one(words, first, end) {
+        return held.number(id);
+    }
+    0
 }
 
 /// A sum of so many numbers, and one more.
@@ -130,11 +142,7 @@ pub(crate) fn share<H: Held>(held: &H, words: &[Word], part: &Part) -> Result<i6
 {
     match part {
         Part::Leaf { .. } => Ok(0),
-        Part::Negation { id, first, end } => Ok(if has_one(words, *first, *end) {
-            held.number(*id)
-        } else {
-            0
-        }),
+        Part::Negation { id, first, end } => Ok(negation(held, words, *id, *first, *end)),
         Part::Plain { id, first, end } => Ok(greatest(held, words, *id, *first, *end)),
         Part::Every { first, end, parts, .. } => {
             if !has_one(words, *first, *end) {

@@ -45,7 +45,8 @@ fn users_in(alloc: Global, model: &Model) -> Result<Vec<Vec<u32>>, NoMemory>
 {
     let table = definitions_of(alloc, model)?;
     let named = dependencies_of(alloc, &model.defs, &table)?;
-    users_of(alloc, &named)
+    let users = users_of(alloc, &named)?;
+    Ok(users)
 }
 
 impl Shares {

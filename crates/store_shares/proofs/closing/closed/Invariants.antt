@@ -6,8 +6,8 @@ use Rattle.store_shares.specs.Settled.{AreRanked, AreRight, AreRising, IsKnownBe
 use Rattle.store_shares.specs.Words.{has}
 use Rattle.store_shares.proofs.closing.closed.Given as goal
 
-abbrev pub invariant-loop-_round : goal.invariant-loop-_round
-invariant-loop-_round l = record {
+abbrev pub invariant-loop-round : goal.invariant-loop-round
+invariant-loop-round l = record {
   count : length l.sets.items ≡ length l.own;
   rising : AreRising l.sets.items;
   right : (all : ℕ → ℕ → Bool) → Closes all (λ x. has (words_of l.own x)) (list_of l.users) (length l.own) → AreRight all l.sets.items;
