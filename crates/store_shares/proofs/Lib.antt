@@ -1,10 +1,4 @@
-pub mod CallLaws
-pub mod ClosingLaws
-pub mod MakingLaws
 pub mod NamingLaws
-pub mod ReadingLaws
-pub mod SettledLaws
-pub mod SystemLaws
 pub mod TellLaws
 pub mod TermLaws
 pub mod WalkLaws

@@ -343,6 +343,13 @@ one_number number k bits e = choose (cases_eq k number)
     choose (inr ne) = unset (cases_eq (number / 64) (k / 64)) ne ∙ sym (eq_false k number ne)
 
 -- ---- two sets are joined
+pub right_there : (left right n m turn : ℕ) → (left < n → right < m) → left + right ≡ turn → left ≤ n → turn < n + m → right < m
+right_there left right n m turn behind count within lt = choose (cases_lt left n)
+  where
+    choose : (left < n) ⊎ (n ≤ left) → right < m
+    choose (inl l) = behind l
+    choose (inr ge) = omega (arith, ge, count, within, lt)
+
 or_mid : (a b c : Bool) → ((a || b) || c) ≡ ((a || c) || b)
 or_mid true b c = refl
 or_mid false true true = refl

@@ -1,10 +1,6 @@
-pub mod Calls
 pub mod Closing
-pub mod Made
-pub mod Making
 pub mod Naming
 pub mod Parts
-pub mod Settled
 pub mod Slots
 pub mod Telling
 pub mod Walked

@@ -1,4 +1,4 @@
-use Rattle.std.proofs.Common.{rules, ◌≡◌, ◌∙◌, ◌<◌, true, false, ℕ, List, [], map, take, length, subst, sym, ap}
+use Rattle.std.proofs.Common.{rules, ◌+◌, ◌≡◌, ◌∙◌, ◌<◌, true, false, ℕ, List, [], map, take, length, subst, sym, ap}
 use Rattle.std.proofs.lemmas.List.{take_all}
 use Rattle.term_model.specs.Definitions.{vars_of}
 use Rattle.term_model.specs.Depth.{depth_of}
