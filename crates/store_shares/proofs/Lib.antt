@@ -1,4 +1,5 @@
 pub mod NamingLaws
+pub mod SettledLaws
 pub mod TellLaws
 pub mod TermLaws
 pub mod WalkLaws

@@ -1,6 +1,7 @@
 pub mod Closing
 pub mod Naming
 pub mod Parts
+pub mod Settled
 pub mod Slots
 pub mod Telling
 pub mod Walked
