@@ -77,12 +77,12 @@ module _ (M : Model) (formed : IsWellFormed M) (acyclic : IsAcyclic M) where
       let within = (formed.defs n found.0 found.1).var in
       absurd (omega (arith, within, found.2, past))
 
+  depends_none : (x d : ℕ) → depends_through M x zero d ≡ true → nat_eq d x ≡ true
+  unfolding depends_through
+  depends_none x d h = h
+
   itself_alone : (x n d : ℕ) → length M.vars.items ≤ d → depends_through M x n d ≡ true → d ≡ x
-  itself_alone x zero d past h = eqb-true d x (depends_none d h)
-    where
-      depends_none : (d : ℕ) → depends_through M x zero d ≡ true → nat_eq d x ≡ true
-      unfolding depends_through
-      depends_none d h = h
+  itself_alone x zero d past h = eqb-true d x (depends_none x d h)
   itself_alone x (suc n) d past h =
       let none = named_none d past (definition_of M d) refl in
       choose (or_split (nat_eq d x) (list_any (depends_through M x n) (named_by M.defs.items (definition_of M d))) (sym (depends_step M formed acyclic x n d) ∙ h)) none
@@ -204,16 +204,16 @@ module _ (M : Model) (formed : IsWellFormed M) (table : List (Option ℕ)) (name
   pub items_are : AreItems named
   items_are u d in' = let there = item_there u d in' in subst (λ n. d < n) (sym named_count) (names_within M formed u d there.0 there.1)
 
+  user_there : (users : List (Vec ℕ Global)) → AreUses named users → (u x : ℕ) → u < length M.vars.items → DependsOn M u x → Contains (list_of users x) u
+  unfolding ListDependsOn
+  user_there users uses u x lt in' = uses.each u x (subst (λ l. Contains l x) (sym (named_list u lt)) in')
+
+  listed : (users : List (Vec ℕ Global)) (x u : ℕ) → Contains (list_of users x) u → ListDependsOn users x u
+  unfolding ListDependsOn
+  listed users x u in' = in'
+
   pub users_are : (users : List (Vec ℕ Global)) → AreUses named users → AreUsers M (list_of users)
   users_are users uses = record {
-    each = λ u x lt in'. user_there u x lt in';
-    only = λ x u in'. item_there u x (uses.only u x (listed x u in'));
+    each = user_there users uses;
+    only = λ x u in'. item_there u x (uses.only u x (listed users x u in'));
   }
-    where
-      user_there : (u x : ℕ) → u < length M.vars.items → DependsOn M u x → Contains (list_of users x) u
-      unfolding ListDependsOn
-      user_there u x lt in' = uses.each u x (subst (λ l. Contains l x) (sym (named_list u lt)) in')
-
-      listed : (x u : ℕ) → Contains (list_of users x) u → ListDependsOn users x u
-      unfolding ListDependsOn
-      listed x u in' = in'

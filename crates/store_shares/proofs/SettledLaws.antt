@@ -1,10 +1,11 @@
 -- The sets of the variables that are found so far, with one more, and when all are found.
-use Rattle.std.proofs.Common.{◌≡◌, ◌⊎◌, inl, inr, ℕ, zero, suc, ◌+◌, ◌<◌, ◌≤◌, Bool, true, false, ◌||◌, ◌&&◌, List, [], ◌∷◌, ◌++◌, Option, Some, None, Vec, length, set, take, drop, refl, sym, ap, ◌∙◌, subst, arith, true≢false, Contains, slice_get}
+use Rattle.std.proofs.Common.{◌≡◌, ◌⊎◌, inl, inr, ℕ, zero, suc, ◌+◌, ◌<◌, ◌≤◌, Bool, true, false, ◌||◌, ◌&&◌, List, [], ◌∷◌, ◌++◌, Option, Some, None, Vec, length, get_or, set, take, drop, refl, sym, ap, ◌∙◌, subst, arith, true≢false, Contains, slice_get}
 use Rattle.std.specs.List.{list_all, list_any}
 use Rattle.std.specs.declared.alloc.Global.{Global}
 use Rattle.std.proofs.lemmas.Bool.{cases_eq}
 use Rattle.std.proofs.lemmas.List.{take-append-drop}
-use Rattle.std.proofs.lemmas.List.Elements.{Contains-append_left, Contains-append_right, Contains-push}
+use Rattle.std.proofs.lemmas.List.Sums.{AllPass-from_list_all}
+use Rattle.std.proofs.lemmas.List.Elements.{All-contains, Contains-append_left, Contains-append_right, Contains-push}
 use Rattle.std.proofs.lemmas.List.Folds.{list_any-append}
 use Rattle.cbl_base.proofs.PlaceLemmas.{others_stay}
 use Rattle.term_model.proofs.VarLaws.{set_same}
@@ -59,7 +60,7 @@ module _ (old : List (Option (Vec Word Global))) (v : ℕ) (words : Vec Word Glo
 
   module _ (all own : ℕ → ℕ → Bool) (users : ℕ → List ℕ) (count : ℕ) (closes : Closes all own users count) (right : AreRight all old) (is_var : v < count)
       (ready : (u : ℕ) → Contains (users v) u → is_known old u ≡ true)
-      (both : (k : ℕ) → has words.items k ≡ (own v k || list_any (λ u. has (known_words old u) k) (users v))) (rises : IsRising words.items) where
+      (both : (k : ℕ) → has words.items k ≡ (own v k || list_any (λ u. has (known_words old u) k) (users v))) where
     right_here : (k : ℕ) → has words.items k ≡ all v k
     right_here k =
         both k ∙ ap (λ b. own v k || b) (any_agree (λ u. has (known_words old u) k) (λ u. all u k) (users v) (λ u in'. right.right u k (ready u in')))
@@ -122,3 +123,16 @@ none_more (s ∷ sets) none (suc x) = none_more sets (λ y. none (suc y)) x
 -- ---- sets that are joined
 pub any_halves : (f : ℕ → Bool) (xs : List ℕ) (half : ℕ) → (list_any f (take half xs) || list_any f (drop half xs)) ≡ list_any f xs
 any_halves f xs half = sym (list_any-append f (take half xs) (drop half xs)) ∙ ap (list_any f) (take-append-drop half xs)
+
+pub none_united : (ws : List Word) (f : ℕ → Bool) (xs : List ℕ) (k : ℕ) → ws ≡ [] → length xs ≡ 0 → has ws k ≡ list_any f xs
+none_united ws f [] k e none = ap (λ w. has w k) e
+none_united ws f (x ∷ xs) k e none = absurd (omega (arith, none))
+
+pub one_united : (f : ℕ → Bool) (xs : List ℕ) (b : Bool) → length xs ≡ 1 → b ≡ (f (get_or xs 0 0) || false) → b ≡ list_any f xs
+one_united f [] b one e = absurd (omega (arith, one))
+one_united f (x ∷ []) b one e = e
+one_united f (x ∷ y ∷ xs) b one e = absurd (omega (arith, one))
+
+-- each of a list passes where all do
+pub each_of_all : (f : ℕ → Bool) (xs : List ℕ) (x : ℕ) → list_all f xs ≡ true → Contains xs x → f x ≡ true
+each_of_all f xs x h in' = All-contains (λ y. f y ≡ true) xs x (AllPass-from_list_all f xs h) in'

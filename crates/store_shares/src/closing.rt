@@ -64,12 +64,14 @@ fn united(
         return Ok(Vec::new(alloc));
     }
     if count == 1 {
-        return joined(alloc, known_words(sets, variables[0] as usize), &[]);
+        let words = joined(alloc, known_words(sets, variables[0] as usize), &[])?;
+        return Ok(words);
     }
     let half = count / 2;
     let first = united(alloc, sets, &variables[..half])?;
     let second = united(alloc, sets, &variables[half..])?;
-    joined(alloc, &first, &second)
+    let words = joined(alloc, &first, &second)?;
+    Ok(words)
 }
 
 /// Finds the set of a variable, unless it is known or that of a user is missing.
