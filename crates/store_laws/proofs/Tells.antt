@@ -27,9 +27,9 @@ use Rattle.store_turns.specs.declared.outcome.Outcome.TheVariants.{Value, Fails}
 use Rattle.term_model.specs.Definitions.{IsAcyclic}
 use Rattle.term_model.specs.Wellformed.{IsWellFormed}
 use Rattle.term_model.specs.declared.model.Model.{Model}
-use Rattle.trial.specs.Differences.{AreNumbers, Exceeds, FailsAfter, FailsBelow, IsDifference, IsRefusal}
-use Rattle.trial.specs.declared.fault.TrialFault.{TrialFault}
-use Rattle.trial.specs.declared.fault.TrialFault.TheVariants.{Node, NoMemory}
+use Rattle.trial.specs.Differences.{AreNumbers, FailsAfter, FailsBelow, IsDifference, IsStopped}
+use Rattle.trial.specs.declared.fault.DifferenceFault.{DifferenceFault}
+use Rattle.trial.specs.declared.fault.DifferenceFault.TheVariants.{Node, Difference, NoMemory}
 use Rattle.graph_values.specs.Links.{AreAssigned}
 use Rattle.graph_values.specs.Members.{numbers_of, variables_of, weights_of}
 use Rattle.graph_values.specs.Outcomes.{IsGiven}
@@ -116,13 +116,13 @@ module _ (users : ℕ → NumberRule) (M : Model) (g : Graph) (id_of_total : Who
     told_difference : (d : ℤ) → IsDifference g free (moved_to ms free) target d → answer ≡ Ok d
     told_difference d h = from_numbers h.0 h.1 h.2 ∙ ap answer_of h.3
 
-    told_refusal : (stop : TrialFault) → IsRefusal g free (moved_to ms free) target stop → IsTold M id_of_total target answer (Err stop)
-    told_refusal (Node node fault) (inl h) =
+    told_stop : (stop : DifferenceFault) → IsStopped g free (moved_to ms free) target stop → IsTold M id_of_total answer (Err stop)
+    told_stop (Node node fault) h =
         let f = has_failure after given' (moved_to ms free) assigned' h.0 h.1 node.0 fault h.2 in
-        inl (f.failure.place, f.place, answer_is ∙ ap (λ r. difference r (value_of users M a whole)) f.value ∙ ap (λ e. Err (Fault f.failure.place e)) f.fault)
-    told_refusal (Node node fault) (inr h) = inr (h.0, from_numbers h.1 h.2 h.3 ∙ ap answer_of h.4)
-    told_refusal NoMemory h = tt
+        (f.failure.place, f.place, answer_is ∙ ap (λ r. difference r (value_of users M a whole)) f.value ∙ ap (λ e. Err (Fault f.failure.place e)) f.fault)
+    told_stop (Difference fault) h = from_numbers h.0 h.1 h.2 ∙ ap answer_of h.3
+    told_stop NoMemory h = tt
 
-    pub told : (result : Result ℤ TrialFault) → IfOk result (λ d. IsDifference g free (moved_to ms free) target d) → IfErr result (λ stop. IsRefusal g free (moved_to ms free) target stop) → IsTold M id_of_total target answer result
+    pub told : (result : Result ℤ DifferenceFault) → IfOk result (λ d. IsDifference g free (moved_to ms free) target d) → IfErr result (λ stop. IsStopped g free (moved_to ms free) target stop) → IsTold M id_of_total answer result
     told (Ok d) ok err = told_difference d ok
-    told (Err stop) ok err = told_refusal stop err
+    told (Err stop) ok err = told_stop stop err
