@@ -36,7 +36,8 @@ use Rattle.term_model.specs.declared.model.Model.{Model}
 use Rattle.term_model.specs.declared.term.Term.{Term}
 use Rattle.term_model.specs.declared.term.Term.TheOpen.{Term-F}
 use Rattle.term_model.specs.declared.term.Term.TheFolds.{map-Term}
-use Rattle.term_model.specs.declared.term.Term.TheViews.{Node, out-Term}
+use Rattle.term_model.specs.declared.term.Term.TheViews.{Node, out-Term, out-roll-Term}
+use Rattle.term_model.specs.declared.term.Term.TheVariants.{rolls-Node}
 use Rattle.term_model.proofs.EqualTerms.{same_out, same_term_equiv}
 use Rattle.term_model.proofs.OperationLaws.{same_is_equal}
 use Rattle.solver_store.specs.Reads.{is_held, violation_there}
@@ -80,6 +81,10 @@ all_alike ts (u ∷ us) (v ∷ vs) h known =
     let same = and_parts (same_term u v) (all_pass (map same_term us) vs) h in
     let parts = and_parts (is_known ts v) (list_all (is_known ts) vs) known in
     both (is_known ts u) (list_all (is_known ts) us) (known_alike ts u v same.0 parts.0) (all_alike ts us vs same.1 parts.1)
+
+-- the layer of an operation
+pub layer_of_node : (t : Term) (op : Op) (args : Vec Term Global) (place : Place) → t ≡ Node op args place → out-Term t ≡ Term-F.Node op args place
+layer_of_node t op args place e = ap out-Term (e ∙ sym (rolls-Node op args place)) ∙ out-roll-Term (Term-F.Node op args place)
 
 -- an operation that is equal to a term: the term is the same operation, of arguments that are equal one by one
 pub record IsAlso (op : Op) (args : List Term) (u : Term) : Type 0 where
@@ -149,7 +154,7 @@ module _ (M : Model) (formed : IsWellFormed M) where
 
   -- its arguments are held
   pub arguments_held : (t : Term) (op : Op) (args : Vec Term Global) (place : Place) → t ≡ Node op args place → is_held M t ≡ true → All (λ u. is_held M u ≡ true) args.items
-  arguments_held t op args place e h = each_held args.items (args_known t op args place (ap out-Term e) h) (args_kinded t op args place (ap out-Term e) h)
+  arguments_held t op args place e h = each_held args.items (args_known t op args place (layer_of_node t op args place e) h) (args_kinded t op args place (layer_of_node t op args place e) h)
 
   -- ---- in a graph that holds the model's terms, whose ids all have values
   module _ (users : ℕ → NumberRule) (a : List ℤ) (acyclic : IsAcyclic M) (long : length a ≡ length M.vars.items) (g : Graph) (holds : HoldsTerms users M g) (x : ℕ → Input)
@@ -182,7 +187,7 @@ module _ (M : Model) (formed : IsWellFormed M) where
     pub held_violation : (t : Term) (op : Op) (args : Vec Term Global) (place : Place) (xs : List Input) (p : ℕ) → t ≡ Node op args place → is_held M t ≡ true → gathered (map (outcome_of users env) args.items) ≡ Some xs → p < length xs →
         (n : IsNodeAt t op args.items) × (violation_there (Some (rule_of users op)) (map x (inputs_of_node M (Some n.u))) p ≡ (rule_of users op).violation_at xs p)
     held_violation t op args place xs p e h values lt =
-        let out : out-Term t ≡ Term-F.Node op args place = ap out-Term e in
+        let out : out-Term t ≡ Term-F.Node op args place = layer_of_node t op args place e in
         let n = node_at t op args place out h in
         let same : map x (inputs_of_node M (Some n.u)) ≡ xs =
         ap (map x) (sym (inputs_alike M t n.u n.same) ∙ ap (λ y. map (id_of M) (arguments_of y)) out) ∙ args_values t op args place xs out h values in
