@@ -1,6 +1,6 @@
 -- What a trial over a graph that holds a model tells of a system or an objective, and what the model says of it. A rule
 -- of this project.
-use Rattle.std.specs.Prelude.{◌≡◌, ◌≢◌, ◌⊎◌, ℕ, ℤ, ◌<◌, true, false, List, [], ◌∷◌, Result, Ok, Err, slice_index_or, pos}
+use Rattle.std.specs.Prelude.{◌≡◌, ◌≢◌, ◌⊎◌, ℕ, ℤ, ◌<◌, ◌≤◌, true, false, List, [], ◌∷◌, Result, Ok, Err, slice_index_or, pos}
 use Rattle.cbl_base.specs.NumberRule.{NumberRule}
 use Rattle.cbl_base.specs.declared.faults.RunFault.{RunFault}
 use Rattle.cbl_base.specs.declared.ids.VarId.{VarId}
@@ -47,7 +47,7 @@ IsMoveOf a (Swap left right) ms =
 -- one of the difference
 abbrev pub IsTold : Model → (Whole → ℕ) → Result ℤ AskStop → Result ℤ DifferenceFault → Type 0
 IsTold M id_of_total answer (Ok d) = answer ≡ Ok d
-IsTold M id_of_total answer (Err (Node node fault)) = (place : Place) × IsAt M id_of_total node.0 place × (answer ≡ Err (Fault place fault))
+IsTold M id_of_total answer (Err (Node node fault)) = (cells_of M ≤ node.0) × (place : Place) × IsAt M id_of_total node.0 place × (answer ≡ Err (Fault place fault))
 IsTold M id_of_total answer (Err (Difference fault)) = answer ≡ Err (Run fault)
 IsTold M id_of_total answer (Err NoMemory) = Unit {0}
 
