@@ -1,5 +1,6 @@
 -- The changes of all ids of a store, cut to the variables, are those between the variables' values.
-use Rattle.std.proofs.Common.{◌≡◌, ℕ, ℤ, zero, suc, ◌+◌, ◌-◌, ◌<◌, ◌≤◌, Bool, true, false, cond, not, List, [], ◌∷◌, Option, Some, None, length, nat_lt, refl, sym, ap, ◌∙◌, subst, arith, slice_get}
+use Rattle.std.proofs.Common.{◌≡◌, ℕ, ℤ, zero, suc, ◌+◌, ◌-◌, ◌<◌, ◌≤◌, Bool, true, false, cond, not, List, [], ◌∷◌, Option, Some, None, length, nat_lt, refl, sym, ap, ◌∙◌, subst, arith, slice_get, true≢false}
+use Rattle.std.proofs.lemmas.Bool.Decides.{Decides-int_eq}
 use Rattle.std.specs.Prelude.{filter_map, if◌then◌else◌}
 use Rattle.std.specs.List.{cons_option, range_with_len}
 use Rattle.std.specs.Ordering.{int_eq}
@@ -29,23 +30,27 @@ lt_false m n le = by (nat_lt m n) refl
 
 -- what isn't another makes no change
 no_change : (x : VarId) (old new : Input) → differs (Value new) old ≡ false → change_between x (Some old) (Some new) ≡ None
-no_change x (Int a) (Int b) e = by a b (int_eq a b) refl e
+no_change x (Int a) (Int b) e = by (int_eq a b) refl
   where
-    by : (a b : ℤ) (t : Bool) → int_eq a b ≡ t → not (int_eq b a) ≡ false → (if int_eq a b then None else Some (record { var = x; old = a; new = b })) ≡ None
-    by a b true is e = ap (λ t. if t then None else Some (record { var = x; old = a; new = b })) is
-    by a b false is e = absurd (apart a b is e)
-      where
-        apart : (a b : ℤ) → int_eq a b ≡ false → not (int_eq b a) ≡ false → ⊥
-        apart a b is e = grind (is, e)
+    equal : (t : Bool) → not t ≡ false → t ≡ true
+    equal true h = refl
+    equal false h = let c : true ≡ false = h in cc
+
+    apart : (a b : ℤ) → int_eq a b ≡ false → not (int_eq b a) ≡ false → ⊥
+    apart a b is e = true≢false (sym ((Decides-int_eq a b).1 (sym ((Decides-int_eq b a).0 (equal (int_eq b a) e)))) ∙ is)
+
+    changed : Bool → Option VarChange
+    changed t = if t then None else Some (record { var = x; old = a; new = b })
+
+    by : (t : Bool) → int_eq a b ≡ t → change_between x (Some (Int a)) (Some (Int b)) ≡ None
+    by true is = ap changed is
+    by false is = absurd (apart a b is e)
 no_change x (Int a) (Set s) e = refl
 no_change x (Set s) new e = refl
 
 module _ (solver count : ℕ) where
   abbrev cut : List NodeChange → List VarChange
   cut = variable_changes solver count
-
-  var : ℕ → VarId
-  var i = record { solver = solver; index = i }
 
   -- the first one
   here : (id : ℕ) (x y : Input) (rest : List NodeChange) → id < count
@@ -64,17 +69,14 @@ module _ (solver count : ℕ) where
   past : (id : ℕ) (olds news : List Input) → count ≤ id → cut (changes_between id olds news) ≡ []
   past id [] news le = refl
   past id (x ∷ xs) [] le = refl
-  past id (x ∷ xs) (y ∷ ys) le = by (differs (Value y) x) refl
+  past id (x ∷ xs) (y ∷ ys) le = by (differs (Value y) x) refl (past (suc id) xs ys (omega (arith, le)))
     where
-      later : cut (changes_between (suc id) xs ys) ≡ []
-      later = past (suc id) xs ys (omega (arith, le))
-
-      by : (b : Bool) → differs (Value y) x ≡ b → cut (changes_between id (x ∷ xs) (y ∷ ys)) ≡ []
-      by true e =
+      by : (b : Bool) → differs (Value y) x ≡ b → cut (changes_between (suc id) xs ys) ≡ [] → cut (changes_between id (x ∷ xs) (y ∷ ys)) ≡ []
+      by true e later =
           ap (λ t. cut (cond t (changed_at id x y ∷ changes_between (suc id) xs ys) (changes_between (suc id) xs ys))) e
           ∙ ap (λ t. cons_option (if t then change_between (record { solver = solver; index = id }) (Some x) (Some y) else None) (cut (changes_between (suc id) xs ys))) (lt_false id count le)
           ∙ later
-      by false e = ap (λ t. cut (cond t (changed_at id x y ∷ changes_between (suc id) xs ys) (changes_between (suc id) xs ys))) e ∙ later
+      by false e later = ap (λ t. cut (cond t (changed_at id x y ∷ changes_between (suc id) xs ys) (changes_between (suc id) xs ys))) e ∙ later
 
   -- between lists that begin at an id
   abbrev at : ℕ → List Input → List Input → ℕ → Option VarChange

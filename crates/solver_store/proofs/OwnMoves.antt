@@ -147,35 +147,29 @@ module _ (s : SolverState) where
 
   below : (n a i : ℕ) (values : List ℤ) → i < a → is_moved (given (filter free (range_with_len a n)) values) i ≡ false
   below zero a i values lt = refl
-  below (suc n) a i values lt = by (free a) values
+  below (suc n) a i values lt = by (free a) values (λ vs. below n (a + 1) i vs (omega (arith, lt)))
     where
-      rest : List ℕ
-      rest = filter free (range_with_len (a + 1) n)
+      apart : (b : Bool) → nat_eq a i ≡ b → nat_eq a i ≡ false
+      apart true e = let same = eqb-true a i e in absurd (omega (arith, same, lt))
+      apart false e = e
 
-      other : nat_eq a i ≡ false
-      other = cases (nat_eq a i) refl
-        where
-          cases : (b : Bool) → nat_eq a i ≡ b → nat_eq a i ≡ false
-          cases true e = let same = eqb-true a i e in absurd (omega (arith, same, lt))
-          cases false e = e
-
-      by : (b : Bool) (values : List ℤ) → is_moved (given (from b a (filter free (range_with_len (a + 1) n))) values) i ≡ false
-      by true [] = refl
-      by true (v ∷ values) = ap (λ b. b || is_moved (given (filter free (range_with_len (a + 1) n)) values) i) other ∙ below n (a + 1) i values (omega (arith, lt))
-      by false values = below n (a + 1) i values (omega (arith, lt))
+      by : (b : Bool) (values : List ℤ) → ((vs : List ℤ) → is_moved (given (filter free (range_with_len (a + 1) n)) vs) i ≡ false) → is_moved (given (from b a (filter free (range_with_len (a + 1) n))) values) i ≡ false
+      by true [] later = refl
+      by true (v ∷ values) later = ap (λ b. b || is_moved (given (filter free (range_with_len (a + 1) n)) values) i) (apart (nat_eq a i) refl) ∙ later values
+      by false values later = later values
 
   restored : (n a : ℕ) (values : List ℤ) → a + n ≤ variables_of s.model → AreFree s.model (given (filter free (range_with_len a n)) values)
   restored zero a values le = tt
-  restored (suc n) a values le = by (free a) refl values
+  restored (suc n) a values le = by (free a) refl values (λ vs. restored n (a + 1) vs (omega (arith, le)))
     where
       not_defined : (o : Option ℕ) → not (is_some o) ≡ true → o ≡ None
       not_defined None h = refl
       not_defined (Some d) h = let c : false ≡ true = h in cc
 
-      by : (b : Bool) → free a ≡ b → (values : List ℤ) → AreFree s.model (given (from b a (filter free (range_with_len (a + 1) n))) values)
-      by true e [] = tt
-      by true e (v ∷ values) = (omega (arith, le), not_defined (definition_of s.model a) e, below n (a + 1) a values (omega arith), restored n (a + 1) values (omega (arith, le)))
-      by false e values = restored n (a + 1) values (omega (arith, le))
+      by : (b : Bool) → free a ≡ b → (values : List ℤ) → ((vs : List ℤ) → AreFree s.model (given (filter free (range_with_len (a + 1) n)) vs)) → AreFree s.model (given (from b a (filter free (range_with_len (a + 1) n))) values)
+      by true e [] later = tt
+      by true e (v ∷ values) later = (omega (arith, le), not_defined (definition_of s.model a) e, below n (a + 1) a values (omega arith), later values)
+      by false e values later = later values
 
   pub free_restored : (values : List ℤ) → AreFree s.model (moves_to s values)
   free_restored values = restored (length s.model.vars.items) 0 values (omega arith)

@@ -21,6 +21,10 @@ rule_of_user M given number = rule_there (slice_get given (place_where (is_user 
 abbrev pub kept_rules : Model → List Rule → List KeptRule
 kept_rules M given = map (rule_of_user M given) (range_with_len 0 (length (users_posted M M.posted.items)))
 
+-- the same of nodes that wait for closing, by number
+abbrev pub waiting_rules : {N : Type 0} → (N → Rule) → List N → List KeptRule
+waiting_rules rule nodes = map (λ n. kept_of (rule n)) nodes
+
 -- what is kept of a rule lasts: the node that has it tells the same
 abbrev pub Lasts : KeptRule → Type 0
 Lasts rule = kept_of (user_node_rule rule) ≡ rule
