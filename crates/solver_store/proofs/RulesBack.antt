@@ -1,5 +1,5 @@
 -- What is kept of the rules of a closed solver's nodes is what was kept of the users' constraints.
-use Rattle.std.proofs.Common.{◌≡◌, ℕ, ◌+◌, ◌-◌, ◌<◌, ◌≤◌, Bool, true, false, ◌||◌, List, [], ◌∷◌, map, All, length, Option, Some, None, get_or, refl, sym, ap, ◌∙◌, subst, slice_get, arith}
+use Rattle.std.proofs.Common.{◌≡◌, ℕ, ◌+◌, ◌-◌, ◌<◌, Bool, true, false, ◌||◌, List, [], ◌∷◌, map, All, length, Option, Some, None, get_or, refl, sym, ap, ◌∙◌, subst, slice_get, arith}
 use Rattle.std.specs.Prelude.{nat_eq, unwrap_or}
 use Rattle.std.specs.List.{list_any, range_with_len}
 use Rattle.std.proofs.lemmas.Bool.{eqb-true, lt-ltb}
@@ -26,7 +26,7 @@ use Rattle.term_model.specs.declared.model.Model.{Model}
 use Rattle.term_model.specs.declared.term.Term.{Term}
 use Rattle.term_model.specs.declared.term.Term.TheOpen.{Term-F}
 use Rattle.term_model.specs.declared.term.Term.TheViews.{out-Term}
-use Rattle.solver_store.specs.Closed.{AreRules}
+use Rattle.solver_store.specs.NodeRules.{AreRules}
 use Rattle.solver_store.specs.KeptRules.{Lasts, kept_rules, rule_of_user, rule_there}
 use Rattle.solver_store.specs.UserTerms.{is_user, own_by, place_where}
 use Rattle.solver_store.proofs.UserPlaces.{user_placed}
