@@ -46,7 +46,7 @@ module _ {N : Type 0} (rule : N → Rule) (held : N → List Input) (ready : N �
   pub var_kind : HasDefinedSets setting.model → (i : ℕ) (kind : InputKind) → i < variables_of setting.model → kinds_in setting.model.vars.items i ≡ Some kind → kind_of (value_at s i) ≡ kind
   var_kind sets i kind lt e =
       sym (some_same kind (kind_of (value_at s i))
-      (sym e ∙ variables_kinded setting.viol_of setting.viol_at setting.model setting.assignment is.given.formed is.given.acyclic is.given.long sets i (value_at s i) (var_value i lt)))
+      (sym e ∙ variables_kinded (users_in setting) setting.model setting.assignment is.given.formed sets is.given.long i (value_at s i) (var_value i lt)))
 
   -- ---- totals
   module _ (whole : Whole) (own : IsOf setting.model whole) where

@@ -1,7 +1,6 @@
 -- What is read of a store of a model for the shares of a variable is what these ask for.
 use Rattle.std.proofs.Common.{◌≡◌, ℕ, ℤ, pos, ◌+◌, ◌-◌, ◌<◌, ◌≤◌, All, Bool, true, false, cond, nat_lt, List, [], ◌∷◌, map, length, Option, Some, None, Result, Ok, Err, Vec, Global, refl, sym, ap, ◌∙◌, subst, slice_get, arith}
 use Rattle.std.specs.Prelude.{IsOk, unwrap_or}
-use Rattle.std.proofs.lemmas.Bool.{and_parts}
 use Rattle.std.proofs.lemmas.Option.{slice_get_within}
 use Rattle.cbl_base.specs.Inputs.{number_of}
 use Rattle.cbl_base.specs.NodeLaw.{Rule}
@@ -11,9 +10,8 @@ use Rattle.cbl_base.specs.declared.input.Input.{Input}
 use Rattle.cbl_base.specs.declared.place.Place.{Place}
 use Rattle.cbl_operations.specs.RuleOf.{rule_of}
 use Rattle.cbl_operations.specs.declared.op.Op.{Op}
-use Rattle.graph_values.specs.Graphs.{count_of as terms_end, id_of, inputs_of, inputs_of_node}
+use Rattle.graph_values.specs.Graphs.{count_of as terms_end, id_of, inputs_of_cell, inputs_of_node, term_at, term_defined}
 use Rattle.graph_values.specs.Members.{cells_of}
-use Rattle.graph_values.specs.WholeGraphs.{inputs_in_whole}
 use Rattle.inc_store.specs.Views.{first_of, graph_in, inputs_at, rules_in, value_at}
 use Rattle.inc_store.specs.declared.store.Store.{Store}
 use Rattle.model_nodes.specs.WholeNodes.{rule_by}
@@ -21,8 +19,7 @@ use Rattle.model_store.specs.ModelStores.{IsStoreOf}
 use Rattle.model_store.specs.Settings.{Setting, users_in}
 use Rattle.model_values.specs.Outcomes.{gathered, outcome_of}
 use Rattle.model_values.specs.VarOutcomes.{outcome_of_var}
-use Rattle.store_build.proofs.GatherLemmas.{before_first, past_first}
-use Rattle.store_laws.specs.ModelTouch.{IsWhole, many_nodes}
+use Rattle.store_build.proofs.GatherLemmas.{past_first}
 use Rattle.store_shares.specs.Telling.{AreReads}
 use Rattle.store_turns.specs.declared.outcome.Outcome.TheVariants.{Value}
 use Rattle.term_model.specs.Subterms.{distinct_subterms}
@@ -36,7 +33,7 @@ use Rattle.solver_store.proofs.ClosedReads.{meaning}
 use Rattle.solver_store.proofs.HeldTerms.{IsNodeAt, arguments_held, held_value, held_violation}
 use Rattle.solver_store.proofs.RulesBack.{there}
 
-module _ {N : Type 0} (rule : N → Rule) (held : N → List Input) (ready : N → Type 0) (setting : Setting) (s : Store N) (is : IsStoreOf rule held ready setting s) (whole : IsWhole (users_in setting) setting.model (graph_in rule s)) (rules : AreRules (users_in setting) setting.model (rules_in rule s)) where
+module _ {N : Type 0} (rule : N → Rule) (held : N → List Input) (ready : N → Type 0) (setting : Setting) (s : Store N) (is : IsStoreOf rule held ready setting s) (rules : AreRules (users_in setting) setting.model (rules_in rule s)) where
   abbrev M : Model
   M = setting.model
 
@@ -57,17 +54,10 @@ module _ {N : Type 0} (rule : N → Rule) (held : N → List Input) (ready : N �
   inputs_there : (k : ℕ) (u : Term) → slice_get (distinct_subterms M) k ≡ Some u → inputs_at s (cells_of M + k) ≡ inputs_of_node M (Some u)
   inputs_there k u at =
       let lt = slice_get_within (distinct_subterms M) k u at in
-      let low : cells_of M + k < (graph_in rule s).size = (let size = whole.size in omega (arith, lt, size)) in
-      whole.inputs (cells_of M + k) low
-      ∙ in_terms
-      ∙ ap (λ b. cond b (inputs_of M (cells_of M + k)) (inputs_of M (cells_of M + k))) (refl {a = true})
-      ∙ node_inputs
-    where
-      in_terms : inputs_in_whole M (cells_of M + k) ≡ inputs_of M (cells_of M + k)
-      in_terms = ?
-
-      node_inputs : inputs_of M (cells_of M + k) ≡ inputs_of_node M (Some u)
-      node_inputs = ?
+      let below : cells_of M + k < terms_end M = omega (arith, lt) in
+      is.holds.terms.inputs (cells_of M + k) below
+      ∙ ap (λ b. cond b (inputs_of_cell M (term_defined M (cells_of M + k))) (inputs_of_node M (term_at M (cells_of M + k)))) (past_first (cells_of M + k) (cells_of M) (omega arith))
+      ∙ ap (inputs_of_node M) (ap (slice_get (distinct_subterms M)) (let z : (cells_of M + k) - cells_of M ≡ k = omega arith in z) ∙ at)
 
   pub are_reads : AreReads users (outcome_of_var users M setting.assignment) (id_of M) (is_held M) (record { number = number_in s; violation = violation_in rule s })
   are_reads = record {

@@ -1,5 +1,5 @@
 //! A model is closed.
-ghost use Rattle.std.specs.Prelude.{◌≡◌, Err, IfErr, IfOk, Ok, length};
+ghost use Rattle.std.specs.Prelude.{◌≡◌, ◌<◌, ◌^◌, Err, IfErr, IfOk, length};
 ghost use Rattle.std.specs.List.{All};
 ghost use Rattle.graph_values.specs.Outcomes.{IsGiven};
 ghost use Rattle.inc_store.specs.Views.{rules_in};
@@ -38,6 +38,7 @@ pub fn close<N: SolverNode>(
     users: Vec<N>,
 ) -> Result<Closed<N>, ModelStop>
     requires given { IsGiven model.now assignment.now }
+    requires few { length model.now.vars.items < 2 ^ 32 }
     requires sets { HasDefinedSets model.now }
     requires rules { All (λ n. IsUserRule (N.rule n)) users.items }
     requires posted { length users.items ≡

@@ -5,6 +5,7 @@ ghost use Rattle.cbl_base.specs.declared.input.Input.TheVariants.{Int, Set};
 ghost use Rattle.graph_values.specs.WholeGraphs.{total_id};
 ghost use Rattle.inc_store.specs.Views.{IsUsable, count_of, value_at};
 ghost use Rattle.model_values.specs.Fresh.{whole_by};
+ghost use Rattle.solver_store.specs.Asking.{target_of};
 ghost use Rattle.store_laws.specs.ModelTouch.{many_nodes};
 ghost use Rattle.term_model.specs.Posting.{totals_by};
 
@@ -73,7 +74,7 @@ impl<N: NodeRule> Closed<N> {
     }
 
     /// The id of the total of a system or an objective.
-    pub fn total(&self, model: &Model, side: Side, index: u32) -> u32
+    pub fn total_id(&self, model: &Model, side: Side, index: u32) -> u32
         requires placed { length self.now.places.items ≡ many_nodes model.now }
         requires small { length self.now.places.items < 4294967296 }
         requires there { index < length (totals_by model.now side) }
@@ -84,6 +85,21 @@ impl<N: NodeRule> Closed<N> {
         match side {
             Side::Objectives => objectives + index,
             Side::Systems => first_of(objectives, model.systems.len()) + index,
+        }
+    }
+
+    /// At which id a system or an objective is asked: at a system's total, or the node that repeats an objective's.
+    pub(crate) fn target(&self, model: &Model, side: Side, index: u32) -> u32
+        requires placed { length self.now.places.items ≡ many_nodes model.now }
+        requires small { length self.now.places.items < 4294967296 }
+        requires there { index < length (totals_by model.now side) }
+        ensures { result ≡ target_of model.now side index }
+    {
+        match side {
+            Side::Systems => self.total_id(model, side, index),
+            Side::Objectives => {
+                first_of(self.places.len() as u32, model.objectives.len()) + index
+            }
         }
     }
 }
