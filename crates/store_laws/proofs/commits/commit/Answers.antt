@@ -14,4 +14,4 @@ returns-clause-steps g c =
 pub returns-clause-whole : goal.returns-clause-whole
 returns-clause-whole g c =
     on_ok_weaker c.commit.result
-    (λ keeps. subst (λ (graph : Graph). IsWhole (users_in g.setting) g.setting.model graph) (sym (same_graph g.N.NodeRule.rule c.args.store.now c.commit.new.store keeps)) c.requires.1.1.1.1) c.commit.ensures.nodes
+    (λ keeps. subst (λ (graph : Graph). IsWhole (users_in g.setting) g.setting.model graph) (sym (same_graph g.N.NodeRule.rule c.args.store.now c.commit.new.store keeps)) c.requires.1.1.1.1.1) c.commit.ensures.nodes
