@@ -73,11 +73,10 @@ pub(crate) fn put_place<N: SolverNode>(
 
 impl<N: SolverNode> Solver<N> {
     /// The number of the next user's constraint.
-    #[tactic(auto, using(crate::proofs::UserLaws::rules_count))]
     pub(crate) fn next_user(&self) -> Result<u32, NoMemory>
         ensures { IfOk result (λ number. number ≡ length self.now.rules) }
     {
-        let count = self.users.posted.len();
+        let count = self.waiting.len();
         if count > u32::MAX as usize {
             return Err(NoMemory);
         }

@@ -1,0 +1,10 @@
+pub mod ChangesCut
+pub mod ClosedReads
+pub mod Closing
+pub mod HeldTerms
+pub mod OwnMoves
+pub mod RulesBack
+pub mod SharesRead
+pub mod Targets
+pub mod ToldLists
+pub mod UserPlaces
