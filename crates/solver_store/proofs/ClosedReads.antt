@@ -1,10 +1,10 @@
 -- What is read of a store of a model: the fresh values of its variables, systems and objectives.
 use Rattle.std.proofs.Common.{◌≡◌, ℕ, ℤ, ◌+◌, ◌<◌, ◌≤◌, List, map, length, Option, Some, None, Result, Ok, Err, inl, inr, refl, sym, ap, ◌∙◌, subst, arith}
 use Rattle.std.specs.Prelude.{unwrap_or}
-use Rattle.cbl_base.specs.Inputs.{InputKind, kind_of, number_kind, number_of}
+use Rattle.cbl_base.specs.Inputs.{InputKind, kind_of, number_kind, number_of, set_kind}
 use Rattle.cbl_base.specs.NodeLaw.{Rule}
 use Rattle.cbl_base.specs.declared.input.Input.{Input}
-use Rattle.cbl_base.specs.declared.input.Input.TheVariants.{Int}
+use Rattle.cbl_base.specs.declared.input.Input.TheVariants.{Int, Set}
 use Rattle.graph_values.specs.Graphs.{count_of as terms_end}
 use Rattle.graph_values.specs.Members.{cells_of, numbers_of, variables_of}
 use Rattle.graph_values.proofs.ModelTotals.{vars_held}
@@ -26,10 +26,13 @@ use Rattle.store_turns.specs.Meaning.{IsMeaning}
 use Rattle.store_turns.specs.declared.outcome.Outcome.TheVariants.{Value}
 use Rattle.term_model.specs.Kinds.{kinds_in}
 use Rattle.term_model.specs.Wellformed.{HasDefinedSets}
-use Rattle.trial.proofs.Finish.{as_number}
 
 some_same : {X : Type 0} (x y : X) → Some x ≡ Some y → x ≡ y
 some_same x y e = ap (λ o. unwrap_or o x) e
+
+pub as_number : (x : Input) → kind_of x ≡ number_kind → x ≡ Int (number_of x)
+as_number (Int z) e = refl
+as_number (Set s) e = let c : set_kind ≡ number_kind = e in cc
 
 module _ {N : Type 0} (rule : N → Rule) (held : N → List Input) (ready : N → Type 0) (setting : Setting) (s : Store N) (is : IsStoreOf rule held ready setting s) where
   -- the values are what the model's graph means

@@ -8,3 +8,5 @@ pub mod SharesRead
 pub mod Targets
 pub mod ToldLists
 pub mod UserPlaces
+pub mod ModelIds
+pub mod KnownMembers
