@@ -10,3 +10,4 @@ pub mod ToldLists
 pub mod UserPlaces
 pub mod ModelIds
 pub mod KnownMembers
+pub mod CommitLaws
