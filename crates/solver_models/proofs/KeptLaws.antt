@@ -202,7 +202,7 @@ kept_unusable M a after marks rules counted closed usable long kept = record {
   assigned = long ∙ kept.assigned;
   marked = kept.marked;
   terms = kept.terms;
-  posted = kept.posted;
+  posted = λ can. open_ false refl can;
   closable = kept.closable;
 }
 

@@ -9,14 +9,9 @@ use Rattle.cbl_base.specs.declared.input.Input.TheVariants.{Int, Set}
 use Rattle.cbl_base.specs.declared.faults.RunFault.TheVariants.{NotClosed, WrongSolver}
 use Rattle.cbl_base.specs.declared.ids.VarId.{VarId}
 use Rattle.solver_models.specs.Ids.{has_definition, is_given, is_own}
-use Rattle.solver_models.specs.Kept.{AreFresh, IsKept}
 use Rattle.solver_models.specs.Reading.{fresh_value, set_refusal, value_refusal}
 use Rattle.solver_models.specs.State.{SolverState}
-use Rattle.solver_models.proofs.FreshLaws.{variables_there}
-use Rattle.solver_models.proofs.ListLaws.{slice_within}
-use Rattle.model_values.specs.Fresh.{Fresh}
 use Rattle.model_values.specs.VarOutcomes.{outcome_by, outcome_of_var, outcomes_through}
-use Rattle.term_count.specs.declared.subterms.Subterms.{Subterms}
 use Rattle.term_model.specs.Definitions.{definition_of}
 use Rattle.term_model.specs.Kinds.{kinds_in}
 use Rattle.term_model.specs.declared.model.Model.{Model}

@@ -4,22 +4,15 @@ use Rattle.std.specs.Prelude.{not, unwrap_or, if◌then◌else◌}
 use Rattle.std.specs.List.{list_all}
 use Rattle.cbl_base.specs.declared.faults.RunFault.TheVariants.{NotClosed, WrongSolver}
 use Rattle.cbl_base.specs.declared.ids.VarId.{VarId}
-use Rattle.model_values.specs.Delta.{value_of}
-use Rattle.model_values.specs.Fresh.{Fresh, whole_by}
-use Rattle.model_values.specs.declared.failure.Failure.{Failure}
 use Rattle.solver_models.specs.Ids.{is_own}
-use Rattle.solver_models.specs.Kept.{IsKept, totals_in}
 use Rattle.solver_models.specs.Replying.{fresh_total, read_refusal, reply_refusal}
 use Rattle.solver_models.specs.State.{SolverState}
 use Rattle.solver_models.specs.Totals.{is_own_total}
 use Rattle.solver_models.specs.declared.totals.TotalId.{TotalId}
 use Rattle.solver_models.proofs.AddLaws.{total_within}
-use Rattle.solver_models.proofs.FreshLaws.{totals_there}
 use Rattle.solver_models.proofs.ReadLaws.{given_within}
-use Rattle.term_count.specs.declared.subterms.Subterms.{Subterms}
 use Rattle.term_model.specs.Posting.{totals_by}
 use Rattle.term_model.specs.declared.model.Model.{Model}
-use Rattle.term_model.proofs.UsableLaws.{less_there}
 use Rattle.posted_users.specs.KeptRule.{KeptRule, users_of}
 
 both_true : (a b : Bool) → (a && b) ≡ true → (a ≡ true) × (b ≡ true)
