@@ -1,15 +1,17 @@
 -- What a solver holds while it is open, once it is closed, and after a commit.
-use Rattle.std.proofs.Common.{◌≡◌, ℕ, ℤ, ◌<◌, All, Bool, true, false, List, [], Option, Some, None, is_some, length, refl, sym, ap, ◌∙◌, subst, true≢false}
+use Rattle.std.proofs.Common.{◌≡◌, ℕ, ℤ, ◌<◌, All, Bool, true, false, List, [], ◌∷◌, ◌++◌, Option, Some, None, is_some, length, refl, sym, ap, ◌∙◌, subst, true≢false}
+use Rattle.std.proofs.lemmas.List.Elements.{All-nil, All-cons, All-head, All-tail}
 use Rattle.cbl_base.specs.NodeLaw.{Rule}
 use Rattle.cbl_base.specs.declared.ids.VarId.{VarId}
 use Rattle.cbl_base.specs.declared.input.Input.{Input}
 use Rattle.inc_store.specs.Views.{rules_in}
 use Rattle.model_store.specs.Settings.{after, numbers_after}
-use Rattle.posted_users.specs.KeptOf.{IsUserRule}
+use Rattle.posted_users.specs.KeptOf.{IsUserRule, kept_of}
 use Rattle.posted_users.specs.KeptRule.{KeptRule}
 use Rattle.solver_models.specs.Kept.{IsClosable, IsKept}
 use Rattle.solver_models.specs.Moves.{after_moves}
 use Rattle.solver_models.proofs.ChangeLaws.{moves_length}
+use Rattle.solver_models.proofs.ListLaws.{map_push}
 use Rattle.solver_models.proofs.KeptLaws.{kept_closed, kept_lost}
 use Rattle.solver_store.specs.Closed.{IsClosed, setting_of}
 use Rattle.solver_store.specs.FreeMoves.{AreFree}
@@ -18,7 +20,7 @@ use Rattle.solver_store.specs.declared.closed.Closed.{Closed}
 use Rattle.solver_store.proofs.OwnMoves.{numbers_same}
 use Rattle.term_count.specs.declared.subterms.Subterms.{Subterms}
 use Rattle.term_model.specs.declared.model.Model.{Model}
-use Rattle.ls_solver.specs.Solvers.{IsHeld, rules_seen}
+use Rattle.ls_solver.specs.Solvers.{AreWaiting, IsHeld, rules_seen}
 
 module _ {N : Type 0} (rule : N → Rule) (held : N → List Input) (ready : N → Type 0) where
   -- ---- an open solver
@@ -36,6 +38,27 @@ module _ {N : Type 0} (rule : N → Rule) (held : N → List Input) (ready : N �
   pub open_rules : (M : Model) (waiting : List N) (closed : Option (Closed N)) → is_some closed ≡ false → rules_seen rule M waiting closed ≡ waiting_rules rule waiting
   open_rules M waiting None e = refl
   open_rules M waiting (Some c) e = absurd (true≢false e)
+
+  -- what is kept of another model while it is open
+  pub held_from : (M N' : Model) (a : List ℤ) (marks : List Bool) (waiting : List N) (counted : Option Subterms) (closed : Option (Closed N)) (usable : Bool) → is_some closed ≡ false → IsKept N' a marks (rules_seen rule M waiting closed) counted (is_some closed) usable → AreWaiting rule waiting closed →
+      IsHeld rule held ready N' a marks waiting counted closed usable
+  held_from M N' a marks waiting counted None usable e kept waits = record { kept = kept; waits = waits; stands = tt }
+  held_from M N' a marks waiting counted (Some c) usable e kept waits = absurd (true≢false e)
+
+  all_push : (waiting : List N) (n : N) → All (λ m. IsUserRule (rule m)) waiting → IsUserRule (rule n) → All (λ m. IsUserRule (rule m)) (waiting ++ n ∷ [])
+  all_push [] n all is = All-cons (λ m. IsUserRule (rule m)) n [] is (All-nil (λ m. IsUserRule (rule m)))
+  all_push (m ∷ waiting) n all is =
+      All-cons (λ m. IsUserRule (rule m)) m (waiting ++ n ∷ []) (All-head (λ m. IsUserRule (rule m)) m waiting all) (all_push waiting n (All-tail (λ m. IsUserRule (rule m)) m waiting all) is)
+
+  -- the same with a node more
+  pub held_more : (M N' : Model) (a : List ℤ) (marks : List Bool) (waiting : List N) (n : N) (counted : Option Subterms) (closed : Option (Closed N)) (usable : Bool) → is_some closed ≡ false → IsUserRule (rule n) →
+      IsKept N' a marks (rules_seen rule M waiting closed ++ kept_of (rule n) ∷ []) counted (is_some closed) usable → AreWaiting rule waiting closed → IsHeld rule held ready N' a marks (waiting ++ n ∷ []) counted closed usable
+  held_more M N' a marks waiting n counted None usable e is kept waits = record {
+    kept = subst (λ rs. IsKept N' a marks rs counted false usable) (sym (map_push (λ m. kept_of (rule m)) waiting n)) kept;
+    waits = all_push waiting n waits is;
+    stands = tt;
+  }
+  held_more M N' a marks waiting n counted (Some c) usable e is kept waits = absurd (true≢false e)
 
   -- ---- once it is closed
   pub held_closed : (M : Model) (a : List ℤ) (marks : List Bool) (waiting : List N) (counted : Option Subterms) (c : Closed N) (usable : Bool) → IsClosed rule held ready (setting_of M a (waiting_rules rule waiting)) c → kept_rules M (rules_in rule c.store) ≡ waiting_rules rule waiting →

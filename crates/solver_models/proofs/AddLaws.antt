@@ -29,7 +29,7 @@ use Rattle.term_model.specs.declared.posting.Side.{Side}
 use Rattle.term_model.specs.declared.term.Term.{Term}
 use Rattle.posted_users.specs.KeptRule.{KeptRule}
 
-early_parts : (s : SolverState) (k : TotalId) (t : Term) (weight : ℤ) → early_member_refusal s k t weight ≡ None → (s.closed ≡ false) × (is_own_member s k t ≡ true)
+pub early_parts : (s : SolverState) (k : TotalId) (t : Term) (weight : ℤ) → early_member_refusal s k t weight ≡ None → (s.closed ≡ false) × (is_own_member s k t ≡ true)
 early_parts s k t weight e = by s.closed (is_own_member s k t) (int_lt weight (pos 0)) e
   where
     by : (closed own negative : Bool) → (if closed then Some AlreadyClosed else (if not own then Some WrongSolver else (if negative then Some OutOfRange else None))) ≡ None → (closed ≡ false) × (own ≡ true)

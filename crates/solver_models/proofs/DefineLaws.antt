@@ -23,7 +23,7 @@ use Rattle.term_model.specs.declared.model.Model.{Model}
 use Rattle.term_model.specs.declared.term.Term.{Term}
 use Rattle.posted_users.specs.KeptRule.{KeptRule}
 
-early_parts : (s : SolverState) (x : VarId) (t : Term) → early_refusal s x t ≡ None → (s.closed ≡ false) × (is_own_definition s x t ≡ true) × (has_definition s.model x.index ≡ false)
+pub early_parts : (s : SolverState) (x : VarId) (t : Term) → early_refusal s x t ≡ None → (s.closed ≡ false) × (is_own_definition s x t ≡ true) × (has_definition s.model x.index ≡ false)
 early_parts s x t e = by s.closed (is_own_definition s x t) (has_definition s.model x.index) e
   where
     by : (closed own defined : Bool) → (if closed then Some AlreadyClosed else (if not own then Some WrongSolver else (if defined then Some DefinedVariable else None))) ≡ None → (closed ≡ false) × (own ≡ true) × (defined ≡ false)
