@@ -11,3 +11,5 @@ pub mod UserPlaces
 pub mod ModelIds
 pub mod KnownMembers
 pub mod CommitLaws
+pub mod NodeValues
+pub mod ShareLaws

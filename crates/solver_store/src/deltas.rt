@@ -4,9 +4,9 @@ ghost use Rattle.graph_values.specs.WholeGraphs.{total_id};
 ghost use Rattle.inc_store.specs.Moves.{is_moved};
 ghost use Rattle.inc_store.specs.Views.{graph_in};
 ghost use Rattle.model_nodes.specs.Making.{ArePlaces};
-ghost use Rattle.model_store.specs.Settings.{Setting, users_in};
+ghost use Rattle.model_store.specs.Settings.{users_in};
 ghost use Rattle.model_values.specs.Asked.{IsAnswer};
-ghost use Rattle.model_values.specs.Delta.{delta_of, moved, moves_defined};
+ghost use Rattle.model_values.specs.Delta.{moved, moves_defined};
 ghost use Rattle.model_values.specs.Fresh.{whole_by};
 ghost use Rattle.model_values.specs.declared.asked.AskStop.{AskStop};
 ghost use Rattle.solver_store.specs.Asking.{cell, moves_by};
@@ -84,18 +84,20 @@ impl<N: NodeRule> Closed<N> {
         change: Move,
         steps: &mut Steps<L>,
     ) -> Result<i64, AskStop>
-        ghost setting: { Setting }
-        requires closed { IsClosed N.rule N.held N.ready setting self.now }
-        requires model { setting.model ≡ model.now }
-        requires assignment { setting.assignment ≡ assignment.now }
+        ghost question: { Question }
+        requires closed { IsClosed N.rule N.held N.ready question.setting self.now }
+        requires model { question.setting.model ≡ model.now }
+        requires assignment { question.setting.assignment ≡ assignment.now }
+        requires whole { question.whole ≡ whole_by side index }
+        requires change { question.change ≡ change }
         requires there { index < length (totals_by model.now side) }
         requires proper { IsProper model.now change }
         requires undefined { moves_defined model.now change ≡ false }
-        ensures answer { IsAnswer (delta_of (users_in setting) setting.model setting.assignment
-            (whole_by side index) change) result }
-        ensures steps { steps.new ≤ steps.old + 4 * model_touch (users_in setting) setting.model
-            setting.assignment setting.model (moved setting.assignment change)
-            (is_moved (moves_by setting.assignment change)) }
+        ensures answer { IsAnswer (delta_asked question) result }
+        ensures steps { steps.new ≤ steps.old + 4 * model_touch (users_in question.setting)
+            question.setting.model question.setting.assignment question.setting.model
+            (moved question.setting.assignment question.change)
+            (is_moved (moves_by question.setting.assignment question.change)) }
     {
         let target = self.target(model, side, index);
         match change {

@@ -1,4 +1,4 @@
-use Rattle.std.proofs.Common.{map, length, refl, sym, ◌∙◌}
+use Rattle.std.proofs.Common.{rules, map, length, refl, sym, ◌∙◌}
 use Rattle.std.proofs.lemmas.List.{length-map}
 use Rattle.inc_store.specs.Views.{rules_in}
 use Rattle.posted_users.specs.KeptOf.{kept_of}
@@ -7,8 +7,9 @@ use Rattle.solver_store.proofs.Closing.{all_last, user_nodes}
 use Rattle.solver_store.proofs.RulesBack.{rules_back}
 use Rattle.solver_store.proofs.closed.close.Goals as goal
 
-pub build-requires-clause-users : goal.build-requires-clause-users
-build-requires-clause-users g c = user_nodes g.N.NodeRule.rule c.args.users.items c.requires.rules
+pub build-requires : goal.build-requires
+build-requires g c κs within =
+    (search (rules, within), (refl, (refl, (refl, ((c.requires.given, c.requires.sets), (user_nodes g.N.NodeRule.rule c.args.users.items c.requires.rules, c.requires.posted))))))
 
 pub returns-clause-closed : goal.returns-clause-closed
 returns-clause-closed g c =
