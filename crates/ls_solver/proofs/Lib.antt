@@ -8,3 +8,4 @@ pub use Rattle.solver_models.proofs.ModelLaws
 pub use Rattle.solver_models.proofs.ReadLaws
 pub mod UserLaws
 pub mod OfSolverModels
+pub mod HeldLaws

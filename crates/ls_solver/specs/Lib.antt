@@ -17,3 +17,7 @@ pub use Rattle.solver_models.specs.Totals
 pub use Rattle.solver_models.specs.UserPosting
 pub mod OfSolverModels
 pub mod OfViolationShares
+pub mod OfSolverStore
+pub mod Solvers
+pub mod ClosedParts
+pub mod Touching

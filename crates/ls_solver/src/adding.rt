@@ -31,7 +31,7 @@ impl<N: SolverNode> Solver<N> {
     pub fn early_member_refusal(&self, k: TotalId, term: &Term, weight: i64) -> Option<RunFault>
         ensures { result ≡ early_member_refusal self.now k term.now weight }
     {
-        if self.closed {
+        if self.is_closed() {
             return Some(RunFault::AlreadyClosed);
         }
         if !self.owns_member(k, term) {

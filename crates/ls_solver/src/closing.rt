@@ -9,7 +9,9 @@ use crate::solver::Solver;
 use cbl_base::{NoMemory, RunFault};
 use model_values::ModelStop;
 use node_kinds::SolverNode;
-use solver_models::{cycle_of, settled_first};
+use solver_models::cycle_of;
+use solver_store::close;
+use std::mem;
 
 impl<N: SolverNode> Solver<N> {
     /// Closes the solver, and evaluates all. Refused with `AlreadyClosed`. `Cyclic` comes exactly where variables depend
@@ -23,7 +25,7 @@ impl<N: SolverNode> Solver<N> {
         requires sets { self.old.closed ≡ false → HasDefinedSets self.old.model }
         ensures { Closes self.old self.new result }
     {
-        if self.closed {
+        if self.is_closed() {
             return Err(SolverFault::Run(RunFault::AlreadyClosed));
         }
         match cycle_of(self.alloc, self.number, &self.model) {
@@ -44,10 +46,10 @@ impl<N: SolverNode> Solver<N> {
         requires acyclic { IsAcyclic self.old.model }
         ensures { Closes self.old self.new result }
     {
-        match settled_first(self.alloc, &mut self.users, &self.model, &self.assignment) {
-            Ok(values) => {
-                self.values = values;
-                self.closed = true;
+        let waiting = mem::replace(&mut self.waiting, Vec::new(self.alloc));
+        match close(self.alloc, &self.model, &self.assignment, waiting) {
+            Ok(closed) => {
+                self.closed = Some(closed);
                 Ok(())
             }
             Err(ModelStop::Fault(place, fault)) => {

@@ -19,7 +19,7 @@ impl<N: SolverNode> Solver<N> {
     fn variable_refusal(&self) -> Option<RunFault>
         ensures { result ≡ variable_refusal self.now }
     {
-        if self.closed {
+        if self.is_closed() {
             return Some(RunFault::AlreadyClosed);
         }
         if self.model.vars.len() < MAX_VARIABLES {

@@ -23,7 +23,7 @@ impl<N: SolverNode> Solver<N> {
     pub fn early_refusal(&self, x: VarId, term: &Term) -> Option<RunFault>
         ensures { result ≡ early_refusal self.now x term.now }
     {
-        if self.closed {
+        if self.is_closed() {
             return Some(RunFault::AlreadyClosed);
         }
         if !defines_given(self.number, self.model.vars.len(), x, term) {

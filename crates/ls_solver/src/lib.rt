@@ -7,8 +7,8 @@
 //! commit tells the variables whose fresh values differ, in order of declaration; and that a solution keeps the values of
 //! the free variables, and restoring it is one commit of them all.
 //!
-//! Each commit of a closed solver evaluates the whole model, and each delta twice what is asked. What is read is kept, and
-//! wants no memory.
+//! A commit of a closed solver, and a delta, make at most four steps for each unit that they touch of the model. What is
+//! read is kept, and wants no memory.
 #![tactic(auto)]
 
 mod adding;
@@ -24,7 +24,6 @@ mod replying;
 mod restoring;
 mod solver;
 mod totals;
-mod trial;
 mod user_posting;
 
 pub use fault::SolverFault;

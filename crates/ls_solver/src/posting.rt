@@ -19,7 +19,6 @@ use crate::fault::SolverFault;
 use crate::solver::Solver;
 use cbl_base::{NoMemory, Place};
 use node_kinds::SolverNode;
-use posted_users::{PostedUsers, zeros};
 use solver_models::{SystemId, TotalId, push_member};
 use std::alloc::Global;
 use term_count::Subterms;
@@ -36,48 +35,30 @@ pub(crate) fn user_term(number: u32, places: Vec<Term>) -> Term
     }
 }
 
-/// So many zeros, and room for the node of a user's constraint.
-fn make_ready<N: SolverNode>(
-    alloc: Global,
-    users: &mut PostedUsers<N>,
-    count: usize,
-) -> Result<Vec<i64>, NoMemory>
-    ensures same { users.new.posted.items ≡ users.old.posted.items }
-    ensures room { OnOk result (vec_len users.new.posted < vec_capacity users.new.posted) }
-{
-    let numbers = zeros(alloc, count)?;
-    users.reserve()?;
-    Ok(numbers)
-}
-
-/// Makes room for the node of a user's constraint, and puts its member behind the others. Gives the numbers that the node is
-/// to hold first. With `NoMemory` the model is as before.
+/// Makes room for one more node that waits, and puts a member behind the others. With `NoMemory` the model is as before.
 pub(crate) fn put_place<N: SolverNode>(
     alloc: Global,
-    users: &mut PostedUsers<N>,
+    waiting: &mut Vec<N>,
     model: &mut Model,
-    count: usize,
     k: TotalId,
     member: Member,
-) -> Result<Vec<i64>, NoMemory>
+) -> Result<(), NoMemory>
     requires { k.index < length (totals_by model.old k.side) }
     ensures ok { OnOk result (GetsMember model.old model.new k.side k.index member) }
     ensures err { OnErr result (IsSameModel model.old model.new) }
-    ensures same { users.new.posted.items ≡ users.old.posted.items }
-    ensures room { OnOk result (vec_len users.new.posted < vec_capacity users.new.posted) }
+    ensures same { waiting.new.items ≡ waiting.old.items }
+    ensures room { OnOk result (vec_len waiting.new < vec_capacity waiting.new) }
 {
-    let numbers = make_ready(alloc, users, count)?;
-    push_member(alloc, model, k.side, k.index, member)?;
-    Ok(numbers)
+    waiting.reserve(1)?;
+    push_member(alloc, model, k.side, k.index, member)
 }
 
 impl<N: SolverNode> Solver<N> {
     /// The number of the next user's constraint.
-    #[tactic(auto, using(crate::proofs::UserLaws::rules_count))]
     pub(crate) fn next_user(&self) -> Result<u32, NoMemory>
         ensures { IfOk result (λ number. number ≡ length self.now.rules) }
     {
-        let count = self.users.posted.len();
+        let count = self.waiting.len();
         if count > u32::MAX as usize {
             return Err(NoMemory);
         }
@@ -114,17 +95,15 @@ impl<N: SolverNode> Solver<N> {
         let Ok(number) = self.next_user() else {
             return Err((SolverFault::NoMemory, node));
         };
-        let count = places.len();
         let term = user_term(number, places);
-        self.post_member(TotalId::of_system(s), node, count, Member { term, weight })
+        self.post_member(TotalId::of_system(s), node, Member { term, weight })
     }
 
-    /// The same of a member, whose node has so many places.
+    /// The same of a member.
     fn post_member(
         &mut self,
         k: TotalId,
         node: N,
-        count: usize,
         member: Member,
     ) -> Result<(), (SolverFault, N)>
         requires usable { self.old.usable ≡ true }
@@ -139,7 +118,7 @@ impl<N: SolverNode> Solver<N> {
         ensures back { IfErr result (λ back. back.1 ≡ node) }
     {
         match self.admit(k, &member) {
-            Ok(counted) => self.put_node(k, node, count, member, counted),
+            Ok(counted) => self.put_node(k, node, member, counted),
             Err(fault) => Err((fault, node)),
         }
     }
@@ -149,7 +128,6 @@ impl<N: SolverNode> Solver<N> {
         &mut self,
         k: TotalId,
         node: N,
-        count: usize,
         member: Member,
         counted: Subterms,
     ) -> Result<(), (SolverFault, N)>
@@ -170,15 +148,14 @@ impl<N: SolverNode> Solver<N> {
     {
         let put = put_place(
             self.alloc,
-            &mut self.users,
+            &mut self.waiting,
             &mut self.model,
-            count,
             k,
             member,
         );
         match put {
-            Ok(numbers) => {
-                self.users.push_reserved(self.alloc, node, numbers);
+            Ok(()) => {
+                self.waiting.push_reserved(node);
                 self.terms = Some(counted);
                 Ok(())
             }

@@ -12,7 +12,7 @@ use crate::fault::SolverFault;
 use crate::solver::Solver;
 use cbl_base::{IntSet, RunFault, VarId};
 use node_kinds::SolverNode;
-use solver_models::{is_given, mark_at, number_at, number_in, set_in};
+use solver_models::{is_given, mark_at, number_at};
 
 impl<N: SolverNode> Solver<N> {
     /// Whether a variable is this solver's.
@@ -34,7 +34,7 @@ impl<N: SolverNode> Solver<N> {
     fn value_refusal(&self, x: VarId) -> Option<RunFault>
         ensures { result ≡ value_refusal self.now x }
     {
-        if !self.closed && self.defines(x) {
+        if !self.is_closed() && self.defines(x) {
             return Some(RunFault::NotClosed);
         }
         if !self.owns(x) {
@@ -66,8 +66,8 @@ impl<N: SolverNode> Solver<N> {
         requires readable { value_refusal self.now x ≡ None }
         ensures { fresh_value self.now x.index ≡ Some (Int result) }
     {
-        if self.closed {
-            number_in(&self.values.vars, x.index)
+        if self.is_closed() {
+            self.kept().number(x.index)
         } else {
             number_at(&self.assignment, x.index)
         }
@@ -77,7 +77,7 @@ impl<N: SolverNode> Solver<N> {
     fn set_refusal(&self, x: VarId) -> Option<RunFault>
         ensures { result ≡ set_refusal self.now x }
     {
-        if !self.closed {
+        if !self.is_closed() {
             return Some(RunFault::NotClosed);
         }
         if !self.owns(x) {
@@ -97,7 +97,7 @@ impl<N: SolverNode> Solver<N> {
     {
         match self.set_refusal(x) {
             Some(fault) => Err(SolverFault::Run(fault)),
-            None => Ok(set_in(&self.values.vars, x.index)),
+            None => Ok(self.kept().set(x.index)),
         }
     }
 

@@ -1,32 +1,32 @@
 //! The solver, and what it keeps.
-ghost use Rattle.std.specs.Prelude.{◌≡◌, ◌<◌, ◌^◌, [], length};
+ghost use Rattle.std.specs.Prelude.{◌≡◌, ◌<◌, ◌^◌, [], true, length};
+ghost use Rattle.solver_store.specs.Closed.{IsClosed, setting_of};
 ghost use Rattle.solver_models.specs.State.{IsNew};
 ghost use Rattle.term_model.specs.Wellformed.{IsWellFormed};
 
-use model_values::Values;
 use node_kinds::{Kind, SolverNode};
-use posted_users::PostedUsers;
+use solver_store::Closed;
 use std::alloc::Global;
 use std::marker::Model;
 use term_count::Subterms;
 
 /// A solver: its number, a model, an assignment with a number for each variable, the rules of its users' constraints,
 /// whether it is closed, and whether it may still be used. It is seen as these. Every call but `usable` needs that it may.
+/// The rules are those of the nodes that wait, and then of the nodes in the store.
 #[derive(Drop)]
 pub struct Solver<N: SolverNode> {
     pub(crate) alloc: Global,
     pub(crate) number: u32,
     pub(crate) model: term_model::Model,
     pub(crate) assignment: Vec<i64>,
-    /// The users' constraints that were posted.
-    pub(crate) users: PostedUsers<N>,
     /// Whether each variable has a definition.
     pub(crate) marks: Vec<bool>,
     /// The distinct subterms of the model; none where a count was broken off.
     pub(crate) terms: Option<Subterms>,
-    /// The values of all variables, systems and objectives of a closed solver.
-    pub(crate) values: Values,
-    pub(crate) closed: bool,
+    /// The nodes of the users' constraints by number, until it is closed.
+    pub(crate) waiting: Vec<N>,
+    /// What is kept of a closed solver.
+    pub(crate) closed: Option<Closed<N>>,
     pub(crate) usable: bool,
 }
 
@@ -41,14 +41,13 @@ impl<N: SolverNode> Model for Solver<N> {
 
     ghost coded = { Prim.hlevel (rule_code, codes, terms_seen.the_row.coded) };
 
-    ghost use Rattle.model_values.specs.Fresh.{seen_values};
-    ghost use Rattle.posted_users.specs.PostedState.{rules_of};
-    ghost use Rattle.solver_models.specs.Kept.{IsKept};
+    ghost use Rattle.std.specs.Prelude.{is_some};
+    ghost use Rattle.ls_solver.specs.Solvers.{IsHeld, rules_seen};
 
-    ghost view = { λ a. record { number = a.number; model = a.model; assignment = a.assignment.items; rules = rules_of a.users.posted.items; closed = a.closed; usable = a.usable } };
+    ghost view = { λ a. record { number = a.number; model = a.model; assignment = a.assignment.items; rules = rules_seen N.rule a.model a.waiting.items a.closed; closed = is_some a.closed; usable = a.usable } };
 
-    ghost invariant = { λ a. IsKept a.model a.assignment.items a.marks.items
-        (rules_of a.users.posted.items) a.terms (seen_values a.values) a.closed a.usable };
+    ghost invariant = { λ a. IsHeld N.rule N.held N.ready a.model a.assignment.items a.marks.items
+        a.waiting.items a.terms a.closed a.usable };
 }
 
 /// The solver whose users' constraints come in boxes.
@@ -71,18 +70,8 @@ fn empty_model(alloc: Global) -> term_model::Model
     }
 }
 
-/// The values of nothing.
-fn no_values(alloc: Global) -> Values {
-    Values {
-        vars: Vec::new(alloc),
-        systems: Vec::new(alloc),
-        objectives: Vec::new(alloc),
-    }
-}
-
 impl<N: SolverNode> Solver<N> {
     /// A solver without variables, which is open. Its ids carry its number.
-    #[tactic(auto, using(crate::proofs::UserLaws::no_rules, crate::proofs::UserLaws::empty_with))]
     pub fn new(alloc: Global, number: u32) -> Solver<N>
         ensures { IsNew number result }
     {
@@ -91,11 +80,10 @@ impl<N: SolverNode> Solver<N> {
             number,
             model: empty_model(alloc),
             assignment: Vec::new(alloc),
-            users: PostedUsers::new(alloc),
             marks: Vec::new(alloc),
             terms: None,
-            values: no_values(alloc),
-            closed: false,
+            waiting: Vec::new(alloc),
+            closed: None,
             usable: true,
         }
     }
@@ -113,7 +101,20 @@ impl<N: SolverNode> Solver<N> {
     pub fn is_closed(&self) -> bool
         ensures { result ≡ self.now.closed }
     {
-        self.closed
+        self.closed.is_some()
+    }
+
+    /// What is kept of a closed solver.
+    pub(crate) fn kept(&self) -> &Closed<N>
+        requires usable { self.now.usable ≡ true }
+        requires closed { self.now.closed ≡ true }
+        ensures { IsClosed N.rule N.held N.ready
+            (setting_of self.now.model self.now.assignment self.now.rules) result.now }
+    {
+        match &self.closed {
+            Some(closed) => closed,
+            None => unreachable!(),
+        }
     }
 
     /// Whether it may still be used: `false` exactly after `At` and `NoMemory` from `close`, `commit` and

@@ -11,7 +11,7 @@ use crate::fault::SolverFault;
 use crate::solver::Solver;
 use cbl_base::{NoMemory, Place, RunFault};
 use node_kinds::SolverNode;
-use solver_models::{ObjectiveId, SystemId, TotalId, number_at, push_total, totals_in};
+use solver_models::{ObjectiveId, SystemId, TotalId, push_total};
 use term_model::{Side, totals_by};
 
 impl<N: SolverNode> Solver<N> {
@@ -63,7 +63,7 @@ impl<N: SolverNode> Solver<N> {
         ensures made { OnOk result (MakesTotal self.old self.new side place) }
         ensures kept { OnErr result (IsUnchanged self.old self.new) }
     {
-        if self.closed {
+        if self.is_closed() {
             return Err(SolverFault::Run(RunFault::AlreadyClosed));
         }
         match push_total(self.alloc, &mut self.model, side, place) {
@@ -76,7 +76,7 @@ impl<N: SolverNode> Solver<N> {
     fn read_refusal(&self, k: TotalId) -> Option<RunFault>
         ensures { result ≡ read_refusal self.now k }
     {
-        if !self.closed {
+        if !self.is_closed() {
             return Some(RunFault::NotClosed);
         }
         if !self.owns_total(k) {
@@ -122,6 +122,7 @@ impl<N: SolverNode> Solver<N> {
         requires readable { read_refusal self.now k ≡ None }
         ensures { fresh_total self.now k ≡ Ok result }
     {
-        number_at(totals_in(&self.values, k.side), k.index)
+        let kept = self.kept();
+        kept.number(kept.total_id(&self.model, k.side, k.index))
     }
 }

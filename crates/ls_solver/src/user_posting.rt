@@ -4,7 +4,7 @@ ghost use Rattle.std.specs.List.{All};
 ghost use Rattle.cbl_base.specs.Inputs.{number_kind};
 ghost use Rattle.ls_solver.specs.Answers.{AnswersBack};
 ghost use Rattle.posted_users.specs.KeptRule.{kept};
-ghost use Rattle.posted_users.specs.PostedState.{rules_of};
+ghost use Rattle.solver_store.specs.KeptRules.{waiting_rules};
 ghost use Rattle.solver_models.specs.Adding.{early_member_refusal, is_own_member, member_refusal};
 ghost use Rattle.solver_models.specs.Defining.{distinct_with, is_too_deep};
 ghost use Rattle.solver_models.specs.State.{IsUnchanged};
@@ -18,27 +18,22 @@ ghost use Rattle.term_model.specs.Subterms.{distinct_subterms};
 use crate::fault::SolverFault;
 use crate::posting::{put_place, user_term};
 use crate::solver::Solver;
-use cbl_base::NoMemory;
+use cbl_base::{NoMemory, NodeRule};
 use node_kinds::KindOf;
-use posted_users::PostedUsers;
 use solver_models::{SystemId, TotalId};
 use std::alloc::Global;
 use term_count::Subterms;
 use term_model::{Member, Term};
 use user_constraint::LocalConstraint;
 
-/// Puts a user's constraint behind the others as its node, which is to hold these numbers first.
-fn push_user<U: LocalConstraint>(
-    alloc: Global,
-    users: &mut PostedUsers<KindOf<U>>,
-    user: U,
-    numbers: Vec<i64>,
-)
-    requires { vec_len users.old.posted < vec_capacity users.old.posted }
-    ensures { rules_of users.new.posted.items ≡
-        rules_of users.old.posted.items ++ kept (U.user_rule user) ∷ [] }
+/// Puts a user's constraint behind the others as its node.
+#[tactic(auto, using(posted_users::proofs::KeptLaws::kept_of_node, posted_users::proofs::KeptLaws::is_user_node))]
+fn push_user<U: LocalConstraint>(alloc: Global, waiting: &mut Vec<KindOf<U>>, user: U)
+    requires { vec_len waiting.old < vec_capacity waiting.old }
+    ensures { waiting_rules ⟦<KindOf<U> as NodeRule>⟧.rule waiting.new.items ≡
+        waiting_rules ⟦<KindOf<U> as NodeRule>⟧.rule waiting.old.items ++ kept (U.user_rule user) ∷ [] }
 {
-    users.push_reserved(alloc, KindOf::user(alloc, user), numbers);
+    waiting.push_reserved(KindOf::user(alloc, user));
 }
 
 impl<U: LocalConstraint> Solver<KindOf<U>> {
@@ -73,17 +68,15 @@ impl<U: LocalConstraint> Solver<KindOf<U>> {
         let Ok(number) = self.next_user() else {
             return Err((SolverFault::NoMemory, user));
         };
-        let count = places.len();
         let term = user_term(number, places);
-        self.post_user_member(TotalId::of_system(s), user, count, Member { term, weight })
+        self.post_user_member(TotalId::of_system(s), user, Member { term, weight })
     }
 
-    /// The same of a member, whose node has so many places.
+    /// The same of a member.
     fn post_user_member(
         &mut self,
         k: TotalId,
         user: U,
-        count: usize,
         member: Member,
     ) -> Result<(), (SolverFault, U)>
         requires usable { self.old.usable ≡ true }
@@ -99,7 +92,7 @@ impl<U: LocalConstraint> Solver<KindOf<U>> {
         ensures back { IfErr result (λ back. back.1 ≡ user) }
     {
         match self.admit(k, &member) {
-            Ok(counted) => self.put_user(k, user, count, member, counted),
+            Ok(counted) => self.put_user(k, user, member, counted),
             Err(fault) => Err((fault, user)),
         }
     }
@@ -109,7 +102,6 @@ impl<U: LocalConstraint> Solver<KindOf<U>> {
         &mut self,
         k: TotalId,
         user: U,
-        count: usize,
         member: Member,
         counted: Subterms,
     ) -> Result<(), (SolverFault, U)>
@@ -131,15 +123,14 @@ impl<U: LocalConstraint> Solver<KindOf<U>> {
     {
         let put = put_place(
             self.alloc,
-            &mut self.users,
+            &mut self.waiting,
             &mut self.model,
-            count,
             k,
             member,
         );
         match put {
-            Ok(numbers) => {
-                push_user(self.alloc, &mut self.users, user, numbers);
+            Ok(()) => {
+                push_user(self.alloc, &mut self.waiting, user);
                 self.terms = Some(counted);
                 Ok(())
             }

@@ -3,7 +3,7 @@ ghost use Rattle.std.specs.Prelude.{◌≡◌, Ok, length, map, IfOk, IfErr, OnO
 ghost use Rattle.store_build.specs.Aims.{AreLinked, graph_over};
 ghost use Rattle.inc_store.specs.Moves.{AreMoves};
 ghost use Rattle.inc_store.specs.Stores.{changes_between};
-ghost use Rattle.inc_store.specs.Views.{graph_in};
+ghost use Rattle.inc_store.specs.Views.{KeepsNodes, graph_in, rules_in};
 ghost use Rattle.model_store.specs.ModelStores.{Agrees, AreFewSteps, IsFaultOf, IsStoreOf};
 ghost use Rattle.model_store.specs.ModelStores.{StopsAt, StopsMoved, values_in};
 ghost use Rattle.model_store.specs.Settings.{AreNodesOf, AreOfVariables, AreStartsOf, IsSetting};
@@ -41,6 +41,7 @@ pub fn build<N: NodeRule, E: LayerEval<N>>(
     ensures agrees { Agrees result (fresh_in setting) }
     ensures graph { IfOk result (λ s. graph_in N.rule s ≡
         graph_over (map N.rule nodes.items) (length start.now) links.inputs.items) }
+    ensures rules { IfOk result (λ s. rules_in N.rule s ≡ map N.rule nodes.items) }
 {
     Store::build(alloc, nodes, links, start, layers, eval)
 }
@@ -61,6 +62,7 @@ pub fn commit<N: NodeRule, L: Ledger>(
     ensures usable { store.new.is_usable ≡ is_ok result }
     ensures store { OnOk result (IsStoreOf N.rule N.held N.ready
         (after moves.now setting) store.new) }
+    ensures nodes { OnOk result (KeepsNodes N.rule store.old store.new) }
     ensures values { OnOk result (fresh_in (after moves.now setting) ≡
         Ok (values_in setting store.new)) }
     ensures changed { IfOk result (λ c.

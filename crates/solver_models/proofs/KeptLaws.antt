@@ -7,7 +7,6 @@ use Rattle.cbl_base.specs.declared.faults.RunFault.TheVariants.{AlreadyClosed, T
 use Rattle.cbl_base.specs.declared.limits.TheConstants.{MAX_VARIABLES}
 use native.Mathlib.Decide.{ℕ_discrete}
 use Rattle.cbl_base.proofs.PlaceLemmas.{others_stay}
-use Rattle.model_values.specs.Fresh.{Fresh, fresh_of}
 use Rattle.cbl_base.specs.declared.place.Place.{Place}
 use Rattle.solver_models.specs.Adding.{GetsMember}
 use Rattle.solver_models.specs.Declaring.{GetsVariable}
@@ -31,7 +30,7 @@ use Rattle.term_model.specs.declared.model.Model.{Model}
 use Rattle.term_model.specs.declared.model.VarDecl.{VarDecl}
 use Rattle.term_model.specs.declared.posting.Side.{Side}
 use Rattle.term_model.proofs.VarLaws.{set_same}
-use Rattle.posted_users.specs.KeptRule.{KeptRule, users_of as users_by}
+use Rattle.posted_users.specs.KeptRule.{KeptRule}
 
 open_ : {X : Type 0} (closed : Bool) → closed ≡ false → closed ≡ true → X
 open_ closed e h = absurd (true≢false (sym h ∙ e))
@@ -61,9 +60,9 @@ mark_set marks x i lt = cases (ℕ_discrete i x)
     cases (no ne) = ap (λ o. unwrap_or o false) (others_stay marks x i true ne) ∙ sym (ap (λ b. b || mark_at marks i) (ne_from x i ne))
 
 -- ---- a new solver
-pub empty_kept : (M : Model) (a : List ℤ) (marks : List Bool) (values : Fresh) → M.vars.items ≡ [] → M.defs.items ≡ [] → M.systems.items ≡ [] → M.objectives.items ≡ [] → M.posted.items ≡ [] →
-    a ≡ [] → marks ≡ [] → IsKept M a marks [] None values false true
-empty_kept M a marks values vars defs systems objectives posted assigned marked =
+pub empty_kept : (M : Model) (a : List ℤ) (marks : List Bool) → M.vars.items ≡ [] → M.defs.items ≡ [] → M.systems.items ≡ [] → M.objectives.items ≡ [] → M.posted.items ≡ [] →
+    a ≡ [] → marks ≡ [] → IsKept M a marks [] None false true
+empty_kept M a marks vars defs systems objectives posted assigned marked =
     let empty : IsEmpty M = record { vars = vars; defs = defs; systems = systems; objectives = objectives; posted = posted } in
     record {
       formed = formed_empty M empty;
@@ -74,9 +73,8 @@ empty_kept M a marks values vars defs systems objectives posted assigned marked 
         each = λ i. ap (λ ms. mark_at ms i) marked ∙ sym (ap is_some (nothing_defined M empty i));
       };
       terms = tt;
-      posted = ap (λ ps. length (users_posted M ps)) posted;
+      posted = λ _. ap (λ ps. length (users_posted M ps)) posted;
       closable = λ h. open_ false refl h;
-      fresh = λ h. open_ false refl h;
     }
 
 -- ---- more variables
@@ -84,25 +82,24 @@ counted_same : (M N : Model) (counted : Option Subterms) → distinct_subterms N
 counted_same M N None e counted = tt
 counted_same M N (Some terms) e counted = subst (Counts terms) (sym e) counted
 
-module _ (M N : Model) (more : List VarDecl) (a after : List ℤ) (marks marked : List Bool) (rules : List KeptRule) (counted : Option Subterms) (values : Fresh) (closed usable : Bool) (grown : IsGrown M N more) (kept : IsKept M a marks rules counted values closed usable) (open' : closed ≡ false)
+module _ (M N : Model) (more : List VarDecl) (a after : List ℤ) (marks marked : List Bool) (rules : List KeptRule) (counted : Option Subterms) (closed usable : Bool) (grown : IsGrown M N more) (kept : IsKept M a marks rules counted closed usable) (open' : closed ≡ false)
     (few : length N.vars.items < 2 ^ 32) (long : length after ≡ length N.vars.items) (are : AreMarks N marked) where
-  kept_grown : IsKept N after marked rules counted values closed usable
+  kept_grown : IsKept N after marked rules counted closed usable
   kept_grown = record {
     formed = formed_grown M N more grown kept.formed;
     few = few;
     assigned = long;
     marked = are;
     terms = counted_same M N counted (subterms_same M N more grown) kept.terms;
-    posted = ap length (users_grown M N more grown) ∙ kept.posted;
+    posted = λ can. ap length (users_grown M N more grown) ∙ kept.posted can;
     closable = λ h. open_ closed open' h;
-    fresh = λ h. open_ closed open' h;
   }
 
-pub kept_same : (M N : Model) (a after : List ℤ) (marks marked : List Bool) (rules : List KeptRule) (counted : Option Subterms) (values : Fresh) (closed usable : Bool) → IsSameModel M N → after ≡ a → marked ≡ marks → closed ≡ false →
-    IsKept M a marks rules counted values closed usable → IsKept N after marked rules counted values closed usable
-kept_same M N a after marks marked rules counted values closed usable same e f open' kept =
+pub kept_same : (M N : Model) (a after : List ℤ) (marks marked : List Bool) (rules : List KeptRule) (counted : Option Subterms) (closed usable : Bool) → IsSameModel M N → after ≡ a → marked ≡ marks → closed ≡ false →
+    IsKept M a marks rules counted closed usable → IsKept N after marked rules counted closed usable
+kept_same M N a after marks marked rules counted closed usable same e f open' kept =
     let count : length N.vars.items ≡ length M.vars.items = ap length same.vars in
-    kept_grown M N [] a after marks marked rules counted values closed usable (grown_same M N same) kept open' (subst (λ n. n < 2 ^ 32) (sym count) kept.few) (ap length e ∙ kept.assigned ∙ sym count) (record {
+    kept_grown M N [] a after marks marked rules counted closed usable (grown_same M N same) kept open' (subst (λ n. n < 2 ^ 32) (sym count) kept.few) (ap length e ∙ kept.assigned ∙ sym count) (record {
       count = ap length f ∙ kept.marked.count ∙ sym count;
       each = λ i. ap (λ ms. mark_at ms i) f ∙ kept.marked.each i ∙ sym (ap is_some (definitions_same M N [] (grown_same M N same) i));
     })
@@ -111,20 +108,20 @@ length_push : {X : Type 0} (xs : List X) (x : X) → length (xs ++ x ∷ []) ≡
 length_push [] x = refl
 length_push (y ∷ xs) x = let rest = length_push xs x in omega (arith, rest)
 
-pub kept_variable : (M N : Model) (decl : VarDecl) (start : ℤ) (a after : List ℤ) (marks marked : List Bool) (rules : List KeptRule) (counted : Option Subterms) (values : Fresh) (closed usable : Bool) → GetsVariable M N decl → after ≡ a ++ start ∷ [] → marked ≡ marks ++ false ∷ [] →
-    closed ≡ false → length M.vars.items + 1 < 2 ^ 32 → IsKept M a marks rules counted values closed usable → IsKept N after marked rules counted values closed usable
-kept_variable M N decl start a after marks marked rules counted values closed usable gets e f open' few kept =
+pub kept_variable : (M N : Model) (decl : VarDecl) (start : ℤ) (a after : List ℤ) (marks marked : List Bool) (rules : List KeptRule) (counted : Option Subterms) (closed usable : Bool) → GetsVariable M N decl → after ≡ a ++ start ∷ [] → marked ≡ marks ++ false ∷ [] →
+    closed ≡ false → length M.vars.items + 1 < 2 ^ 32 → IsKept M a marks rules counted closed usable → IsKept N after marked rules counted closed usable
+kept_variable M N decl start a after marks marked rules counted closed usable gets e f open' few kept =
     let count : length N.vars.items ≡ length M.vars.items + 1 = ap length gets.vars ∙ length_push M.vars.items decl in
-    kept_grown M N (decl ∷ []) a after marks marked rules counted values closed usable (grown_variable M N decl gets) kept open' (subst (λ n. n < 2 ^ 32) (sym count) few)
+    kept_grown M N (decl ∷ []) a after marks marked rules counted closed usable (grown_variable M N decl gets) kept open' (subst (λ n. n < 2 ^ 32) (sym count) few)
     (ap length e ∙ length_push a start ∙ ap (λ n. n + 1) kept.assigned ∙ sym count) (record {
       count = ap length f ∙ length_push marks false ∙ ap (λ n. n + 1) kept.marked.count ∙ sym count;
       each = λ i. ap (λ ms. mark_at ms i) f ∙ mark_push marks i ∙ kept.marked.each i ∙ sym (ap is_some (definitions_same M N (decl ∷ []) (grown_variable M N decl gets) i));
     })
 
 -- ---- one more definition
-pub kept_definition : (M N : Model) (def : Definition) (a : List ℤ) (marks marked : List Bool) (rules : List KeptRule) (counted : Option Subterms) (after : Subterms) (values : Fresh) (closed usable : Bool) → GetsDefinition M N def → marked ≡ set marks def.var.index true → closed ≡ false →
-    has_definition M def.var.index ≡ false → IsDefinition M def → users_of def.term ≡ [] → Counts after (distinct_with (distinct_subterms M) def.term) → IsKept M a marks rules counted values closed usable → IsKept N a marked rules (Some after) values closed usable
-kept_definition M N def a marks marked rules counted after values closed usable gets e open' free is none counts kept =
+pub kept_definition : (M N : Model) (def : Definition) (a : List ℤ) (marks marked : List Bool) (rules : List KeptRule) (counted : Option Subterms) (after : Subterms) (closed usable : Bool) → GetsDefinition M N def → marked ≡ set marks def.var.index true → closed ≡ false →
+    has_definition M def.var.index ≡ false → IsDefinition M def → users_of def.term ≡ [] → Counts after (distinct_with (distinct_subterms M) def.term) → IsKept M a marks rules counted closed usable → IsKept N a marked rules (Some after) closed usable
+kept_definition M N def a marks marked rules counted after closed usable gets e open' free is none counts kept =
     let count : length N.vars.items ≡ length M.vars.items = ap length gets.vars in
     record {
       formed = formed_defined M N def kept.formed gets free is none;
@@ -136,15 +133,14 @@ kept_definition M N def a marks marked rules counted after values closed usable 
             ∙ ap (λ b. nat_eq def.var.index i || b) (kept.marked.each i) ∙ sym (has_more M N def kept.formed gets i);
       };
       terms = subst (Counts after) (sym (subterms_more M N def kept.formed gets)) counts;
-      posted = ap length (users_same M N def kept.formed gets none) ∙ kept.posted;
+      posted = λ can. ap length (users_same M N def kept.formed gets none) ∙ kept.posted can;
       closable = λ h. open_ closed open' h;
-      fresh = λ h. open_ closed open' h;
     }
 
 -- ---- one more system or objective, and one more member
-pub kept_total : (M N : Model) (side : Side) (place : Place) (a : List ℤ) (marks : List Bool) (rules : List KeptRule) (counted : Option Subterms) (values : Fresh) (closed usable : Bool) → GetsTotal M N side place → closed ≡ false →
-    IsKept M a marks rules counted values closed usable → IsKept N a marks rules counted values closed usable
-kept_total M N side place a marks rules counted values closed usable gets open' kept =
+pub kept_total : (M N : Model) (side : Side) (place : Place) (a : List ℤ) (marks : List Bool) (rules : List KeptRule) (counted : Option Subterms) (closed usable : Bool) → GetsTotal M N side place → closed ≡ false →
+    IsKept M a marks rules counted closed usable → IsKept N a marks rules counted closed usable
+kept_total M N side place a marks rules counted closed usable gets open' kept =
     let count : length N.vars.items ≡ length M.vars.items = ap length gets.vars in
     record {
       formed = formed_with_total M N side place gets kept.formed;
@@ -155,14 +151,13 @@ kept_total M N side place a marks rules counted values closed usable gets open' 
         each = λ i. kept.marked.each i ∙ sym (ap is_some (definitions_with_total M N side place gets i));
       };
       terms = counted_same M N counted (subterms_with_total M N side place gets) kept.terms;
-      posted = ap length (users_with_total M N side place gets) ∙ kept.posted;
+      posted = λ can. ap length (users_with_total M N side place gets) ∙ kept.posted can;
       closable = λ h. open_ closed open' h;
-      fresh = λ h. open_ closed open' h;
     }
 
-pub kept_member : (M N : Model) (side : Side) (k : ℕ) (member : Member) (a : List ℤ) (marks : List Bool) (rules : List KeptRule) (counted : Option Subterms) (after : Subterms) (values : Fresh) (closed usable : Bool) → GetsMember M N side k member → closed ≡ false →
-    IsMember M member → users_of member.term ≡ [] → Counts after (distinct_with (distinct_subterms M) member.term) → IsKept M a marks rules counted values closed usable → IsKept N a marks rules (Some after) values closed usable
-kept_member M N side k member a marks rules counted after values closed usable gets open' is none counts kept =
+pub kept_member : (M N : Model) (side : Side) (k : ℕ) (member : Member) (a : List ℤ) (marks : List Bool) (rules : List KeptRule) (counted : Option Subterms) (after : Subterms) (closed usable : Bool) → GetsMember M N side k member → closed ≡ false →
+    IsMember M member → users_of member.term ≡ [] → Counts after (distinct_with (distinct_subterms M) member.term) → IsKept M a marks rules counted closed usable → IsKept N a marks rules (Some after) closed usable
+kept_member M N side k member a marks rules counted after closed usable gets open' is none counts kept =
     let count : length N.vars.items ≡ length M.vars.items = ap length gets.vars in
     record {
       formed = formed_with_member M N side k member kept.formed gets is (subst (λ ns. NamesEachOnce ns (length ns)) (sym (users_with_member M N side k member kept.formed gets none)) kept.formed.users);
@@ -173,18 +168,17 @@ kept_member M N side k member a marks rules counted after values closed usable g
         each = λ i. kept.marked.each i ∙ sym (ap is_some (definitions_with_member M N side k member kept.formed gets i));
       };
       terms = subst (Counts after) (sym (subterms_with_member M N side k member kept.formed gets)) counts;
-      posted = ap length (users_with_member M N side k member kept.formed gets none) ∙ kept.posted;
+      posted = λ can. ap length (users_with_member M N side k member kept.formed gets none) ∙ kept.posted can;
       closable = λ h. open_ closed open' h;
-      fresh = λ h. open_ closed open' h;
     }
 
 -- one more user's constraint, and its rule
-pub kept_user : (M N : Model) (side : Side) (k : ℕ) (member : Member) (rule : KeptRule) (a : List ℤ) (marks : List Bool) (rules : List KeptRule) (counted : Option Subterms) (after : Subterms) (values : Fresh) (closed usable : Bool) → GetsMember M N side k member → closed ≡ false →
-    IsMember M member → users_of member.term ≡ length rules ∷ [] → Counts after (distinct_with (distinct_subterms M) member.term) → IsKept M a marks rules counted values closed usable → IsKept N a marks (rules ++ rule ∷ []) (Some after) values closed usable
-kept_user M N side k member rule a marks rules counted after values closed usable gets open' is numbered counts kept =
+pub kept_user : (M N : Model) (side : Side) (k : ℕ) (member : Member) (rule : KeptRule) (a : List ℤ) (marks : List Bool) (rules : List KeptRule) (counted : Option Subterms) (after : Subterms) (closed usable : Bool) → usable ≡ true → GetsMember M N side k member → closed ≡ false →
+    IsMember M member → users_of member.term ≡ length rules ∷ [] → Counts after (distinct_with (distinct_subterms M) member.term) → IsKept M a marks rules counted closed usable → IsKept N a marks (rules ++ rule ∷ []) (Some after) closed usable
+kept_user M N side k member rule a marks rules counted after closed usable can gets open' is numbered counts kept =
     let count : length N.vars.items ≡ length M.vars.items = ap length gets.vars in
     let us = users_posted M M.posted.items in
-    let more : users_posted N N.posted.items ≡ us ++ length us ∷ [] = users_more M N side k member kept.formed gets ∙ ap (λ ns. us ++ ns) numbered ∙ ap (λ n. us ++ n ∷ []) (sym kept.posted) in
+    let more : users_posted N N.posted.items ≡ us ++ length us ∷ [] = users_more M N side k member kept.formed gets ∙ ap (λ ns. us ++ ns) numbered ∙ ap (λ n. us ++ n ∷ []) (sym (kept.posted can)) in
     let named : NamesEachOnce (users_posted N N.posted.items) (length (users_posted N N.posted.items)) =
     subst (λ ns. NamesEachOnce ns (length ns)) (sym more) (subst (NamesEachOnce (us ++ length us ∷ [])) (sym (length_push us (length us))) (named_push us (length us) kept.formed.users)) in
     record {
@@ -196,14 +190,24 @@ kept_user M N side k member rule a marks rules counted after values closed usabl
         each = λ i. kept.marked.each i ∙ sym (ap is_some (definitions_with_member M N side k member kept.formed gets i));
       };
       terms = subst (Counts after) (sym (subterms_with_member M N side k member kept.formed gets)) counts;
-      posted = ap length more ∙ length_push us (length us) ∙ ap (λ n. n + 1) kept.posted ∙ sym (length_push rules rule);
+      posted = λ can. ap length more ∙ length_push us (length us) ∙ ap (λ n. n + 1) (kept.posted can) ∙ sym (length_push rules rule);
       closable = λ h. open_ closed open' h;
-      fresh = λ h. open_ closed open' h;
     }
 
 -- ---- a solver that can't be used any more, one that was closed, and other numbers
-pub kept_unusable : (M : Model) (a after : List ℤ) (marks : List Bool) (rules : List KeptRule) (counted : Option Subterms) (values : Fresh) (closed usable : Bool) → length after ≡ length a → IsKept M a marks rules counted values closed usable → IsKept M after marks rules counted values closed false
-kept_unusable M a after marks rules counted values closed usable long kept = record {
+pub kept_unusable : (M : Model) (a after : List ℤ) (marks : List Bool) (rules : List KeptRule) (counted : Option Subterms) (closed usable : Bool) → length after ≡ length a → IsKept M a marks rules counted closed usable → IsKept M after marks rules counted closed false
+kept_unusable M a after marks rules counted closed usable long kept = record {
+  formed = kept.formed;
+  few = kept.few;
+  assigned = long ∙ kept.assigned;
+  marked = kept.marked;
+  terms = kept.terms;
+  posted = λ can. open_ false refl can;
+  closable = kept.closable;
+}
+
+pub kept_open : (M : Model) (a after : List ℤ) (marks : List Bool) (rules : List KeptRule) (counted : Option Subterms) (closed usable : Bool) → length after ≡ length a → closed ≡ false → IsKept M a marks rules counted closed usable → IsKept M after marks rules counted closed usable
+kept_open M a after marks rules counted closed usable long open' kept = record {
   formed = kept.formed;
   few = kept.few;
   assigned = long ∙ kept.assigned;
@@ -211,23 +215,10 @@ kept_unusable M a after marks rules counted values closed usable long kept = rec
   terms = kept.terms;
   posted = kept.posted;
   closable = kept.closable;
-  fresh = λ h g. open_ false refl g;
 }
 
-pub kept_open : (M : Model) (a after : List ℤ) (marks : List Bool) (rules : List KeptRule) (counted : Option Subterms) (values : Fresh) (closed usable : Bool) → length after ≡ length a → closed ≡ false → IsKept M a marks rules counted values closed usable → IsKept M after marks rules counted values closed usable
-kept_open M a after marks rules counted values closed usable long open' kept = record {
-  formed = kept.formed;
-  few = kept.few;
-  assigned = long ∙ kept.assigned;
-  marked = kept.marked;
-  terms = kept.terms;
-  posted = kept.posted;
-  closable = kept.closable;
-  fresh = λ h. open_ closed open' h;
-}
-
-pub kept_closed : (M : Model) (a after : List ℤ) (marks : List Bool) (rules : List KeptRule) (counted : Option Subterms) (values fresh : Fresh) (closed usable : Bool) → length after ≡ length a → IsClosable M → fresh_of (users_by rules) M after ≡ Ok fresh → IsKept M a marks rules counted values closed usable → IsKept M after marks rules counted fresh true usable
-kept_closed M a after marks rules counted values fresh closed usable long closable are kept = record {
+pub kept_closed : (M : Model) (a after : List ℤ) (marks : List Bool) (rules : List KeptRule) (counted : Option Subterms) (closed usable : Bool) → length after ≡ length a → IsClosable M → IsKept M a marks rules counted closed usable → IsKept M after marks rules counted true usable
+kept_closed M a after marks rules counted closed usable long closable kept = record {
   formed = kept.formed;
   few = kept.few;
   assigned = long ∙ kept.assigned;
@@ -235,18 +226,25 @@ kept_closed M a after marks rules counted values fresh closed usable long closab
   terms = kept.terms;
   posted = kept.posted;
   closable = λ _. closable;
-  fresh = λ _ _. are;
 }
 
-pub kept_closed_again : (M : Model) (a after : List ℤ) (marks : List Bool) (rules : List KeptRule) (counted : Option Subterms) (values fresh : Fresh) (closed usable : Bool) → length after ≡ length a → closed ≡ true → fresh_of (users_by rules) M after ≡ Ok fresh → IsKept M a marks rules counted values closed usable → IsKept M after marks rules counted fresh closed usable
-kept_closed_again M a after marks rules counted values fresh closed usable long shut are kept =
-    subst (λ b. IsKept M after marks rules counted fresh b usable) (sym shut) (kept_closed M a after marks rules counted values fresh closed usable long (kept.closable shut) are kept)
+-- the same with other rules, where it can't be used any more
+pub kept_lost : (M : Model) (a after : List ℤ) (marks : List Bool) (rules others : List KeptRule) (counted : Option Subterms) (closed usable : Bool) → length after ≡ length a → IsKept M a marks rules counted closed usable → IsKept M after marks others counted closed false
+kept_lost M a after marks rules others counted closed usable long kept = record {
+  formed = kept.formed;
+  few = kept.few;
+  assigned = long ∙ kept.assigned;
+  marked = kept.marked;
+  terms = kept.terms;
+  posted = λ can. open_ false refl can;
+  closable = kept.closable;
+}
 
 -- ---- the same whatever was answered
-pub kept_pushed : (result : Result (Unit {0}) NoMemory) (M N : Model) (decl : VarDecl) (start : ℤ) (a after : List ℤ) (marks marked : List Bool) (rules : List KeptRule) (counted : Option Subterms) (values : Fresh) (closed usable : Bool) → OnOk result (GetsVariable M N decl) → OnOk result (after ≡ a ++ start ∷ []) → OnOk result (marked ≡ marks ++ false ∷ []) →
-    OnErr result (IsSameModel M N) → OnErr result (after ≡ a) → OnErr result (marked ≡ marks) → closed ≡ false → length M.vars.items + 1 < 2 ^ 32 → IsKept M a marks rules counted values closed usable → IsKept N after marked rules counted values closed usable
-kept_pushed (Ok done) M N decl start a after marks marked rules counted values closed usable gets e f same e' f' open' few kept = kept_variable M N decl start a after marks marked rules counted values closed usable gets e f open' few kept
-kept_pushed (Err stop) M N decl start a after marks marked rules counted values closed usable gets e f same e' f' open' few kept = kept_same M N a after marks marked rules counted values closed usable same e' f' open' kept
+pub kept_pushed : (result : Result (Unit {0}) NoMemory) (M N : Model) (decl : VarDecl) (start : ℤ) (a after : List ℤ) (marks marked : List Bool) (rules : List KeptRule) (counted : Option Subterms) (closed usable : Bool) → OnOk result (GetsVariable M N decl) → OnOk result (after ≡ a ++ start ∷ []) → OnOk result (marked ≡ marks ++ false ∷ []) →
+    OnErr result (IsSameModel M N) → OnErr result (after ≡ a) → OnErr result (marked ≡ marks) → closed ≡ false → length M.vars.items + 1 < 2 ^ 32 → IsKept M a marks rules counted closed usable → IsKept N after marked rules counted closed usable
+kept_pushed (Ok done) M N decl start a after marks marked rules counted closed usable gets e f same e' f' open' few kept = kept_variable M N decl start a after marks marked rules counted closed usable gets e f open' few kept
+kept_pushed (Err stop) M N decl start a after marks marked rules counted closed usable gets e f same e' f' open' few kept = kept_same M N a after marks marked rules counted closed usable same e' f' open' kept
 
 -- an open solver with room for a variable
 pub open_room : (closed : Bool) (n : ℕ) → (if closed then Some AlreadyClosed else (if nat_lt n MAX_VARIABLES then None else Some (TooMany Variables))) ≡ None → (closed ≡ false) × (n + 1 < 2 ^ 32)

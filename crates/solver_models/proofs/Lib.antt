@@ -9,7 +9,6 @@ pub mod KeptLaws
 pub mod CountLaws
 pub mod MarkLaws
 pub mod PlanLaws
-pub mod FreshLaws
 pub mod ChangeLaws
 pub mod FreeLaws
 pub mod ReadLaws

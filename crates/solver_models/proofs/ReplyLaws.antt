@@ -4,22 +4,15 @@ use Rattle.std.specs.Prelude.{not, unwrap_or, if◌then◌else◌}
 use Rattle.std.specs.List.{list_all}
 use Rattle.cbl_base.specs.declared.faults.RunFault.TheVariants.{NotClosed, WrongSolver}
 use Rattle.cbl_base.specs.declared.ids.VarId.{VarId}
-use Rattle.model_values.specs.Delta.{value_of}
-use Rattle.model_values.specs.Fresh.{Fresh, whole_by}
-use Rattle.model_values.specs.declared.failure.Failure.{Failure}
 use Rattle.solver_models.specs.Ids.{is_own}
-use Rattle.solver_models.specs.Kept.{IsKept, totals_in}
 use Rattle.solver_models.specs.Replying.{fresh_total, read_refusal, reply_refusal}
 use Rattle.solver_models.specs.State.{SolverState}
 use Rattle.solver_models.specs.Totals.{is_own_total}
 use Rattle.solver_models.specs.declared.totals.TotalId.{TotalId}
 use Rattle.solver_models.proofs.AddLaws.{total_within}
-use Rattle.solver_models.proofs.FreshLaws.{totals_there}
 use Rattle.solver_models.proofs.ReadLaws.{given_within}
-use Rattle.term_count.specs.declared.subterms.Subterms.{Subterms}
 use Rattle.term_model.specs.Posting.{totals_by}
 use Rattle.term_model.specs.declared.model.Model.{Model}
-use Rattle.term_model.proofs.UsableLaws.{less_there}
 use Rattle.posted_users.specs.KeptRule.{KeptRule, users_of}
 
 both_true : (a b : Bool) → (a && b) ≡ true → (a ≡ true) × (b ≡ true)
@@ -48,29 +41,3 @@ pub swaps_own : (s : SolverState) (k : TotalId) (x y : VarId) → reply_refusal 
 swaps_own s k x y e =
     let all = (replies s k (x ∷ y ∷ []) e).2 in
     (first_own s x (y ∷ []) all, first_own s y [] (both_true (is_own s x) (list_all (is_own s) (y ∷ [])) all).1)
-
--- ---- what is kept
-some_same : {X : Type 0} (x y : X) → Some x ≡ Some y → x ≡ y
-some_same x y e = ap (λ o. unwrap_or o x) e
-
-module _ (number : ℕ) (M : Model) (a : List ℤ) (marks : List Bool) (rules : List KeptRule) (counted : Option Subterms) (values : Fresh) (closed usable : Bool) (kept : IsKept M a marks rules counted values closed usable) (k : TotalId) where
-  abbrev state : SolverState
-  state = record { number = number; model = M; assignment = a; rules = rules; closed = closed; usable = usable }
-
-  found : usable ≡ true → read_refusal state k ≡ None → (v : ℤ) × (slice_get (totals_in values k.side) k.index ≡ Some v) × (value_of (users_of rules) M a (whole_by k.side k.index) ≡ Ok v)
-  found can none =
-      let parts = replies state k [] none in
-      totals_there (users_of rules) M a values (kept.fresh parts.0 can) k.side k.index (total_within state k parts.1)
-
-  kept_there : usable ≡ true → read_refusal state k ≡ None → k.index < length (totals_in values k.side)
-  kept_there can none = let at = found can none in less_there (totals_in values k.side) k.index at.0 at.1
-
-  kept_reads : usable ≡ true → read_refusal state k ≡ None → (v : ℤ) → slice_get (totals_in values k.side) k.index ≡ Some v → fresh_total state k ≡ Ok v
-  kept_reads can none v there = let at = found can none in at.2 ∙ ap (λ (z : ℤ). let r : Result ℤ Failure = Ok z in r) (some_same at.0 v (sym at.1 ∙ there))
-
-  module _ (s : SolverState) (view : state ≡ s) where
-    pub total_kept : s.usable ≡ true → read_refusal s k ≡ None → k.index < length (totals_in values k.side)
-    total_kept = subst (λ (t : SolverState). t.usable ≡ true → read_refusal t k ≡ None → k.index < length (totals_in values k.side)) view kept_there
-
-    pub total_reads : s.usable ≡ true → read_refusal s k ≡ None → (v : ℤ) → slice_get (totals_in values k.side) k.index ≡ Some v → fresh_total s k ≡ Ok v
-    total_reads = subst (λ (t : SolverState). t.usable ≡ true → read_refusal t k ≡ None → (v : ℤ) → slice_get (totals_in values k.side) k.index ≡ Some v → fresh_total t k ≡ Ok v) view kept_reads

@@ -1,5 +1,5 @@
 -- What a solver keeps beside its state: which variables have a definition, the distinct subterms of the model where they
--- were counted, a rule for each user's constraint in the model, and the fresh values of all variables, systems and objectives once it is closed.
+-- were counted, and as long as it may be used a rule for each user's constraint in the model.
 use Rattle.std.specs.Prelude.{◌≡◌, ℕ, ℤ, ◌<◌, ◌^◌, Bool, true, false, List, length, Option, Some, None, Ok, slice_get, unwrap_or}
 use Rattle.cbl_base.specs.Inputs.{kind_of, number_kind}
 use Rattle.cbl_base.specs.NumberRule.{NumberRule}
@@ -34,20 +34,10 @@ pub record AreMarks (M : Model) (marks : List Bool) : Type 0 where
 abbrev pub AreMarkedOrNumbers : List Bool → List VarDecl → Type 0
 AreMarkedOrNumbers marks vars = (i : ℕ) → i < length vars → mark_at marks i ≡ false → kinds_in vars i ≡ Some number_kind
 
--- the fresh values of all variables, each of its kind
+-- the fresh values of all variables
 pub record AreFresh (users : ℕ → NumberRule) (M : Model) (a : List ℤ) (values : List Input) : Type 0 where
   pub count : length values ≡ length M.vars.items
   pub each : (i : ℕ) → i < length M.vars.items → slice_get values i ≡ outcome_of_var users M a i
-  pub kinds : (i : ℕ) (x : Input) → slice_get values i ≡ Some x → kinds_in M.vars.items i ≡ Some (kind_of x)
-
--- the fresh values of all systems, or of all objectives
-abbrev pub AreTotals : (ℕ → NumberRule) → Model → List ℤ → Side → List ℤ → Type 0
-AreTotals users M a side values =
-    (k : ℕ) → k < length (totals_by M side) → (v : ℤ) × (slice_get values k ≡ Some v) × (value_of users M a (whole_by side k) ≡ Ok v)
-
-abbrev pub totals_in : Fresh → Side → List ℤ
-totals_in values Systems = values.systems
-totals_in values Objectives = values.objectives
 
 -- the model may be evaluated
 pub record IsClosable (M : Model) : Type 0 where
@@ -59,12 +49,11 @@ abbrev pub IsCounted : Option Subterms → Model → Type 0
 IsCounted (Some terms) M = Counts terms (distinct_subterms M)
 IsCounted None M = Unit {0}
 
-pub record IsKept (M : Model) (a : List ℤ) (marks : List Bool) (rules : List KeptRule) (counted : Option Subterms) (values : Fresh) (closed usable : Bool) : Type 0 where
+pub record IsKept (M : Model) (a : List ℤ) (marks : List Bool) (rules : List KeptRule) (counted : Option Subterms) (closed usable : Bool) : Type 0 where
   pub formed : IsWellFormed M
   pub few : length M.vars.items < 2 ^ 32
   pub assigned : length a ≡ length M.vars.items
   pub marked : AreMarks M marks
   pub terms : IsCounted counted M
-  pub posted : length (users_posted M M.posted.items) ≡ length rules
+  pub posted : usable ≡ true → length (users_posted M M.posted.items) ≡ length rules
   pub closable : closed ≡ true → IsClosable M
-  pub fresh : closed ≡ true → usable ≡ true → fresh_of (users_of rules) M a ≡ Ok values

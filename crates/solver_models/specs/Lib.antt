@@ -12,7 +12,6 @@ pub mod NamedCycle
 pub mod Reading
 pub mod Replying
 pub mod State
-pub mod Telling
 pub mod Totals
 pub mod Unmarked
 pub mod UserPosting

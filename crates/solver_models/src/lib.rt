@@ -2,35 +2,28 @@
 //!
 //! It knows nothing of the solver that keeps these. The layer above uses the definitions (what a model becomes when a
 //! variable, a definition, a system, an objective or a member is added; the refusals; what is read, and what is
-//! replied), the functions that make these changes of a model, and the laws that a model stays well formed, which distinct
-//! subterms and definitions it then has, and what its fresh values are.
+//! replied), the functions that make these changes of a model, and the laws that a model stays well formed, and which
+//! distinct subterms and definitions it then has.
 #![tactic(auto)]
 
-mod changes;
 mod counting;
 mod cycle;
 mod free;
-mod holding;
 mod ids;
 mod kinds;
 mod marks;
 mod moves;
 mod places;
 mod putting;
-mod replying;
-mod telling;
 mod totals;
 
 pub use counting::counted_with;
 pub use cycle::cycle_of;
 pub use free::{free_count, free_moves, free_numbers};
-pub use holding::{settled, settled_first};
 pub use ids::{are_given, defines_given, is_given, is_within, names_given};
 pub use kinds::{holds_user, is_number, is_of_kind};
 pub use marks::{are_marked_or_numbers, mark, mark_at};
 pub use moves::{any_marked, are_moves_given, write_moves};
-pub use places::{number_at, number_in, set_in};
+pub use places::number_at;
 pub use putting::{push_definition, push_variable};
-pub use replying::{total_delta, violations_in};
-pub use telling::{Told, tell};
-pub use totals::{ObjectiveId, SystemId, TotalId, push_member, push_total, totals_in, whole_of};
+pub use totals::{ObjectiveId, SystemId, TotalId, push_member, push_total, whole_of};

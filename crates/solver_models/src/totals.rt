@@ -1,16 +1,14 @@
 //! Systems and objectives: their ids, and what is put behind the others.
 ghost use Rattle.std.specs.Prelude.{◌≡◌, ◌<◌, [], ◌∷◌, ◌++◌, Some, length, slice_get, vec_capacity, vec_len, IfOk, OnOk, OnErr};
 ghost use Rattle.std.specs.Option.{option_map};
-ghost use Rattle.model_values.specs.Fresh.{seen_values};
 ghost use Rattle.solver_models.specs.Adding.{GetsMember, Grows};
-ghost use Rattle.solver_models.specs.Kept.{totals_in};
 ghost use Rattle.solver_models.specs.State.{IsSameModel};
 ghost use Rattle.solver_models.specs.Totals.{GetsTotal, IsPushed, of_objective, of_system, whole_of};
 ghost use Rattle.term_model.specs.Posting.{totals_by};
 ghost use Rattle.term_model.specs.declared.posting.Side.TheVariants.{Systems, Objectives};
 
 use cbl_base::{NoMemory, Place};
-use model_values::{Values, Whole};
+use model_values::Whole;
 use std::alloc::Global;
 use term_model::{Member, Model, Posted, Side, Total};
 
@@ -67,16 +65,6 @@ pub fn whole_of(k: TotalId) -> Whole
     match k.side {
         Side::Systems => Whole::System(k.index as usize),
         Side::Objectives => Whole::Objective(k.index as usize),
-    }
-}
-
-/// The values of all systems, or of all objectives.
-pub fn totals_in(values: &Values, side: Side) -> &[i64]
-    ensures { result.now ≡ totals_in (seen_values values.now) side }
-{
-    match side {
-        Side::Systems => &values.systems,
-        Side::Objectives => &values.objectives,
     }
 }
 

@@ -5,10 +5,11 @@ use Rattle.cbl_base.specs.declared.ids.NodeId.{NodeId}
 use Rattle.cbl_base.specs.declared.ids.VarId.{VarId}
 use Rattle.cbl_base.specs.declared.input.Input.{Input}
 use Rattle.inc_store.specs.Moves.{is_moved, moved_to}
-use Rattle.inc_store.specs.Views.{graph_in, value_at}
+use Rattle.inc_store.specs.Views.{KeepsNodes, graph_in, value_at}
 use Rattle.inc_store.specs.declared.store.Store.{Store}
 use Rattle.store_build.proofs.Existence.{exists}
-use Rattle.store_turns.specs.Meaning.{Graph, IsMeaning, is_empty, inputs_in, layer_of, outcome_at, uses_in}
+use Rattle.store_turns.specs.Meaning.{Graph, IsMeaning, graph_of, is_empty, inputs_in, layer_of, outcome_at, uses_in}
+use Rattle.store_turns.specs.declared.frame.Frame.{Frame}
 use Rattle.store_turns.specs.declared.outcome.Outcome.{Outcome}
 use Rattle.store_turns.specs.declared.outcome.Outcome.TheVariants.{Value}
 use Rattle.graph_values.specs.Members.{numbers_of}
@@ -18,6 +19,10 @@ use Rattle.model_store.specs.Settings.{AreOfVariables, Setting, numbers_after, n
 use Rattle.model_store.proofs.StoreLemmas.{given_after as model_given_after, moves_assigned}
 use Rattle.store_laws.specs.ModelTouch.{AreUses, IsWhole, model_touch}
 use Rattle.store_laws.proofs.Touches.{touch_same}
+
+-- a store that keeps its nodes keeps its graph
+pub same_graph : {N : Type 0} (rule : N → Rule) (old new : Store N) → KeepsNodes rule old new → graph_in rule new ≡ graph_in rule old
+same_graph rule old new keeps = ap (λ (rs : List Rule). graph_of rs new.frame) keeps.0 ∙ ap (λ (f : Frame). graph_of (map rule old.nodes.items) f) keeps.1
 
 module _ {N : Type 0} (rule : N → Rule) (held : N → List Input) (ready : N → Type 0) (setting : Setting) (s : Store N) (is : IsStoreOf rule held ready setting s) (ms : List (VarId × ℤ)) (own : AreOfVariables setting.model ms) where
   abbrev g : Graph

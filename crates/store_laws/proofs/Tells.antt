@@ -1,5 +1,6 @@
 -- What a trial tells at the target of a system or an objective is the model's delta.
-use Rattle.std.proofs.Common.{◌≡◌, ◌⊎◌, inl, inr, ℕ, ℤ, pos, ◌-ℤ◌, ◌+◌, ◌-◌, ◌<◌, Bool, true, false, List, [], ◌∷◌, ◌++◌, map, length, Result, Ok, Err, refl, sym, ap, ◌∙◌, subst, arith}
+use Rattle.std.proofs.Common.{◌≡◌, ◌⊎◌, inl, inr, ℕ, ℤ, pos, ◌-ℤ◌, ◌+◌, ◌-◌, ◌<◌, ◌≤◌, Bool, true, false, List, [], ◌∷◌, ◌++◌, map, length, Result, Ok, Err, refl, sym, ap, ◌∙◌, subst, arith}
+use Rattle.std.proofs.lemmas.Bool.{cases_lt}
 use Rattle.std.specs.Prelude.{if◌then◌else◌, nat_eq, slice_set, slice_index_or, IfOk, IfErr}
 use Rattle.cbl_base.specs.Arithmetic.{exact}
 use Rattle.cbl_base.specs.NumberRule.{NumberRule}
@@ -13,6 +14,7 @@ use Rattle.cbl_base.specs.declared.place.Place.{Place}
 use Rattle.inc_store.specs.Moves.{moved_to}
 use Rattle.model_values.specs.Asked.{answer_of, stop_at}
 use Rattle.model_values.specs.Delta.{delta_of, difference, moved, moves_defined, value_of}
+use Rattle.model_values.specs.VarOutcomes.{outcome_of_var}
 use Rattle.model_values.specs.Wholes.{IsOf}
 use Rattle.model_values.specs.declared.asked.AskStop.{AskStop}
 use Rattle.model_values.specs.declared.asked.AskStop.TheVariants.{Run, Fault}
@@ -27,13 +29,17 @@ use Rattle.store_turns.specs.declared.outcome.Outcome.TheVariants.{Value, Fails}
 use Rattle.term_model.specs.Definitions.{IsAcyclic}
 use Rattle.term_model.specs.Wellformed.{IsWellFormed}
 use Rattle.term_model.specs.declared.model.Model.{Model}
-use Rattle.trial.specs.Differences.{AreNumbers, Exceeds, FailsAfter, FailsBelow, IsDifference, IsRefusal}
-use Rattle.trial.specs.declared.fault.TrialFault.{TrialFault}
-use Rattle.trial.specs.declared.fault.TrialFault.TheVariants.{Node, NoMemory}
+use Rattle.trial.specs.Differences.{AreNumbers, FailsAfter, FailsBelow, IsDifference, IsStopped}
+use Rattle.trial.specs.declared.fault.DifferenceFault.{DifferenceFault}
+use Rattle.trial.specs.declared.fault.DifferenceFault.TheVariants.{Node, Difference, NoMemory}
 use Rattle.graph_values.specs.Links.{AreAssigned}
-use Rattle.graph_values.specs.Members.{numbers_of, variables_of, weights_of}
-use Rattle.graph_values.specs.Outcomes.{IsGiven}
+use Rattle.graph_values.specs.Graphs.{HoldsTerms, count_of}
+use Rattle.graph_values.specs.Members.{cells_of, numbers_of, variables_of, weights_of}
+use Rattle.graph_values.specs.Outcomes.{IsGiven, fresh_at}
 use Rattle.graph_values.specs.Totals.{HoldsModel, IsAt, IsRepeat}
+use Rattle.graph_values.proofs.FirstFailing.{var_fails}
+use Rattle.graph_values.proofs.FreshMeaning.{at_var, at_weight}
+use Rattle.graph_values.proofs.Held.{same_fresh}
 use Rattle.graph_values.proofs.Stores.{meaning_assigned}
 use Rattle.graph_values.proofs.WeightCells.{length_numbers}
 use Rattle.model_store.specs.Settings.{AreOfVariables, numbers_after}
@@ -68,6 +74,21 @@ module _ (M : Model) (g : Graph) (a : List ℤ) (free : ℕ → Input) (cells : 
 
   pub given_after : IsGiven M a → IsGiven M (moved a move)
   given_after given = record { formed = given.formed; acyclic = given.acyclic; long = length_moved a move ms is ∙ given.long }
+
+-- ---- no cell fails
+module _ (users : ℕ → NumberRule) (M : Model) (a : List ℤ) (given : IsGiven M a) (g : Graph) (holds : HoldsTerms users M g) (o : ℕ → Outcome) (meaning : IsMeaning g (start_of (numbers_of M a)) o) where
+  cell_never : (id : ℕ) (fault : RunFault) → id < cells_of M → o id ≡ Fails fault → ⊥
+  cell_never id fault lt e = elim (cases_lt id (variables_of M)) [
+    | inl var ↦ var_fails users (outcome_of_var users M a) id fault (sym (fresh id lt ∙ at_var users M a id var) ∙ e)
+    | inr weight ↦ (let c : Value (start_of (numbers_of M a) id) ≡ Fails fault = sym (fresh id lt ∙ at_weight users M a id (omega (arith, weight)) lt) ∙ e in cc)
+  ]
+    where
+      fresh : (id : ℕ) → id < cells_of M → o id ≡ fresh_at users M a id
+      fresh id lt = same_fresh users M a given.formed given.acyclic given.long g holds o meaning id (omega (arith, lt))
+
+  -- so an id that fails is a node's
+  pub fails_behind : (id : ℕ) (fault : RunFault) → o id ≡ Fails fault → cells_of M ≤ id
+  fails_behind id fault e = elim (cases_lt id (cells_of M)) [ | inl low ↦ absurd (cell_never id fault low e) | inr high ↦ omega (arith, high) ]
 
 -- ---- in a graph that holds the model
 module _ (users : ℕ → NumberRule) (M : Model) (g : Graph) (id_of_total : Whole → ℕ) (holds : HoldsModel users M g id_of_total) (whole : Whole) (there : IsOf M whole) (target : ℕ) (is : IsTarget g id_of_total whole target) where
@@ -116,13 +137,14 @@ module _ (users : ℕ → NumberRule) (M : Model) (g : Graph) (id_of_total : Who
     told_difference : (d : ℤ) → IsDifference g free (moved_to ms free) target d → answer ≡ Ok d
     told_difference d h = from_numbers h.0 h.1 h.2 ∙ ap answer_of h.3
 
-    told_refusal : (stop : TrialFault) → IsRefusal g free (moved_to ms free) target stop → IsTold M id_of_total target answer (Err stop)
-    told_refusal (Node node fault) (inl h) =
+    told_stop : (stop : DifferenceFault) → IsStopped g free (moved_to ms free) target stop → IsTold M id_of_total answer (Err stop)
+    told_stop (Node node fault) h =
         let f = has_failure after given' (moved_to ms free) assigned' h.0 h.1 node.0 fault h.2 in
-        inl (f.failure.place, f.place, answer_is ∙ ap (λ r. difference r (value_of users M a whole)) f.value ∙ ap (λ e. Err (Fault f.failure.place e)) f.fault)
-    told_refusal (Node node fault) (inr h) = inr (h.0, from_numbers h.1 h.2 h.3 ∙ ap answer_of h.4)
-    told_refusal NoMemory h = tt
+        let own = meaning_assigned g (numbers_of M after) (moved_to ms free) h.0 assigned' h.1 in
+        (fails_behind users M after given' g holds.terms h.0 own node.0 fault h.2.here, f.failure.place, f.place, answer_is ∙ ap (λ r. difference r (value_of users M a whole)) f.value ∙ ap (λ e. Err (Fault f.failure.place e)) f.fault)
+    told_stop (Difference fault) h = from_numbers h.0 h.1 h.2 ∙ ap answer_of h.3
+    told_stop NoMemory h = tt
 
-    pub told : (result : Result ℤ TrialFault) → IfOk result (λ d. IsDifference g free (moved_to ms free) target d) → IfErr result (λ stop. IsRefusal g free (moved_to ms free) target stop) → IsTold M id_of_total target answer result
+    pub told : (result : Result ℤ DifferenceFault) → IfOk result (λ d. IsDifference g free (moved_to ms free) target d) → IfErr result (λ stop. IsStopped g free (moved_to ms free) target stop) → IsTold M id_of_total answer result
     told (Ok d) ok err = told_difference d ok
-    told (Err stop) ok err = told_refusal stop err
+    told (Err stop) ok err = told_stop stop err

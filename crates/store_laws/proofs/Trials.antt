@@ -29,8 +29,8 @@ use Rattle.store_turns.specs.declared.outcome.Outcome.TheVariants.{Value, Fails,
 use Rattle.term_count.proofs.PlaceLaws.{both}
 use Rattle.term_model.specs.Definitions.{definition_of, term_of}
 use Rattle.term_model.specs.declared.model.Model.{Model}
-use Rattle.trial.specs.Differences.{IsDifference, IsRefusal}
-use Rattle.trial.specs.declared.fault.TrialFault.{TrialFault}
+use Rattle.trial.specs.Differences.{IsDifference, IsStopped}
+use Rattle.trial.specs.declared.fault.DifferenceFault.{DifferenceFault}
 use Rattle.graph_values.specs.Graphs.{HoldsTerms, inputs_of, inputs_of_cell, inputs_of_node, term_at}
 use Rattle.graph_values.specs.Members.{cells_of, numbers_of, variables_of}
 use Rattle.graph_values.specs.Totals.{HoldsModel, came_repeat, came_total}
@@ -138,8 +138,8 @@ module _ {N : Type 0} (rule : N → Rule) (held : N → List Input) (ready : N �
     pub may_move : AreMoves g ms
     may_move = are_moves (users_in setting) M g is.holds.terms setting.assignment move ms of proper undefined
 
-    pub store_told : (result : Result ℤ TrialFault) → IfOk result (λ d. IsDifference g (value_at s) (moved_to ms (value_at s)) target d) → IfErr result (λ stop. IsRefusal g (value_at s) (moved_to ms (value_at s)) target stop) →
-        IsTold M setting.total target (delta_of (users_in setting) M setting.assignment whole move) result
+    pub store_told : (result : Result ℤ DifferenceFault) → IfOk result (λ d. IsDifference g (value_at s) (moved_to ms (value_at s)) target d) → IfErr result (λ stop. IsStopped g (value_at s) (moved_to ms (value_at s)) target stop) →
+        IsTold M setting.total (delta_of (users_in setting) M setting.assignment whole move) result
     store_told result ok err =
         told (users_in setting) M g setting.total is.holds whole own target aim setting.assignment is.given (value_at s) is.assigned free_cells move proper undefined ms of result ok err
 

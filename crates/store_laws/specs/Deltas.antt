@@ -1,6 +1,6 @@
 -- What a trial over a graph that holds a model tells of a system or an objective, and what the model says of it. A rule
 -- of this project.
-use Rattle.std.specs.Prelude.{◌≡◌, ◌≢◌, ◌⊎◌, ℕ, ℤ, ◌<◌, true, false, List, [], ◌∷◌, Result, Ok, Err, slice_index_or, pos}
+use Rattle.std.specs.Prelude.{◌≡◌, ◌≢◌, ◌⊎◌, ℕ, ℤ, ◌<◌, ◌≤◌, true, false, List, [], ◌∷◌, Result, Ok, Err, slice_index_or, pos}
 use Rattle.cbl_base.specs.NumberRule.{NumberRule}
 use Rattle.cbl_base.specs.declared.faults.RunFault.{RunFault}
 use Rattle.cbl_base.specs.declared.ids.VarId.{VarId}
@@ -17,8 +17,8 @@ use Rattle.model_values.specs.declared.failure.Failure.{Failure}
 use Rattle.model_values.specs.declared.wholes.Whole.{Whole}
 use Rattle.store_turns.specs.Meaning.{Graph}
 use Rattle.term_model.specs.declared.model.Model.{Model}
-use Rattle.trial.specs.declared.fault.TrialFault.{TrialFault}
-use Rattle.trial.specs.declared.fault.TrialFault.TheVariants.{Node, NoMemory}
+use Rattle.trial.specs.declared.fault.DifferenceFault.{DifferenceFault}
+use Rattle.trial.specs.declared.fault.DifferenceFault.TheVariants.{Node, Difference, NoMemory}
 use Rattle.graph_values.specs.Members.{cells_of, variables_of}
 use Rattle.graph_values.specs.Totals.{IsAt, IsRepeat}
 
@@ -44,12 +44,12 @@ IsMoveOf a (Swap left right) ms =
     (v : VarId) × (w : VarId) × (v.index ≡ right) × (w.index ≡ left) × (ms ≡ (v, slice_index_or a left (pos 0)) ∷ (w, slice_index_or a right (pos 0)) ∷ [])
 
 -- an answer is the one of which a trial tells: the same number; or a fault in the model, at the place of the node; or
--- one of the difference, at the target
-abbrev pub IsTold : Model → (Whole → ℕ) → ℕ → Result ℤ AskStop → Result ℤ TrialFault → Type 0
-IsTold M id_of_total target answer (Ok d) = answer ≡ Ok d
-IsTold M id_of_total target answer (Err (Node node fault)) =
-    ((place : Place) × IsAt M id_of_total node.0 place × (answer ≡ Err (Fault place fault))) ⊎ ((node.0 ≡ target) × (answer ≡ Err (Run fault)))
-IsTold M id_of_total target answer (Err NoMemory) = Unit {0}
+-- one of the difference
+abbrev pub IsTold : Model → (Whole → ℕ) → Result ℤ AskStop → Result ℤ DifferenceFault → Type 0
+IsTold M id_of_total answer (Ok d) = answer ≡ Ok d
+IsTold M id_of_total answer (Err (Node node fault)) = (cells_of M ≤ node.0) × (place : Place) × IsAt M id_of_total node.0 place × (answer ≡ Err (Fault place fault))
+IsTold M id_of_total answer (Err (Difference fault)) = answer ≡ Err (Run fault)
+IsTold M id_of_total answer (Err NoMemory) = Unit {0}
 
 -- a move of the model's own variables, of two of them where it is a swap
 abbrev pub IsProper : Model → Move → Type 0

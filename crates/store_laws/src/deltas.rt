@@ -11,18 +11,18 @@ ghost use Rattle.store_laws.specs.Deltas.{IsAsked, IsTarget, IsTold, Question, d
 use cbl_base::{NodeId, NodeRule, Steps, VarId};
 use inc_store::Store;
 use std::sync::ledger::Ledger;
-use trial::{Trial, TrialFault};
+use trial::{DifferenceFault, Trial};
 
 /// The model's delta of a move of free variables, of two where it is a swap, for a system or an objective of
-/// which the target is the total, or repeats it; or its fault, at the node's place; or at the target that of
-/// the difference. The steps are at most four times what the move touches, whatever the answer.
+/// which the target is the total, or repeats it; or its fault, at the node's place; or that of the difference.
+/// The steps are at most four times what the move touches, whatever the answer.
 pub fn delta<N: NodeRule, L: Ledger>(
     trial: &mut Trial,
     store: &Store<N>,
     moves: &[(VarId, i64)],
     target: NodeId,
     steps: &mut Steps<L>,
-) -> Result<i64, TrialFault>
+) -> Result<i64, DifferenceFault>
     ghost question: { Question }
     requires store { IsStoreOf N.rule N.held N.ready question.setting store.now }
     requires asked { IsAsked question moves.now }
@@ -30,11 +30,11 @@ pub fn delta<N: NodeRule, L: Ledger>(
         question.whole target.0 }
     requires graph { IsWhole (users_in question.setting) question.setting.model
         (graph_in N.rule store.now) }
-    ensures told { IsTold question.setting.model question.setting.total target.0
+    ensures told { IsTold question.setting.model question.setting.total
         (delta_asked question) result }
     ensures steps { steps.new ≤ steps.old + 4 * model_touch (users_in question.setting)
         question.setting.model question.setting.assignment question.setting.model
         (moved question.setting.assignment question.change) (is_moved moves.now) }
 {
-    trial.probe(store, moves, target, steps)
+    trial.difference(store, moves, target, steps)
 }

@@ -32,8 +32,8 @@ ghost use Rattle.term_model.specs.Wellformed.{IsWellFormed};
 ghost use Rattle.term_model.specs.declared.model.Model.{Model};
 ghost use Rattle.term_model.specs.declared.term.Term.{Term};
 ghost use Rattle.trial.specs.Differences.{FailsBelow};
-ghost use Rattle.trial.specs.Parts.{Tells};
-ghost use Rattle.trial.specs.declared.fault.TrialFault.{TrialFault};
+ghost use Rattle.trial.specs.Parts.{TellsApart};
+ghost use Rattle.trial.specs.declared.fault.DifferenceFault.{DifferenceFault};
 
 /// In a graph that holds a model, a total stands on the nodes of exactly those subterms on which its system or
 /// objective stands, and on the cells of exactly those variables on which a member depends. What else it
@@ -74,8 +74,8 @@ pub fn failure_law()
 
 /// In a graph that holds a model, and whose free cells hold the numbers of an assignment, what a trial tells
 /// of a move of free variables at the total of a system or an objective, or at a node that repeats it, is the
-/// model's delta of the move: the same number; or the same fault, at the node's place in the model; or, at the
-/// target, that of the difference.
+/// model's delta of the move: the same number; or the same fault, at the node's place in the model; or that of
+/// the difference.
 pub fn delta_law()
     ensures { (users : ℕ → NumberRule) (M : Model) (a : List ℤ) (g : Graph) (total : Whole → ℕ) →
         IsGiven M a → HoldsModel users M g total → HasFreeCells M g →
@@ -83,9 +83,9 @@ pub fn delta_law()
         (whole : Whole) → IsOf M whole → (target : ℕ) → IsTarget g total whole target →
         (change : Move) → IsProper M change → moves_defined M change ≡ false →
         (ms : List (VarId × ℤ)) → IsMoveOf a change ms →
-        (uses : ℕ → List (NodeId × ℕ)) (result : Result ℤ TrialFault) (base steps : ℕ) →
-        Tells g uses free ms target result base steps →
-        IsTold M total target (delta_of users M a whole change) result }
+        (uses : ℕ → List (NodeId × ℕ)) (result : Result ℤ DifferenceFault) (base steps : ℕ) →
+        TellsApart g uses free ms target result base steps →
+        IsTold M total (delta_of users M a whole change) result }
 {}
 
 /// In the graph of a model with its totals, and in one that is the same, all of whose ids have values now, what

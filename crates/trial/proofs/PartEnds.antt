@@ -21,9 +21,9 @@ use Rattle.inc_store.specs.Moves.{moved_to, is_moved}
 use Rattle.inc_store.specs.Stores.{IsWithin}
 use Rattle.trial.proofs.Imagined.{not_below}
 use Rattle.trial.proofs.PartFrames.{each_both}
-use Rattle.trial.specs.declared.fault.TrialFault.{TrialFault}
-use Rattle.trial.specs.declared.fault.TrialFault.TheVariants.{Node, NoMemory}
-use Rattle.trial.specs.Differences.{FailsBelow, AreNumbers, IsDifference, IsRefusal}
+use Rattle.trial.specs.declared.fault.DifferenceFault.{DifferenceFault}
+use Rattle.trial.specs.declared.fault.DifferenceFault.TheVariants.{Node, Difference, NoMemory}
+use Rattle.trial.specs.Differences.{FailsBelow, AreNumbers, IsDifference, IsStopped}
 use Rattle.trial.specs.Parts.{Part, IsPart, part_graph, value_in, moves_of, touch_among, IsWithinBelow}
 use Rattle.trial.proofs.Finish.{each_at, as_number, exact_self}
 use Rattle.trial.proofs.PartMoves.{free_part, to_part, stays_part, moved_part}
@@ -156,10 +156,10 @@ module _ (rules : List Rule) (helds : List (List Input)) (frame : Frame) (cells 
     pub difference_of : (d : ℤ) → IsDifference (part_graph part) (value_in part) (moved_to (moves_of test ms) (value_in part)) target d → IsDifference (graph_of rules frame) (cell_of cells) (moved_to ms (cell_of cells)) target d
     difference_of d h = (h.0, h.1, numbers_of h.0 h.1 h.2, h.3)
 
-    pub refusal_of : (stop : TrialFault) → IsRefusal (part_graph part) (value_in part) (moved_to (moves_of test ms) (value_in part)) target stop → IsRefusal (graph_of rules frame) (cell_of cells) (moved_to ms (cell_of cells)) target stop
-    refusal_of (Node node fault) (inl h) = inl (o_after, means_after, below_of o_after h.0 node.0 fault (same_after h.0 h.1) h.2)
-    refusal_of (Node node fault) (inr h) = inr (h.0, h.1, h.2, numbers_of h.1 h.2 h.3, h.4)
-    refusal_of NoMemory h = tt
+    pub stopped_of : (stop : DifferenceFault) → IsStopped (part_graph part) (value_in part) (moved_to (moves_of test ms) (value_in part)) target stop → IsStopped (graph_of rules frame) (cell_of cells) (moved_to ms (cell_of cells)) target stop
+    stopped_of (Node node fault) h = (o_after, means_after, below_of o_after h.0 node.0 fault (same_after h.0 h.1) h.2)
+    stopped_of (Difference fault) h = (h.0, h.1, numbers_of h.0 h.1 h.2, h.3)
+    stopped_of NoMemory h = tt
 
     as_before : IsMeaning (part_graph part) (moved_to [] (value_in part)) (λ j. Value (value_in part j))
     as_before = record { cells = is.kept.fresh.cells; nodes = is.kept.fresh.nodes }

@@ -1,25 +1,33 @@
 -- What is asked of the part that a target stands on, and what the store's answer is then.
-use Rattle.std.proofs.Common.{◌≡◌, ℕ, ℤ, pos, ◌<◌, Bool, true, false, not, List, [], ◌∷◌, length, Result, Ok, Err, IfOk, IfErr, refl, sym, subst, arith}
+use Rattle.std.proofs.Common.{◌≡◌, inl, inr, ℕ, ℤ, pos, ◌<◌, Bool, true, false, not, List, [], ◌∷◌, length, Result, Ok, Err, IfOk, IfErr, refl, sym, subst, arith}
 use Rattle.cbl_base.specs.Inputs.{number_kind, kind_of}
 use Rattle.cbl_base.specs.NodeLaw.{Rule}
+use Rattle.cbl_base.specs.declared.ids.NodeId.{NodeId}
 use Rattle.cbl_base.specs.declared.ids.VarId.{VarId}
 use Rattle.cbl_base.specs.declared.input.Input.{Input}
 use Rattle.store_turns.specs.declared.frame.Cone.{Cone}
 use Rattle.store_turns.specs.declared.frame.Frame.{Frame}
 use Rattle.store_turns.specs.Cones.{StandsOn, IsCone, has}
-use Rattle.store_turns.specs.Meaning.{Each, is_empty, graph_of, inputs_in, uses_in}
+use Rattle.store_turns.specs.Meaning.{Each, Graph, is_empty, graph_of, inputs_in, uses_in}
 use Rattle.store_build.specs.Frames.{cell_of}
 use Rattle.store_build.proofs.LaidLemmas.{if_ok}
 use Rattle.store_build.specs.Kept.{IsKept}
 use Rattle.inc_store.specs.Moves.{AreMoves, moved_to, is_moved}
 use Rattle.inc_store.specs.Stores.{IsWithin}
-use Rattle.trial.specs.declared.fault.TrialFault.{TrialFault}
-use Rattle.trial.specs.Differences.{IsDifference, IsRefusal}
+use Rattle.trial.specs.declared.fault.DifferenceFault.{DifferenceFault}
+use Rattle.trial.specs.declared.fault.DifferenceFault.TheVariants.{Node, Difference, NoMemory}
+use Rattle.trial.specs.Differences.{IsDifference, IsRefusal, IsStopped, fault_at}
 use Rattle.trial.specs.Parts.{Query, IsPart, IsPaid, IsWithinBelow, part_graph, value_in, after_in, moves_of}
 use Rattle.trial.proofs.PartCones.{closed_is, target_is}
-use Rattle.trial.proofs.PartEnds.{difference_of, refusal_of, unmoved, within_of, below_within}
+use Rattle.trial.proofs.PartEnds.{difference_of, stopped_of, unmoved, within_of, below_within}
 use Rattle.trial.proofs.PartFrames.{part_of, is_part}
 use Rattle.trial.proofs.PartMoves.{are_moves}
+
+-- the fault of a difference, told at the target
+pub refused : (g : Graph) (now after : ℕ → Input) (target : NodeId) (stop : DifferenceFault) → IsStopped g now after target.0 stop → IsRefusal g now after target.0 (fault_at target stop)
+refused g now after target (Node node fault) h = inl h
+refused g now after target (Difference fault) h = inr (refl, h.0, h.1, h.2, h.3)
+refused g now after target NoMemory h = tt
 
 if_err : {A E : Type 0} {P Q : E → Type 0} (r : Result A E) → IfErr r P → ((e : E) → P e → Q e) → IfErr r Q
 if_err (Ok x) h f = tt
@@ -59,13 +67,13 @@ module _ (rules : List Rule) (helds : List (List Input)) (frame : Frame) (cells 
   asked_of base = record { part = part_of (has members) rules helds frame cells; ask = record { moves = moves_of (has members) ms; base = base } }
 
   module _ (base : ℕ) where
-    pub difference_told : (r : Result ℤ TrialFault) → IfOk r (λ d. IsDifference (part_graph (asked_of base).part) (value_in (asked_of base).part) (after_in (asked_of base)) cone.target d)
+    pub difference_told : (r : Result ℤ DifferenceFault) → IfOk r (λ d. IsDifference (part_graph (asked_of base).part) (value_in (asked_of base).part) (after_in (asked_of base)) cone.target d)
         → IfOk r (λ d. IsDifference (graph_of rules frame) (cell_of cells) (moved_to ms (cell_of cells)) cone.target d)
     difference_told r h = if_ok r h (λ d e. difference_of rules helds frame cells kept (has members) closed (part_of (has members) rules helds frame cells) part_is ms cone.target lt member d e)
 
-    pub refusal_told : (r : Result ℤ TrialFault) → IfErr r (λ stop. IsRefusal (part_graph (asked_of base).part) (value_in (asked_of base).part) (after_in (asked_of base)) cone.target stop)
-        → IfErr r (λ stop. IsRefusal (graph_of rules frame) (cell_of cells) (moved_to ms (cell_of cells)) cone.target stop)
-    refusal_told r h = if_err r h (λ stop e. refusal_of rules helds frame cells kept (has members) closed (part_of (has members) rules helds frame cells) part_is ms cone.target lt member stop e)
+    pub stopped_told : (r : Result ℤ DifferenceFault) → IfErr r (λ stop. IsStopped (part_graph (asked_of base).part) (value_in (asked_of base).part) (after_in (asked_of base)) cone.target stop)
+        → IfErr r (λ stop. IsStopped (graph_of rules frame) (cell_of cells) (moved_to ms (cell_of cells)) cone.target stop)
+    stopped_told r h = if_err r h (λ stop e. stopped_of rules helds frame cells kept (has members) closed (part_of (has members) rules helds frame cells) part_is ms cone.target lt member stop e)
 
     pub steps_told : (steps : ℕ) → IsPaid (asked_of base) steps → IsWithin (graph_of rules frame) (cell_of cells) (moved_to ms (cell_of cells)) (is_moved ms) (uses_in frame) base steps
     steps_told steps paid = within_of rules helds frame cells kept (has members) closed (part_of (has members) rules helds frame cells) part_is ms base steps paid

@@ -4,10 +4,13 @@ use Rattle.cbl_base.specs.Arithmetic.{exact}
 use Rattle.cbl_base.specs.declared.input.Input.{Input}
 use Rattle.cbl_base.specs.declared.input.Input.TheVariants.{Int}
 use Rattle.cbl_base.specs.declared.faults.RunFault.{RunFault}
+use Rattle.cbl_base.specs.declared.ids.NodeId.{NodeId}
 use Rattle.store_turns.specs.declared.outcome.Outcome.{Outcome}
 use Rattle.store_turns.specs.declared.outcome.Outcome.TheVariants.{Value, Fails}
 use Rattle.store_turns.specs.Meaning.{Graph, IsMeaning}
 use Rattle.store_turns.specs.Cones.{StandsOn}
+use Rattle.trial.specs.declared.fault.DifferenceFault.{DifferenceFault}
+use Rattle.trial.specs.declared.fault.DifferenceFault.TheVariants as stops
 use Rattle.trial.specs.declared.fault.TrialFault.{TrialFault}
 use Rattle.trial.specs.declared.fault.TrialFault.TheVariants.{Node, NoMemory}
 
@@ -41,3 +44,18 @@ Exceeds g now after target id fault = (id ≡ target) × (x : ℤ) × (y : ℤ) 
 abbrev pub IsRefusal : Graph → (ℕ → Input) → (ℕ → Input) → ℕ → TrialFault → Type 0
 IsRefusal g now after target (Node node fault) = FailsAfter g after target node.0 fault ⊎ Exceeds g now after target node.0 fault
 IsRefusal g now after target NoMemory = Unit {0}
+
+-- the same with that of the difference told apart
+abbrev pub Overflows : Graph → (ℕ → Input) → (ℕ → Input) → ℕ → RunFault → Type 0
+Overflows g now after target fault = (x : ℤ) × (y : ℤ) × AreNumbers g now after target x y × (exact (y -ℤ x) ≡ Err fault)
+
+abbrev pub IsStopped : Graph → (ℕ → Input) → (ℕ → Input) → ℕ → DifferenceFault → Type 0
+IsStopped g now after target (stops.Node node fault) = FailsAfter g after target node.0 fault
+IsStopped g now after target (stops.Difference fault) = Overflows g now after target fault
+IsStopped g now after target stops.NoMemory = Unit {0}
+
+-- and told together
+abbrev pub fault_at : NodeId → DifferenceFault → TrialFault
+fault_at target (stops.Node node fault) = Node node fault
+fault_at target (stops.Difference fault) = Node target fault
+fault_at target stops.NoMemory = NoMemory

@@ -14,10 +14,11 @@ use Rattle.store_build.specs.Frames.{cell_of}
 use Rattle.store_build.specs.Kept.{IsKept}
 use Rattle.inc_store.specs.Moves.{moved_to, is_moved}
 use Rattle.inc_store.specs.Stores.{IsWithin}
+use Rattle.trial.specs.declared.fault.DifferenceFault.{DifferenceFault}
 use Rattle.trial.specs.declared.fault.TrialFault.{TrialFault}
 use Rattle.trial.specs.declared.overlay.Overlay.{Overlay}
 use Rattle.trial.specs.Course.{Asked, InProbe, IsKnown}
-use Rattle.trial.specs.Differences.{IsDifference, IsRefusal}
+use Rattle.trial.specs.Differences.{IsDifference, IsRefusal, IsStopped}
 
 -- rules, what the nodes hold, how they hang together, and the values of all ids
 pub record Part : Type 0 where
@@ -88,5 +89,12 @@ IsWithinBelow g target before free moved uses base steps =
 pub record Tells (g : Graph) (uses : ℕ → List (NodeId × ℕ)) (before : ℕ → Input) (ms : List (VarId × ℤ)) (target : ℕ) (result : Result ℤ TrialFault) (base steps : ℕ) : Type 0 where
   pub difference : IfOk result (λ d. IsDifference g before (moved_to ms before) target d)
   pub fault : IfErr result (λ stop. IsRefusal g before (moved_to ms before) target stop)
+  pub steps_in_all : IsWithin g before (moved_to ms before) (is_moved ms) uses base steps
+  pub steps_below : IsWithinBelow g target before (moved_to ms before) (is_moved ms) uses base steps
+
+-- the same with a difference that doesn't fit told apart
+pub record TellsApart (g : Graph) (uses : ℕ → List (NodeId × ℕ)) (before : ℕ → Input) (ms : List (VarId × ℤ)) (target : ℕ) (result : Result ℤ DifferenceFault) (base steps : ℕ) : Type 0 where
+  pub difference : IfOk result (λ d. IsDifference g before (moved_to ms before) target d)
+  pub fault : IfErr result (λ stop. IsStopped g before (moved_to ms before) target stop)
   pub steps_in_all : IsWithin g before (moved_to ms before) (is_moved ms) uses base steps
   pub steps_below : IsWithinBelow g target before (moved_to ms before) (is_moved ms) uses base steps

@@ -6,12 +6,12 @@ ghost use Rattle.cbl_base.specs.Arithmetic.{exact};
 ghost use Rattle.cbl_base.specs.Inputs.{number_kind, kind_of, number_of};
 ghost use Rattle.store_build.specs.Kept.{IsKept};
 ghost use Rattle.inc_store.specs.Views.{IsUsable, value_at, count_of};
-ghost use Rattle.trial.specs.Differences.{IsDifference, IsRefusal};
+ghost use Rattle.trial.specs.Differences.{IsDifference, IsStopped};
 ghost use Rattle.trial.specs.Overlays.{new_or, root_in};
 ghost use Rattle.trial.specs.Parts.{Query, IsFound, after_in, part_graph, value_in};
 
 use crate::asking::newest;
-use crate::fault::TrialFault;
+use crate::fault::DifferenceFault;
 use crate::overlay::Overlay;
 use cbl_base::{Input, NodeId, NodeRule, NodeValue, RunFault, Steps, sub};
 use inc_store::Store;
@@ -23,7 +23,7 @@ pub(crate) fn conclude<N: NodeRule, L: Ledger>(
     overlay: &Overlay,
     target: NodeId,
     steps: &mut Steps<L>,
-) -> Result<i64, TrialFault>
+) -> Result<i64, DifferenceFault>
     ghost query: { Query }
     requires usable { IsUsable N.rule N.held N.ready store.now }
     requires kept { IsKept query.part.rules query.part.helds query.part.frame query.part.cells }
@@ -35,14 +35,14 @@ pub(crate) fn conclude<N: NodeRule, L: Ledger>(
     ensures difference { IfOk result (λ d.
         IsDifference (part_graph query.part) (value_in query.part) (after_in query) target.0 d) }
     ensures fault { IfErr result (λ stop.
-        IsRefusal (part_graph query.part) (value_in query.part) (after_in query) target.0 stop) }
+        IsStopped (part_graph query.part) (value_in query.part) (after_in query) target.0 stop) }
     ensures steps { steps.new ≤ steps.old + 3 }
 {
     match root_of(overlay, target.0, steps) {
-        Some((id, fault)) => Err(TrialFault::Node(NodeId(id), fault)),
+        Some((id, fault)) => Err(DifferenceFault::Node(NodeId(id), fault)),
         None => match difference(store, overlay, target, steps) {
             Ok(number) => Ok(number),
-            Err(fault) => Err(TrialFault::Node(target, fault)),
+            Err(fault) => Err(DifferenceFault::Difference(fault)),
         },
     }
 }

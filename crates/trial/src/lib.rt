@@ -16,6 +16,6 @@ mod settling;
 mod trial_calls;
 mod turning;
 
-pub use fault::TrialFault;
+pub use fault::{DifferenceFault, TrialFault};
 pub use overlay::Overlay;
 pub use trial_calls::Trial;

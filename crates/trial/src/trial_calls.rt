@@ -5,12 +5,12 @@ ghost use Rattle.store_turns.specs.Cones.{IsCone, has};
 ghost use Rattle.store_turns.specs.Meaning.{uses_in, is_empty};
 ghost use Rattle.inc_store.specs.Moves.{AreMoves};
 ghost use Rattle.inc_store.specs.Views.{IsUsable, graph_in, rules_in, value_at, count_of, inputs_at};
-ghost use Rattle.trial.specs.Differences.{IsDifference, IsRefusal};
+ghost use Rattle.trial.specs.Differences.{IsDifference, IsStopped};
 ghost use Rattle.trial.specs.Overlays.{IsEmpty};
-ghost use Rattle.trial.specs.Parts.{Query, IsPart, IsPaid, Tells, after_in, moves_of, part_graph, value_in};
+ghost use Rattle.trial.specs.Parts.{Query, IsPart, IsPaid, Tells, TellsApart, after_in, moves_of, part_graph, value_in};
 
 use crate::ending::conclude;
-use crate::fault::TrialFault;
+use crate::fault::{DifferenceFault, TrialFault, fault_at};
 use crate::moving::move_all;
 use crate::overlay::Overlay;
 use crate::turning::run;
@@ -67,6 +67,27 @@ impl Trial {
         ensures { Tells (graph_in N.rule store.now) (uses_in store.now.frame)
             (value_at store.now) moves.now target.0 result steps.old steps.new }
     {
+        match self.difference(store, moves, target, steps) {
+            Ok(number) => Ok(number),
+            Err(fault) => Err(fault_at(target, fault)),
+        }
+    }
+
+    /// The same, but that a difference that doesn't fit is told apart from the fault of a node.
+    pub fn difference<N: NodeRule, L: Ledger>(
+        &mut self,
+        store: &Store<N>,
+        moves: &[(VarId, i64)],
+        target: NodeId,
+        steps: &mut Steps<L>,
+    ) -> Result<i64, DifferenceFault>
+        requires usable { IsUsable N.rule N.held N.ready store.now }
+        requires moves { AreMoves (graph_in N.rule store.now) moves.now }
+        requires target { target.0 < count_of store.now }
+        requires number { kind_of (value_at store.now target.0) ≡ number_kind }
+        ensures { TellsApart (graph_in N.rule store.now) (uses_in store.now.frame)
+            (value_at store.now) moves.now target.0 result steps.old steps.new }
+    {
         let frame = store.frame();
         let overlay = &mut self.overlay;
         if let Some(cone) = frame.cone(target) {
@@ -84,14 +105,14 @@ fn told<N: NodeRule, L: Ledger>(
     overlay: &mut Overlay,
     moves: &[(VarId, i64)],
     steps: &mut Steps<L>,
-) -> Result<i64, TrialFault>
+) -> Result<i64, DifferenceFault>
     requires usable { IsUsable N.rule N.held N.ready store.now }
     requires cone { IsCone (inputs_at store.now) (count_of store.now) cone.now }
     requires empty { IsEmpty overlay.old }
     requires moves { AreMoves (graph_in N.rule store.now) moves.now }
     requires target { cone.now.target < count_of store.now }
     requires number { kind_of (value_at store.now cone.now.target) ≡ number_kind }
-    ensures told { Tells (graph_in N.rule store.now) (uses_in store.now.frame)
+    ensures told { TellsApart (graph_in N.rule store.now) (uses_in store.now.frame)
         (value_at store.now) moves.now cone.now.target result steps.old steps.new }
     ensures empty { IsEmpty overlay.new }
 {
@@ -125,7 +146,7 @@ fn answer<N: NodeRule, L: Ledger>(
     moves: &[(VarId, i64)],
     target: NodeId,
     steps: &mut Steps<L>,
-) -> Result<i64, TrialFault>
+) -> Result<i64, DifferenceFault>
     ghost query: { Query }
     requires usable { IsUsable N.rule N.held N.ready store.now }
     requires empty { IsEmpty overlay.old }
@@ -141,7 +162,7 @@ fn answer<N: NodeRule, L: Ledger>(
     ensures difference { IfOk result (λ d.
         IsDifference (part_graph query.part) (value_in query.part) (after_in query) target.0 d) }
     ensures fault { IfErr result (λ stop.
-        IsRefusal (part_graph query.part) (value_in query.part) (after_in query) target.0 stop) }
+        IsStopped (part_graph query.part) (value_in query.part) (after_in query) target.0 stop) }
     ensures steps { IsPaid query steps.new }
 {
     move_all(store, members, overlay, moves, steps)?;

@@ -1,4 +1,4 @@
-use Rattle.std.proofs.Common.{rules, ℤ, ◌-ℤ◌, Ok, inl, inr, refl, sym, ap, ◌∙◌, w64, arith}
+use Rattle.std.proofs.Common.{rules, ℤ, ◌-ℤ◌, Ok, sym, ap, ◌∙◌, w64, arith}
 use Rattle.std.specs.Prelude.{FitsSigned}
 use Rattle.std.proofs.lemmas.Int.{to_z-of_z}
 use Rattle.std.specs.BTreeMap.{get}
@@ -12,7 +12,7 @@ use Rattle.trial.proofs.ending.conclude.Goals as goal
 
 pub returns-in-Some-clause-fault : goal.returns-in-Some-clause-fault
 returns-in-Some-clause-fault g c =
-    inl (fails_after g.query.part.rules g.query.part.helds g.query.part.frame g.query.part.cells c.requires.1.1.1.0 g.query.ask c.args.overlay.now.lost c.args.overlay.now.changes c.args.overlay.now.roots c.args.target.0 c.requires.1.1.1.1.0 c.requires.1.1.1.1.1.1.1.1 (c.in-Some.id, c.in-Some.fault) (sym c.in-Some.ensures.root))
+    (fails_after g.query.part.rules g.query.part.helds g.query.part.frame g.query.part.cells c.requires.1.1.1.0 g.query.ask c.args.overlay.now.lost c.args.overlay.now.changes c.args.overlay.now.roots c.args.target.0 c.requires.1.1.1.1.0 c.requires.1.1.1.1.1.1.1.1 (c.in-Some.id, c.in-Some.fault) (sym c.in-Some.ensures.root))
 
 pub returns-in-Ok-clause-difference : goal.returns-in-Ok-clause-difference
 returns-in-Ok-clause-difference g c =
@@ -29,8 +29,7 @@ returns-in-Ok-clause-steps g c =
     omega (arith, one, c.difference.ensures.steps)
 
 pub returns-in-Err-clause-fault : goal.returns-in-Err-clause-fault
-returns-in-Err-clause-fault g c = inr (
-  refl,
+returns-in-Err-clause-fault g c = (
   number_of (value_in g.query.part c.args.target.0),
   number_of (new_or (get nat_cmp c.args.overlay.now.changes c.args.target.0) (value_in g.query.part c.args.target.0)),
   (numbers g.query.part.rules g.query.part.helds g.query.part.frame g.query.part.cells c.requires.1.1.1.0 g.query.ask c.args.overlay.now.lost c.args.overlay.now.changes c.args.overlay.now.roots c.args.target.0 c.requires.1.1.1.1.0 c.requires.1.1.1.1.1.1.1.1 (sym c.in-None.ensures.root) (ap kind_of c.requires.1.1.1.1.1.1.0 ∙ c.requires.1.1.1.1.1.1.1.0)),

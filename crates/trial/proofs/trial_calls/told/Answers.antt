@@ -1,7 +1,7 @@
 use Rattle.std.proofs.Common.{arith, rules, map, refl, sym, ◌∙◌}
 use Rattle.store_turns.specs.Cones.{has}
 use Rattle.trial.specs.Parts.{moves_of}
-use Rattle.trial.proofs.Probing.{none_of, some_of, member, part_is, moves_are, nothing_moved, difference_told, refusal_told, steps_told, below_told}
+use Rattle.trial.proofs.Probing.{none_of, some_of, member, part_is, moves_are, nothing_moved, difference_told, stopped_told, steps_told, below_told}
 use Rattle.trial.proofs.trial_calls.told.Goals as goal
 
 pub returns-then-not-any_moves-clause-told : goal.returns-then-not-any_moves-clause-told
@@ -34,7 +34,7 @@ answer-found-requires g c κs within =
 pub returns-clause-told : goal.returns-clause-told
 returns-clause-told g c = record {
   difference = difference_told (map g.N.NodeRule.rule c.args.store.now.nodes.items) (map g.N.NodeRule.held c.args.store.now.nodes.items) c.args.store.now.frame c.args.store.now.cells c.requires.usable.2 c.args.moves.now c.args.cone.now c.requires.cone c.requires.target c.as_slice-members.result.now c.as_slice-members.ensures.value c.args.steps.now c.answer-found.result c.answer-found.ensures.difference;
-  fault = refusal_told (map g.N.NodeRule.rule c.args.store.now.nodes.items) (map g.N.NodeRule.held c.args.store.now.nodes.items) c.args.store.now.frame c.args.store.now.cells c.requires.usable.2 c.args.moves.now c.args.cone.now c.requires.cone c.requires.target c.as_slice-members.result.now c.as_slice-members.ensures.value c.args.steps.now c.answer-found.result c.answer-found.ensures.fault;
+  fault = stopped_told (map g.N.NodeRule.rule c.args.store.now.nodes.items) (map g.N.NodeRule.held c.args.store.now.nodes.items) c.args.store.now.frame c.args.store.now.cells c.requires.usable.2 c.args.moves.now c.args.cone.now c.requires.cone c.requires.target c.as_slice-members.result.now c.as_slice-members.ensures.value c.args.steps.now c.answer-found.result c.answer-found.ensures.fault;
   steps_in_all = steps_told (map g.N.NodeRule.rule c.args.store.now.nodes.items) (map g.N.NodeRule.held c.args.store.now.nodes.items) c.args.store.now.frame c.args.store.now.cells c.requires.usable.2 c.args.moves.now c.args.cone.now c.requires.cone c.requires.target c.as_slice-members.result.now c.as_slice-members.ensures.value c.args.steps.now c.answer-found.new.steps c.answer-found.ensures.steps;
   steps_below = below_told (map g.N.NodeRule.rule c.args.store.now.nodes.items) (map g.N.NodeRule.held c.args.store.now.nodes.items) c.args.store.now.frame c.args.store.now.cells c.requires.usable.2 c.args.moves.now c.args.cone.now c.requires.cone c.requires.target c.as_slice-members.result.now c.as_slice-members.ensures.value c.args.steps.now c.answer-found.new.steps c.answer-found.ensures.steps;
 }

@@ -1,23 +1,29 @@
 use Rattle.std.proofs.Common.{arith}
-use Rattle.model_values.specs.Fresh.{seen_values}
-use Rattle.solver_models.proofs.DefineLaws.{definition_there, unchanged_there}
+use Rattle.std.specs.Prelude.{is_some}
+use Rattle.solver_models.proofs.DefineLaws.{early_parts, definition_there, unchanged_there}
 use Rattle.solver_models.proofs.ModelLaws.{defs_few}
 use Rattle.ls_solver.proofs.solver.Solver.put_definition.Goals as goal
-use Rattle.posted_users.specs.PostedState.{rules_of}
+use Rattle.ls_solver.specs.Solvers.{rules_seen}
+use Rattle.ls_solver.proofs.HeldLaws.{held_from}
+use Rattle.solver_models.specs.State.{SolverState}
 
 pub push_definition-requires : goal.push_definition-requires
 push_definition-requires g c =
-    let le = defs_few c.self.inside.model c.self.invariant.formed in
-    omega (arith, le, c.self.invariant.few)
+    let le = defs_few c.self.inside.model c.self.invariant.kept.formed in
+    omega (arith, le, c.self.invariant.kept.few)
 
 pub invariant_of-self : goal.invariant_of-self
 invariant_of-self g c =
     let s = c.self.inside in
-    definition_there s.number s.model c.push_definition.new.model s.assignment.items s.marks.items c.mark.new.marks.items (rules_of s.users.posted.items) s.terms c.args.counted (seen_values s.values) s.closed s.usable c.args.definition c.self.invariant
-    c.args.self.now c.self.view_is c.in-Ok.ensures.ok c.mark.ensures c.requires.early c.requires.shallow c.requires.kind c.requires.users c.requires.counted
+    let shut = ap (λ (t : SolverState). t.closed) c.self.view_is ∙ (early_parts c.args.self.now c.args.definition.var c.args.definition.term c.requires.early).0 in
+    held_from g.N.NodeRule.rule g.N.NodeRule.held g.N.NodeRule.ready s.model c.push_definition.new.model s.assignment.items c.mark.new.marks.items s.waiting.items (Some c.args.counted) s.closed s.usable shut
+    (definition_there s.number s.model c.push_definition.new.model s.assignment.items s.marks.items c.mark.new.marks.items (rules_seen g.N.NodeRule.rule s.model s.waiting.items s.closed) s.terms c.args.counted (is_some s.closed) s.usable c.args.definition c.self.invariant.kept
+    c.args.self.now c.self.view_is c.in-Ok.ensures.ok c.mark.ensures c.requires.early c.requires.shallow c.requires.kind c.requires.users c.requires.counted) c.self.invariant.waits
 
 pub invariant_of-self-in-Err-1 : goal.invariant_of-self-in-Err-1
 invariant_of-self-in-Err-1 g c =
     let s = c.self.inside in
-    unchanged_there s.number s.model c.push_definition.new.model s.assignment.items s.marks.items s.marks.items (rules_of s.users.posted.items) s.terms c.args.counted (seen_values s.values) s.closed s.usable c.args.definition c.self.invariant
-    c.args.self.now c.self.view_is c.in-Err.ensures.err c.requires.early
+    let shut = ap (λ (t : SolverState). t.closed) c.self.view_is ∙ (early_parts c.args.self.now c.args.definition.var c.args.definition.term c.requires.early).0 in
+    held_from g.N.NodeRule.rule g.N.NodeRule.held g.N.NodeRule.ready s.model c.push_definition.new.model s.assignment.items s.marks.items s.waiting.items s.terms s.closed s.usable shut
+    (unchanged_there s.number s.model c.push_definition.new.model s.assignment.items s.marks.items s.marks.items (rules_seen g.N.NodeRule.rule s.model s.waiting.items s.closed) s.terms c.args.counted (is_some s.closed) s.usable c.args.definition c.self.invariant.kept
+    c.args.self.now c.self.view_is c.in-Err.ensures.err c.requires.early) c.self.invariant.waits

@@ -9,11 +9,11 @@ use Rattle.posted_users.specs.KeptRule.{users_of}
 use Rattle.ls_solver.proofs.AnswerLaws.{answered_there}
 use Rattle.ls_solver.proofs.CommitLaws.{seen}
 use Rattle.ls_solver.proofs.solver.Solver.violations_of_own.Goals as goal
-use Rattle.posted_users.specs.PostedState.{rules_of}
+use Rattle.ls_solver.specs.Solvers.{rules_seen}
 
 pub violations_in-requires-clause-closable : goal.violations_in-requires-clause-closable
 violations_in-requires-clause-closable g c =
-    c.self.invariant.closable (ap (λ (t : SolverState). t.closed) c.self.view_is ∙ (replies c.args.self.now (of_system c.args.s) (c.args.x ∷ []) c.requires.own).0)
+    c.self.invariant.kept.closable (ap (λ (t : SolverState). t.closed) c.self.view_is ∙ (replies c.args.self.now (of_system c.args.s) (c.args.x ∷ []) c.requires.own).0)
 
 pub violations_in-requires-clause-system : goal.violations_in-requires-clause-system
 violations_in-requires-clause-system g c =
@@ -27,5 +27,5 @@ pub returns : goal.returns
 returns g c =
     let s = c.self.inside in
     answered_there (λ t. reply_refusal t (of_system c.args.s) (c.args.x ∷ [])) (λ t. variable_violations_of (users_of t.rules) t.model t.assignment c.args.s.index c.args.x.index)
-    (seen s.number s.model s.assignment.items (rules_of s.users.posted.items) s.closed s.usable) c.args.self.now c.self.view_is c.requires.own c.violations_in.result c.reply_of.result c.reply_of.ensures
-    (subst (λ a. IsAnswer (variable_violations_of (users_of (rules_of s.users.posted.items)) s.model a c.args.s.index c.args.x.index) c.violations_in.result) c.deref.ensures.value c.violations_in.ensures)
+    (seen s.number s.model s.assignment.items (rules_seen g.N.NodeRule.rule s.model s.waiting.items s.closed) s.closed s.usable) c.args.self.now c.self.view_is c.requires.own c.violations_in.result c.reply_of.result c.reply_of.ensures
+    (subst (λ a. IsAnswer (variable_violations_of (users_of (rules_seen g.N.NodeRule.rule s.model s.waiting.items s.closed)) s.model a c.args.s.index c.args.x.index) c.violations_in.result) c.deref.ensures.value c.violations_in.ensures)

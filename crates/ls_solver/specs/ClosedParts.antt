@@ -1,0 +1,22 @@
+-- What is closed, where something is. A rule of this project.
+use Rattle.std.specs.Prelude.{List, [], Option, Some, None}
+use Rattle.cbl_base.specs.NodeLaw.{Rule}
+use Rattle.cbl_base.specs.declared.input.Input.{Input}
+use Rattle.inc_store.specs.Views.{rules_in}
+use Rattle.model_store.specs.Settings.{Setting}
+use Rattle.term_model.specs.declared.model.Model.{Model}
+use Rattle.solver_store.specs.Closed.{IsClosed, vars_in}
+use Rattle.solver_store.specs.declared.closed.Closed.{Closed}
+
+module _ {N : Type 0} where
+  abbrev pub IsClosedIn : (N → Rule) → (N → List Input) → (N → Type 0) → Setting → Option (Closed N) → Type 0
+  IsClosedIn rule held ready setting (Some c) = IsClosed rule held ready setting c
+  IsClosedIn rule held ready setting None = ⊥
+
+  abbrev pub rules_in_closed : (N → Rule) → Option (Closed N) → List Rule
+  rules_in_closed rule (Some c) = rules_in rule c.store
+  rules_in_closed rule None = []
+
+  abbrev pub vars_in_closed : Model → Option (Closed N) → List Input
+  vars_in_closed M (Some c) = vars_in M c
+  vars_in_closed M None = []

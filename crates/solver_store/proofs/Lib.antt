@@ -1,0 +1,15 @@
+pub mod ChangesCut
+pub mod ClosedReads
+pub mod Closing
+pub mod HeldTerms
+pub mod OwnMoves
+pub mod RulesBack
+pub mod SharesRead
+pub mod Targets
+pub mod ToldLists
+pub mod UserPlaces
+pub mod ModelIds
+pub mod KnownMembers
+pub mod CommitLaws
+pub mod NodeValues
+pub mod ShareLaws

@@ -1,0 +1,13 @@
+pub mod CallLaws
+pub mod ClosingLaws
+pub mod MakingLaws
+pub mod NamingLaws
+pub mod PartLaws
+pub mod ReadingLaws
+pub mod SettledLaws
+pub mod SystemLaws
+pub mod TellLaws
+pub mod TermLaws
+pub mod WalkLaws
+pub mod WeightLaws
+pub mod WordLaws

@@ -1,0 +1,11 @@
+pub mod Calls
+pub mod Closing
+pub mod Made
+pub mod Making
+pub mod Naming
+pub mod Parts
+pub mod Settled
+pub mod Slots
+pub mod Telling
+pub mod Walked
+pub mod Words
