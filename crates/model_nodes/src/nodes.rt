@@ -30,7 +30,7 @@ use std::alloc::Global;
 use term_model::{Model, Side};
 
 /// What a store is given for a model: the nodes behind its cells, the inputs and the layer of each id, the
-/// numbers of the cells, and the places by id.
+/// numbers of the cells, the places by id, and the graph of the model's distinct subterms.
 #[derive(Drop)]
 pub struct ModelNodes<N: NodeRule> {
     pub nodes: Vec<N>,
@@ -38,6 +38,7 @@ pub struct ModelNodes<N: NodeRule> {
     pub start: Vec<i64>,
     pub layers: Layers,
     pub places: Vec<Place>,
+    pub graph: Graph,
 }
 
 /// So many cells leave ids for as many terms as there may be.
@@ -127,6 +128,10 @@ pub fn nodes_of<N: SolverNode>(
         (cells_of model.now) made.links.inputs.items made.layers) }
     ensures places { IfOk result (λ made. ArePlaces model.now made.places.items) }
     ensures placed { IfOk result (λ made. length made.places.items ≡ many_nodes model.now) }
+    ensures short { IfOk result (λ made. (id : ℕ) →
+        length (list_in made.links.inputs.items id) ≤ 4294967296) }
+    ensures graph { IfOk result (λ made. IsGraphOf made.graph (distinct_subterms model.now)) }
+    ensures cells { IfOk result (λ made. made.graph.cells ≡ cells_of model.now) }
 {
     let start = numbers_of(alloc, model, assignment)?;
     if start.len() > MOST_CELLS {

@@ -55,6 +55,7 @@ impl Shares {
         requires formed { IsWellFormed model.now }
         requires acyclic { IsAcyclic model.now }
         requires few { length model.now.vars.items < 2 ^ 32 }
+        requires ready { I.is_ready ids.old }
         requires known { AreAllKnown model.now (I.knows ids.old) }
         requires closed { IsClosed (I.knows ids.old) }
         ensures { IfOk result (λ shares. IsSharesOf model.now (I.id_of ids.old) shares) }

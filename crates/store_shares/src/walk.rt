@@ -23,9 +23,14 @@ pub trait Ids {
     /// Whether the term is known.
     ghost knows: { Self → Term → Bool };
 
+    /// Whether it can be asked.
+    ghost is_ready: { Self → Type 0 };
+
     /// The id of a known term.
     fn id(&mut self, term: &Term) -> Result<u32, NoMemory>
-        requires { knows self.old term.now ≡ true }
+        requires known { knows self.old term.now ≡ true }
+        requires ready { is_ready self.old }
+        ensures ready { is_ready self.new }
         ensures id { IfOk result (λ id. id ≡ id_of self.old term.now) }
         ensures same_ids { id_of self.new ≡ id_of self.old }
         ensures same_known { knows self.new ≡ knows self.old };
