@@ -1,5 +1,5 @@
 //! All that a store is given for a model.
-ghost use Rattle.std.specs.Prelude.{◌≡◌, ◌+◌, ◌≤◌, ◌^◌, length, map, IfOk, OnOk};
+ghost use Rattle.std.specs.Prelude.{◌≡◌, ◌+◌, ◌≤◌, ◌^◌, ℕ, length, map, IfOk, OnOk};
 ghost use Rattle.cbl_base.specs.declared.limits.TheConstants.{MAX_TERM_NODES};
 ghost use Rattle.graph_values.specs.Graphs.{count_of};
 ghost use Rattle.graph_values.specs.Members.{cells_of, numbers_of, variables_of};
@@ -9,9 +9,12 @@ ghost use Rattle.model_nodes.specs.PostedIds.{ArePostedIds};
 ghost use Rattle.model_nodes.specs.WholeNodes.{AreWholeNodes};
 ghost use Rattle.model_nodes.specs.Waiting.{AreUserNodes};
 ghost use Rattle.store_build.specs.Aims.{AreLinked};
+ghost use Rattle.store_build.specs.Lists.{list_in};
 ghost use Rattle.store_laws.specs.ModelTouch.{many_nodes};
+ghost use Rattle.term_graph.specs.Graphs.{IsGraphOf};
 ghost use Rattle.term_model.specs.Definitions.{IsAcyclic};
 ghost use Rattle.term_model.specs.Naming.{users_posted};
+ghost use Rattle.term_model.specs.Subterms.{distinct_subterms};
 ghost use Rattle.term_model.specs.Wellformed.{IsWellFormed};
 
 use crate::cells::cell_lists;
@@ -27,6 +30,7 @@ use inc_store::Links;
 use layer_plan::Layers;
 use node_kinds::SolverNode;
 use std::alloc::Global;
+use term_graph::Graph;
 use term_model::{Model, Side};
 
 /// What a store is given for a model: the nodes behind its cells, the inputs and the layer of each id, the
