@@ -51,12 +51,14 @@ const W: VarId = VarId {
 #[derive(Drop)]
 struct Counts {
     drops: Arc<AtomicU64, Global>,
+    resets: Arc<AtomicU64, Global>,
     assigns: Arc<AtomicU64, Global>,
 }
 
 fn counts_of(alloc: Global) -> Result<Counts, Fail> {
     Ok(Counts {
         drops: Arc::new(alloc, AtomicU64::new(0))?,
+        resets: Arc::new(alloc, AtomicU64::new(0))?,
         assigns: Arc::new(alloc, AtomicU64::new(0))?,
     })
 }
@@ -71,6 +73,7 @@ struct Unlike {
     alloc: Global,
     list: Vec<i64>,
     drops: Arc<AtomicU64, Global>,
+    resets: Arc<AtomicU64, Global>,
     assigns: Arc<AtomicU64, Global>,
     changes_left: u64,
     answers: bool,
@@ -86,6 +89,7 @@ fn unlike_of(
         alloc,
         list: Vec::new(alloc),
         drops: Arc::try_clone(&counts.drops)?,
+        resets: Arc::try_clone(&counts.resets)?,
         assigns: Arc::try_clone(&counts.assigns)?,
         changes_left,
         answers,
@@ -99,6 +103,7 @@ impl Drop for Unlike {
             alloc: _,
             list: _,
             drops: _,
+            resets: _,
             assigns: _,
             changes_left: _,
             answers: _,
@@ -153,6 +158,7 @@ impl UserConstraint for Unlike {
     }
 
     fn reset(&mut self, values: &[i64]) -> Result<(), NoMemory> {
+        let _before = self.resets.fetch_add(1, Ordering::SeqCst);
         self.list.clear();
         self.list.extend_from_slice(values)?;
         Ok(())
@@ -353,7 +359,9 @@ enum Step {
     Share(VarId, i64),
     Assign(VarId, i64, i64),
     Swap(VarId, VarId, i64),
+    Silent(VarId, i64),
     Commit(VarId, i64, End),
+    Reset(u64),
     Assigned(u64),
     Dropped(u64),
     Usable(bool),
@@ -387,6 +395,7 @@ fn asked<N: SolverNode>(solver: &Solver<N>, step: Step) -> Result<bool, Fail> {
         Step::Share(x, wanted) => Ok(solver.var_violations(SYSTEM, x) == Ok(wanted)),
         Step::Assign(x, v, wanted) => Ok(solver.assign_delta_in(k, x, v) == Ok(wanted)),
         Step::Swap(x, y, wanted) => Ok(solver.swap_delta_in(k, x, y) == Ok(wanted)),
+        Step::Silent(x, v) => Ok(solver.assign_delta_in(k, x, v) == Err(SolverFault::NoMemory)),
         _ => none(),
     }
 }
@@ -395,6 +404,7 @@ fn holds<N: SolverNode>(solver: &mut Solver<N>, counts: &Counts, step: Step) -> 
     match step {
         Step::Close(wanted) => Ok(close(solver)? == wanted),
         Step::Commit(x, v, wanted) => Ok(commit(solver, x, v)? == wanted),
+        Step::Reset(wanted) => Ok(number(&counts.resets) == wanted),
         Step::Assigned(wanted) => Ok(number(&counts.assigns) == wanted),
         Step::Dropped(wanted) => Ok(number(&counts.drops) == wanted),
         Step::Usable(wanted) => Ok(solver.usable() == wanted),
@@ -457,15 +467,17 @@ const VIOLATIONS: &[Step] = &[
     Step::Violations(1),
     Step::Share(Z, 1),
     Step::Share(Y, 0),
-    // the box took up three numbers
-    Step::Assigned(3),
+    // the box took up three numbers at once
+    Step::Reset(1),
+    Step::Assigned(0),
     Step::Assign(Z, 2, -1),
     Step::Swap(X, Z, 1),
-    Step::Assigned(3),
+    Step::Assigned(0),
     Step::Commit(Z, 2, End::Done),
     Step::Violations(0),
     Step::Share(Z, 0),
-    Step::Assigned(4),
+    Step::Assigned(1),
+    Step::Reset(1),
 ];
 
 // A solver tells the violations that the box tells, of what it holds and of what it would hold.
@@ -479,16 +491,14 @@ fn violations_are_those_of_the_box(rt: HostRuntime) -> Result<(), Fail> {
 
 const FAULT: &[Step] = &[
     Step::Close(End::Done),
-    Step::Assigned(3),
     Step::Commit(Z, 6, End::Failed(RunFault::Overflow)),
     Step::Usable(false),
-    Step::Assigned(3),
     Step::Dropped(0),
 ];
 
-// Where there is a fault the box is told of no change. It is dropped with the solver.
+// Behind a commit's fault the box is dropped once, with the solver.
 #[test]
-fn faults_change_no_box(rt: HostRuntime) -> Result<(), Fail> {
+fn boxes_are_dropped_behind_faults(rt: HostRuntime) -> Result<(), Fail> {
     let alloc = rt.alloc();
     let counts = counts_of(alloc)?;
     let user: Box<dyn UserConstraint> = Box::new(alloc, unlike_of(alloc, &counts, 100, true)?)?;
@@ -547,10 +557,11 @@ const CHANGES: &[Step] = &[
     Step::Violations(2),
     // 3, 4, 3, 4
     Step::Assign(X, 3, 2),
-    Step::Assigned(4),
+    Step::Assigned(0),
     Step::Commit(X, 3, End::Done),
     Step::Violations(4),
-    Step::Assigned(7),
+    Step::Assigned(3),
+    Step::Reset(1),
     Step::Share(Y, 0),
     Step::Share(X, 2),
 ];
@@ -571,14 +582,21 @@ const NO_MORE_CHANGES: &[Step] = &[
     Step::Usable(false),
 ];
 
-const NO_ANSWERS: &[Step] = &[Step::Close(End::NoMemory), Step::Usable(false)];
+const NO_ANSWERS: &[Step] = &[
+    Step::Close(End::Done),
+    Step::Silent(Y, 7),
+    Step::Usable(true),
+    Step::Commit(Y, 7, End::Done),
+    Step::Violations(2),
+];
 
-// That a box found no memory is the answer, and the end of the solver.
+// That a box found no memory is the answer: of a commit, which is the end of the solver, or of a question, which
+// changes nothing.
 #[test]
 fn want_of_memory_in_a_box_is_answered(rt: HostRuntime) -> Result<(), Fail> {
     let alloc = rt.alloc();
     let counts = counts_of(alloc)?;
-    let user: Box<dyn UserConstraint> = Box::new(alloc, unlike_of(alloc, &counts, 3, true)?)?;
+    let user: Box<dyn UserConstraint> = Box::new(alloc, unlike_of(alloc, &counts, 0, true)?)?;
     run(alloc, &counts, user, EDGE, THREE, 1, NO_MORE_CHANGES)?;
     let mute: Box<dyn UserConstraint> = Box::new(alloc, unlike_of(alloc, &counts, 100, false)?)?;
     run(alloc, &counts, mute, EDGE, THREE, 1, NO_ANSWERS)
