@@ -1,5 +1,5 @@
 //! All that a store is given for a model.
-ghost use Rattle.std.specs.Prelude.{◌≡◌, ◌+◌, ◌≤◌, ◌^◌, length, map, IfOk, OnOk};
+ghost use Rattle.std.specs.Prelude.{◌≡◌, ◌+◌, ◌≤◌, ◌^◌, ℕ, length, map, IfOk, OnOk};
 ghost use Rattle.cbl_base.specs.declared.limits.TheConstants.{MAX_TERM_NODES};
 ghost use Rattle.graph_values.specs.Graphs.{count_of};
 ghost use Rattle.graph_values.specs.Members.{cells_of, numbers_of, variables_of};
@@ -9,9 +9,12 @@ ghost use Rattle.model_nodes.specs.PostedIds.{ArePostedIds};
 ghost use Rattle.model_nodes.specs.WholeNodes.{AreWholeNodes};
 ghost use Rattle.model_nodes.specs.Waiting.{AreUserNodes};
 ghost use Rattle.store_build.specs.Aims.{AreLinked};
+ghost use Rattle.store_build.specs.Lists.{list_in};
 ghost use Rattle.store_laws.specs.ModelTouch.{many_nodes};
+ghost use Rattle.term_graph.specs.Graphs.{IsGraphOf};
 ghost use Rattle.term_model.specs.Definitions.{IsAcyclic};
 ghost use Rattle.term_model.specs.Naming.{users_posted};
+ghost use Rattle.term_model.specs.Subterms.{distinct_subterms};
 ghost use Rattle.term_model.specs.Wellformed.{IsWellFormed};
 
 use crate::cells::cell_lists;
@@ -27,6 +30,7 @@ use inc_store::Links;
 use layer_plan::Layers;
 use node_kinds::SolverNode;
 use std::alloc::Global;
+use term_graph::Graph;
 use term_model::{Model, Side};
 
 /// What a store is given for a model: the nodes behind its cells, the inputs and the layer of each id, the
@@ -39,6 +43,13 @@ pub struct ModelNodes<N: NodeRule> {
     pub layers: Layers,
     pub places: Vec<Place>,
     pub graph: Graph,
+}
+
+/// All nodes, and the graph of the model's distinct subterms, of which they were made.
+#[derive(Drop)]
+struct Made<N: NodeRule> {
+    making: Making<N>,
+    graph: Graph,
 }
 
 /// So many cells leave ids for as many terms as there may be.
@@ -73,13 +84,13 @@ fn put_wholes<N: SolverNode>(
     put_repeats(alloc, first, model.objectives.len(), making)
 }
 
-/// All nodes, behind so many cells.
+/// All nodes, behind so many cells, and the graph.
 fn all_of<N: SolverNode>(
     alloc: Global,
     model: &Model,
     cells: u32,
     users: Vec<N>,
-) -> Result<Making<N>, NoMemory>
+) -> Result<Made<N>, NoMemory>
     ghost about: { About }
     requires model { about.model ≡ model.now }
     requires formed { IsWellFormed model.now }
@@ -88,9 +99,11 @@ fn all_of<N: SolverNode>(
     requires users { AreUserNodes N.rule about.users users.items }
     requires posted { length users.items ≡
         length (users_posted model.now model.now.posted.items) }
-    ensures made { IfOk result (λ made. AreMade about (map N.rule made.nodes.items)
-        made.lists.items made.places.items) }
-    ensures count { IfOk result (λ made. length made.lists.items ≡ many_nodes model.now) }
+    ensures made { IfOk result (λ made. AreMade about (map N.rule made.making.nodes.items)
+        made.making.lists.items made.making.places.items) }
+    ensures count { IfOk result (λ made. length made.making.lists.items ≡ many_nodes model.now) }
+    ensures graph { IfOk result (λ made. IsGraphOf made.graph (distinct_subterms model.now)) }
+    ensures cells { IfOk result (λ made. made.graph.cells ≡ cells_of model.now) }
 {
     let terms = terms_of(alloc, model, cells)?;
     let lists = cell_lists(alloc, model, cells as usize, &terms.ids)?;
@@ -101,7 +114,10 @@ fn all_of<N: SolverNode>(
     let weights = weights_by(alloc, model, Side::Objectives)?;
     put_weights(alloc, &weights, &mut making)?;
     put_wholes(alloc, model, &terms.ids, counted, &mut making)?;
-    Ok(making)
+    Ok(Made {
+        making,
+        graph: terms.graph,
+    })
 }
 
 /// The nodes of a model with its totals, behind the cells of its variables and of its systems' weights:
@@ -137,7 +153,8 @@ pub fn nodes_of<N: SolverNode>(
     if start.len() > MOST_CELLS {
         return Err(NoMemory);
     }
-    let making = all_of(alloc, model, start.len() as u32, users)?;
+    let made = all_of(alloc, model, start.len() as u32, users)?;
+    let making = made.making;
     let layers = layers_of(alloc, &making.lists)?;
     Ok(ModelNodes {
         nodes: making.nodes,
@@ -147,5 +164,6 @@ pub fn nodes_of<N: SolverNode>(
         start,
         layers,
         places: making.places,
+        graph: made.graph,
     })
 }
