@@ -45,6 +45,13 @@ pub struct ModelNodes<N: NodeRule> {
     pub graph: Graph,
 }
 
+/// All nodes, and the graph of the model's distinct subterms, of which they were made.
+#[derive(Drop)]
+struct Made<N: NodeRule> {
+    making: Making<N>,
+    graph: Graph,
+}
+
 /// So many cells leave ids for as many terms as there may be.
 const MOST_CELLS: usize = 4_292_870_144;
 
@@ -77,13 +84,13 @@ fn put_wholes<N: SolverNode>(
     put_repeats(alloc, first, model.objectives.len(), making)
 }
 
-/// All nodes, behind so many cells.
+/// All nodes, behind so many cells, and the graph.
 fn all_of<N: SolverNode>(
     alloc: Global,
     model: &Model,
     cells: u32,
     users: Vec<N>,
-) -> Result<Making<N>, NoMemory>
+) -> Result<Made<N>, NoMemory>
     ghost about: { About }
     requires model { about.model ≡ model.now }
     requires formed { IsWellFormed model.now }
@@ -92,9 +99,11 @@ fn all_of<N: SolverNode>(
     requires users { AreUserNodes N.rule about.users users.items }
     requires posted { length users.items ≡
         length (users_posted model.now model.now.posted.items) }
-    ensures made { IfOk result (λ made. AreMade about (map N.rule made.nodes.items)
-        made.lists.items made.places.items) }
-    ensures count { IfOk result (λ made. length made.lists.items ≡ many_nodes model.now) }
+    ensures made { IfOk result (λ made. AreMade about (map N.rule made.making.nodes.items)
+        made.making.lists.items made.making.places.items) }
+    ensures count { IfOk result (λ made. length made.making.lists.items ≡ many_nodes model.now) }
+    ensures graph { IfOk result (λ made. IsGraphOf made.graph (distinct_subterms model.now)) }
+    ensures cells { IfOk result (λ made. made.graph.cells ≡ cells_of model.now) }
 {
     let terms = terms_of(alloc, model, cells)?;
     let lists = cell_lists(alloc, model, cells as usize, &terms.ids)?;
@@ -105,7 +114,10 @@ fn all_of<N: SolverNode>(
     let weights = weights_by(alloc, model, Side::Objectives)?;
     put_weights(alloc, &weights, &mut making)?;
     put_wholes(alloc, model, &terms.ids, counted, &mut making)?;
-    Ok(making)
+    Ok(Made {
+        making,
+        graph: terms.graph,
+    })
 }
 
 /// The nodes of a model with its totals, behind the cells of its variables and of its systems' weights:
@@ -141,7 +153,8 @@ pub fn nodes_of<N: SolverNode>(
     if start.len() > MOST_CELLS {
         return Err(NoMemory);
     }
-    let making = all_of(alloc, model, start.len() as u32, users)?;
+    let made = all_of(alloc, model, start.len() as u32, users)?;
+    let making = made.making;
     let layers = layers_of(alloc, &making.lists)?;
     Ok(ModelNodes {
         nodes: making.nodes,
@@ -151,5 +164,6 @@ pub fn nodes_of<N: SolverNode>(
         start,
         layers,
         places: making.places,
+        graph: made.graph,
     })
 }

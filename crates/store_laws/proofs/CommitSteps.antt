@@ -1,5 +1,5 @@
 -- The steps of a commit, by what its moves touch of the model.
-use Rattle.std.proofs.Common.{◌≡◌, ℕ, ℤ, suc, ◌+◌, ◌*◌, ◌<◌, ◌≤◌, All, nat_lt, ◌&&◌, List, map, length, refl, sym, ap, ◌∙◌, subst, arith}
+use Rattle.std.proofs.Common.{◌≡◌, ℕ, ℤ, suc, ◌+◌, ◌*◌, ◌<◌, ◌≤◌, All, List, map, ap, ◌∙◌, subst}
 use Rattle.cbl_base.specs.NodeLaw.{Rule}
 use Rattle.cbl_base.specs.declared.ids.NodeId.{NodeId}
 use Rattle.cbl_base.specs.declared.ids.VarId.{VarId}
@@ -8,7 +8,7 @@ use Rattle.inc_store.specs.Moves.{is_moved, moved_to}
 use Rattle.inc_store.specs.Views.{KeepsNodes, graph_in, value_at}
 use Rattle.inc_store.specs.declared.store.Store.{Store}
 use Rattle.store_build.proofs.Existence.{exists}
-use Rattle.store_turns.specs.Meaning.{Graph, IsMeaning, graph_of, is_empty, inputs_in, layer_of, outcome_at, uses_in}
+use Rattle.store_turns.specs.Meaning.{Graph, IsMeaning, graph_of, layer_of, outcome_at, uses_in}
 use Rattle.store_turns.specs.declared.frame.Frame.{Frame}
 use Rattle.store_turns.specs.declared.outcome.Outcome.{Outcome}
 use Rattle.store_turns.specs.declared.outcome.Outcome.TheVariants.{Value}

@@ -1,7 +1,7 @@
 -- The least failing id on which a total stands is that of the least numbered failing subterm on which its system or
 -- objective stands; or it is the total's own, where all members have values.
-use Rattle.std.proofs.Common.{◌≡◌, ◌⊎◌, inl, inr, ℕ, ℤ, zero, suc, ◌+◌, ◌-◌, ◌<◌, ◌≤◌, Bool, true, false, cond, nat_lt, ◌&&◌, List, [], ◌∷◌, ◌++◌, map, Option, Some, None, is_some, length, refl, sym, ap, ◌∙◌, subst, slice_get, Result, Ok, Err, arith}
-use Rattle.std.specs.Prelude.{filter, unwrap_or}
+use Rattle.std.proofs.Common.{◌≡◌, ◌⊎◌, inl, inr, ℕ, ℤ, ◌+◌, ◌-◌, ◌<◌, ◌≤◌, Bool, true, false, nat_lt, ◌&&◌, List, [], ◌∷◌, map, Option, Some, None, is_some, length, refl, sym, ap, ◌∙◌, subst, slice_get, Result, Ok, Err, arith}
+use Rattle.std.specs.Prelude.{unwrap_or}
 use Rattle.std.specs.Option.{option_and_then}
 use Rattle.std.specs.List.{find}
 use Rattle.std.proofs.lemmas.Option.{slice_get_within}
@@ -11,15 +11,15 @@ use Rattle.cbl_base.specs.declared.input.Input.{Input}
 use Rattle.cbl_base.specs.declared.input.Input.TheVariants.{Int}
 use Rattle.cbl_base.specs.declared.place.Place.{Place}
 use Rattle.model_values.specs.Delta.{value_of}
-use Rattle.model_values.specs.Failures.{failure_of, fails, first_failure, no_failure}
+use Rattle.model_values.specs.Failures.{failure_of, fails, no_failure}
 use Rattle.model_values.specs.Support.{failure_below, stands_on}
 use Rattle.model_values.specs.VarOutcomes.{outcome_of_var}
-use Rattle.model_values.specs.Wholes.{IsOf, outcome_of_whole, place_of, sum_in, sum_of, sum_or, total_at}
+use Rattle.model_values.specs.Wholes.{IsOf, place_of, sum_in, sum_of, sum_or, total_at}
 use Rattle.model_values.specs.declared.failure.Failure.{Failure}
 use Rattle.model_values.specs.declared.wholes.Whole.{Whole}
 use Rattle.model_values.proofs.FailureLaws.{find_filter}
 use Rattle.store_build.specs.Aims.{start_of}
-use Rattle.store_build.proofs.GatherLemmas.{before_first, past_first}
+use Rattle.store_build.proofs.GatherLemmas.{past_first}
 use Rattle.store_turns.specs.Cones.{Among, StandsOn, itself, below}
 use Rattle.store_turns.specs.Meaning.{Graph, IsMeaning, come_to, is_empty, outcome_of as ran, values_of, with_value}
 use Rattle.store_turns.specs.declared.outcome.Outcome.{Outcome}
@@ -32,16 +32,16 @@ use Rattle.term_model.specs.Wellformed.{IsWellFormed}
 use Rattle.term_model.specs.declared.model.Model.{Model}
 use Rattle.term_model.specs.declared.term.Term.{Term}
 use Rattle.trial.specs.Differences.{FailsBelow}
-use Rattle.graph_values.specs.Graphs.{HoldsTerms, count_of, inputs_of, model_graph, term_at}
+use Rattle.graph_values.specs.Graphs.{count_of, inputs_of}
 use Rattle.graph_values.specs.LeastFaults.{place_at}
 use Rattle.graph_values.specs.Members.{cells_of, numbers_of}
 use Rattle.graph_values.specs.Outcomes.{fresh_at, fresh_term}
-use Rattle.graph_values.specs.Totals.{HoldsModel, IsAt, IsConstant, IsRepeat, IsTotal, came_repeat, came_total}
-use Rattle.graph_values.proofs.FirstFailing.{IsFirst, HasNone, Search, failing_placed, failure_there, fails_of, search_first, term_fails, var_fails}
+use Rattle.graph_values.specs.Totals.{HoldsModel, IsRepeat, IsTotal, came_repeat, came_total}
+use Rattle.graph_values.proofs.FirstFailing.{Search, failing_placed, failure_there, fails_of, search_first, term_fails, var_fails}
 use Rattle.graph_values.proofs.FreshMeaning.{at_past, at_place, at_var, at_weight}
 use Rattle.graph_values.proofs.Held.{same_fresh}
 use Rattle.graph_values.proofs.ModelTotals.{repeat_is, total_is}
-use Rattle.store_laws.specs.Deltas.{IsFailureAt, IsTarget}
+use Rattle.store_laws.specs.Deltas.{IsFailureAt}
 use Rattle.store_laws.specs.Standing.{IsBelow}
 use Rattle.store_laws.proofs.Standing.{from_below, subterm_reached, total_below, weight_inputs}
 

@@ -1,14 +1,12 @@
 -- A graph that is the model's with its totals holds the model.
-use Rattle.std.proofs.Common.{◌≡◌, ◌⊎◌, inl, inr, ℕ, ℤ, ◌<◌, ◌≤◌, List, [], ◌∷◌, map, refl, sym, ap, ◌∙◌, subst, arith, Ok, Err}
+use Rattle.std.proofs.Common.{◌≡◌, ◌⊎◌, inl, inr, ℕ, ℤ, ◌<◌, List, [], ◌∷◌, map, sym, ◌∙◌, arith}
 use Rattle.cbl_base.specs.NumberRule.{NumberRule}
-use Rattle.cbl_base.specs.declared.faults.RunFault.{RunFault}
-use Rattle.cbl_base.specs.declared.input.Input.{Input}
 use Rattle.model_values.specs.Wholes.{IsOf}
 use Rattle.model_values.specs.declared.wholes.Whole.{Whole}
 use Rattle.model_values.specs.declared.wholes.Whole.TheVariants.{System, Objective}
 use Rattle.store_turns.specs.Meaning.{Graph}
 use Rattle.term_model.specs.declared.model.Model.{Model}
-use Rattle.graph_values.specs.Graphs.{HoldsTerms, count_of}
+use Rattle.graph_values.specs.Graphs.{count_of}
 use Rattle.graph_values.specs.Members.{members_of}
 use Rattle.graph_values.specs.Totals.{AreConstants, AreWeights, HoldsModel, IsConstant, IsTotal, NeverFails}
 use Rattle.graph_values.specs.WholeGraphs.{total_id, whole_graph}

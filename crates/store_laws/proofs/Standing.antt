@@ -1,17 +1,14 @@
 -- A total stands on the ids of the variables and subterms on which its system or objective stands, and on no others
 -- but itself and its weights.
-use Rattle.std.proofs.Common.{◌≡◌, ◌⊎◌, inl, inr, ℕ, ℤ, zero, suc, ◌+◌, ◌-◌, ◌<◌, ◌≤◌, Bool, true, false, cond, nat_lt, ◌||◌, List, [], ◌∷◌, ◌++◌, map, fold, Option, Some, None, is_some, length, refl, sym, ap, ◌∙◌, subst, slice_get, All, Contains, arith}
+use Rattle.std.proofs.Common.{◌≡◌, ◌⊎◌, inl, inr, ℕ, ℤ, zero, suc, ◌+◌, ◌-◌, ◌<◌, ◌≤◌, Bool, true, false, cond, List, [], ◌∷◌, ◌++◌, map, fold, Option, Some, None, is_some, length, refl, sym, ap, ◌∙◌, subst, slice_get, All, Contains, arith}
 use Rattle.std.specs.Prelude.{filter, nat_eq, unwrap_or, if◌then◌else◌}
 use Rattle.std.specs.Option.{option_and_then, option_map}
 use Rattle.std.specs.List.{cons_option, list_any, list_all, filter_map, range_with_len}
-use Rattle.std.proofs.lemmas.Bool.{cases_lt}
 use Rattle.std.proofs.lemmas.Option.{slice_get_within}
 use Rattle.std.proofs.lemmas.List.Elements.{All-nil, All-cons, All-head, All-tail, All-append, All-weaker, All-contains, All-contains_itself, Contains-append_cases, Contains-append_left, Contains-append_right, Contains-push}
 use Rattle.cbl_base.specs.NumberRule.{NumberRule}
-use Rattle.cbl_base.specs.declared.ids.VarId.{VarId}
 use Rattle.model_values.specs.Dependence.{depends_through, var_depends}
 use Rattle.model_values.specs.Support.{member_in, one_depends, roots_in, stands_on, supports, vars_in}
-use Rattle.model_values.specs.Wholes.{IsOf}
 use Rattle.model_values.specs.declared.wholes.Whole.{Whole}
 use Rattle.model_values.specs.declared.wholes.Whole.TheVariants.{System, Objective}
 use Rattle.model_values.proofs.FailureLaws.{posted_kinded}
@@ -23,7 +20,7 @@ use Rattle.store_turns.specs.Meaning.{Graph}
 use Rattle.term_count.specs.Codes.{IsNode, is_known}
 use Rattle.term_count.proofs.PlaceLaws.{and_parts, known_front}
 use Rattle.term_graph.proofs.SharedLaws.{ids_alike}
-use Rattle.term_model.specs.Definitions.{DependsOn, IsAcyclic, definition_of, is_of, joined, named_by, note, term_of, vars_named, vars_of, vars_step}
+use Rattle.term_model.specs.Definitions.{IsAcyclic, definition_of, is_of, joined, named_by, note, term_of, vars_named, vars_of, vars_step}
 use Rattle.term_model.specs.Kinds.{kinds_in}
 use Rattle.term_model.specs.Posting.{term_posted}
 use Rattle.term_model.specs.SameTerms.{same_term}
@@ -39,21 +36,20 @@ use Rattle.term_model.specs.declared.term.Term.{Term}
 use Rattle.term_model.specs.declared.term.Term.TheOpen.{Term-F}
 use Rattle.term_model.specs.declared.term.Term.TheViews.{out-Term, out-roll-Term, roll-Term}
 use Rattle.term_model.specs.declared.term.Term.TheFolds.{fold-roll-Term, ind-Term, map-Term}
-use Rattle.term_model.proofs.NamingLaws.{contains_one}
 use Rattle.term_model.proofs.SubtermLaws.{once_all, subterms_roll}
 use Rattle.term_model.proofs.UsableLaws.{no_member}
 use Rattle.term_model.proofs.VarLaws.{definition_found}
-use Rattle.graph_values.specs.Graphs.{HoldsTerms, count_of, id_of, inputs_of, inputs_of_cell, inputs_of_node, term_at, term_defined}
+use Rattle.graph_values.specs.Graphs.{HoldsTerms, id_of, inputs_of_cell, inputs_of_node, term_at, term_defined}
 use Rattle.graph_values.specs.Members.{cells_of, members_before, members_of, variables_of}
-use Rattle.graph_values.specs.Totals.{AreConstants, AreWeights, HoldsModel, IsConstant, IsTotal}
+use Rattle.graph_values.specs.Totals.{AreConstants, AreWeights, IsConstant, IsTotal}
 use Rattle.graph_values.proofs.Arguments.{IsPlaced, any_back, arguments_there, closed, known_back, placed_posted}
 use Rattle.term_graph.specs.Ids.{id_by}
 use Rattle.graph_values.proofs.KindedTerms.{HasKind, arguments_kinded, deep}
 use Rattle.graph_values.proofs.ModelTotals.{all_filtered, member_term}
 use Rattle.graph_values.proofs.WeightCells.{no_definition, weight_within}
-use Rattle.store_laws.specs.Standing.{IsBelow, IsTermBelow, IsVarBelow, IsWeightBelow}
+use Rattle.store_laws.specs.Standing.{IsBelow, IsWeightBelow}
 use Rattle.store_laws.proofs.Depends.{any_out, at_zero, either, eq_of, reach_on, root_reached}
-use Rattle.store_laws.proofs.Terms.{IsNodeId, IsVarId, OfVars, StandsIn, all_itself, all_later, any_all, id_at, inputs_alike, known_more, known_of, of_arguments, of_subterms, of_variable, one_or, other_or, stands_alike, stands_of, view}
+use Rattle.store_laws.proofs.Terms.{OfVars, StandsIn, all_itself, any_all, id_at, inputs_alike, known_more, known_of, of_arguments, of_subterms, of_variable, one_or, other_or, stands_alike, stands_of, view}
 
 -- ---- lists
 all_both : {X : Type 0} (P Q : X → Type 0) (xs : List X) → All P xs → All Q xs → All (λ x. P x × Q x) xs

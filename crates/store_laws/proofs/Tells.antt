@@ -1,18 +1,16 @@
 -- What a trial tells at the target of a system or an objective is the model's delta.
-use Rattle.std.proofs.Common.{◌≡◌, ◌⊎◌, inl, inr, ℕ, ℤ, pos, ◌-ℤ◌, ◌+◌, ◌-◌, ◌<◌, ◌≤◌, Bool, true, false, List, [], ◌∷◌, ◌++◌, map, length, Result, Ok, Err, refl, sym, ap, ◌∙◌, subst, arith}
+use Rattle.std.proofs.Common.{◌≡◌, inl, inr, ℕ, ℤ, pos, ◌-ℤ◌, ◌<◌, ◌≤◌, false, List, ◌++◌, length, Result, Ok, Err, sym, ap, ◌∙◌, subst, arith}
 use Rattle.std.proofs.lemmas.Bool.{cases_lt}
-use Rattle.std.specs.Prelude.{if◌then◌else◌, nat_eq, slice_set, slice_index_or, IfOk, IfErr}
+use Rattle.std.specs.Prelude.{if◌then◌else◌, slice_set, slice_index_or, IfOk, IfErr}
 use Rattle.cbl_base.specs.Arithmetic.{exact}
 use Rattle.cbl_base.specs.NumberRule.{NumberRule}
 use Rattle.cbl_base.specs.declared.faults.RunFault.{RunFault}
 use Rattle.cbl_base.specs.declared.faults.RunFault.TheVariants.{DefinedVariable}
-use Rattle.cbl_base.specs.declared.ids.NodeId.{NodeId}
 use Rattle.cbl_base.specs.declared.ids.VarId.{VarId}
 use Rattle.cbl_base.specs.declared.input.Input.{Input}
 use Rattle.cbl_base.specs.declared.input.Input.TheVariants.{Int}
-use Rattle.cbl_base.specs.declared.place.Place.{Place}
 use Rattle.inc_store.specs.Moves.{moved_to}
-use Rattle.model_values.specs.Asked.{answer_of, stop_at}
+use Rattle.model_values.specs.Asked.{answer_of}
 use Rattle.model_values.specs.Delta.{delta_of, difference, moved, moves_defined, value_of}
 use Rattle.model_values.specs.VarOutcomes.{outcome_of_var}
 use Rattle.model_values.specs.Wholes.{IsOf}
@@ -20,23 +18,20 @@ use Rattle.model_values.specs.declared.asked.AskStop.{AskStop}
 use Rattle.model_values.specs.declared.asked.AskStop.TheVariants.{Run, Fault}
 use Rattle.model_values.specs.declared.deltas.Move.{Move}
 use Rattle.model_values.specs.declared.deltas.Move.TheVariants.{Assign, Swap}
-use Rattle.model_values.specs.declared.failure.Failure.{Failure}
 use Rattle.model_values.specs.declared.wholes.Whole.{Whole}
 use Rattle.store_build.specs.Aims.{start_of}
 use Rattle.store_turns.specs.Meaning.{Graph, IsMeaning}
 use Rattle.store_turns.specs.declared.outcome.Outcome.{Outcome}
 use Rattle.store_turns.specs.declared.outcome.Outcome.TheVariants.{Value, Fails}
-use Rattle.term_model.specs.Definitions.{IsAcyclic}
-use Rattle.term_model.specs.Wellformed.{IsWellFormed}
 use Rattle.term_model.specs.declared.model.Model.{Model}
-use Rattle.trial.specs.Differences.{AreNumbers, FailsAfter, FailsBelow, IsDifference, IsStopped}
+use Rattle.trial.specs.Differences.{AreNumbers, FailsBelow, IsDifference, IsStopped}
 use Rattle.trial.specs.declared.fault.DifferenceFault.{DifferenceFault}
 use Rattle.trial.specs.declared.fault.DifferenceFault.TheVariants.{Node, Difference, NoMemory}
 use Rattle.graph_values.specs.Links.{AreAssigned}
-use Rattle.graph_values.specs.Graphs.{HoldsTerms, count_of}
+use Rattle.graph_values.specs.Graphs.{HoldsTerms}
 use Rattle.graph_values.specs.Members.{cells_of, numbers_of, variables_of, weights_of}
 use Rattle.graph_values.specs.Outcomes.{IsGiven, fresh_at}
-use Rattle.graph_values.specs.Totals.{HoldsModel, IsAt, IsRepeat}
+use Rattle.graph_values.specs.Totals.{HoldsModel}
 use Rattle.graph_values.proofs.FirstFailing.{var_fails}
 use Rattle.graph_values.proofs.FreshMeaning.{at_var, at_weight}
 use Rattle.graph_values.proofs.Held.{same_fresh}
@@ -88,7 +83,7 @@ module _ (users : ℕ → NumberRule) (M : Model) (a : List ℤ) (given : IsGive
 
   -- so an id that fails is a node's
   pub fails_behind : (id : ℕ) (fault : RunFault) → o id ≡ Fails fault → cells_of M ≤ id
-  fails_behind id fault e = elim (cases_lt id (cells_of M)) [ | inl low ↦ absurd (cell_never id fault low e) | inr high ↦ omega (arith, high) ]
+  fails_behind id fault e = elim (cases_lt id (cells_of M)) [ inl low ↦ absurd (cell_never id fault low e) | inr high ↦ omega (arith, high) ]
 
 -- ---- in a graph that holds the model
 module _ (users : ℕ → NumberRule) (M : Model) (g : Graph) (id_of_total : Whole → ℕ) (holds : HoldsModel users M g id_of_total) (whole : Whole) (there : IsOf M whole) (target : ℕ) (is : IsTarget g id_of_total whole target) where

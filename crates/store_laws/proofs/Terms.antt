@@ -1,31 +1,29 @@
 -- The id of a term is its variable's cell, or that of the one subterm that is equal to it; equal terms have equal
 -- inputs; and what holds of a term's variables holds of each subterm's.
-use Rattle.std.proofs.Common.{◌≡◌, ◌⊎◌, inl, inr, ℕ, ◌+◌, ◌<◌, Bool, true, false, ◌||◌, List, [], ◌∷◌, ◌++◌, map, Option, Some, None, refl, sym, ap, ◌∙◌, subst, slice_get, All, Contains, Vec, Global}
-use Rattle.std.specs.List.{list_any, list_all, position_or_len}
+use Rattle.std.proofs.Common.{◌≡◌, ◌⊎◌, inl, inr, ℕ, ◌+◌, ◌<◌, Bool, true, false, ◌||◌, List, [], ◌∷◌, ◌++◌, map, Option, Some, refl, sym, ap, ◌∙◌, subst, slice_get, All}
+use Rattle.std.specs.List.{list_any, position_or_len}
 use Rattle.std.proofs.lemmas.List.Elements.{All-nil, All-cons, All-head, All-tail, All-append, All-weaker}
 use Rattle.cbl_base.specs.Inputs.{InputKind}
 use Rattle.cbl_base.specs.declared.ids.VarId.{VarId}
-use Rattle.cbl_base.specs.declared.place.Place.{Place}
-use Rattle.cbl_operations.specs.declared.op.Op.{Op}
 use Rattle.store_laws.proofs.Depends.{either}
 use Rattle.term_count.specs.Codes.{IsNode, is_known, is_known_by}
-use Rattle.term_count.proofs.PlaceLaws.{and_parts, both}
+use Rattle.term_count.proofs.PlaceLaws.{and_parts}
 use Rattle.term_graph.specs.Ids.{behind, id_by}
 use Rattle.term_graph.proofs.IdLaws.{args_below}
 use Rattle.term_graph.proofs.SharedLaws.{ids_alike}
-use Rattle.term_model.specs.Definitions.{joined, vars_of, vars_step}
+use Rattle.term_model.specs.Definitions.{vars_of, vars_step}
 use Rattle.term_model.specs.Kinds.{kind_of_term, kind_step, kinds_in}
 use Rattle.term_model.specs.SameOperations.{same_operation}
 use Rattle.term_model.specs.SameTerms.{all_pass, same_layer, same_term}
-use Rattle.term_model.specs.Subterms.{arguments_of, distinct_subterms, joined_terms, once, subterms, subterms_posted}
+use Rattle.term_model.specs.Subterms.{arguments_of, distinct_subterms, joined_terms, subterms, subterms_posted}
 use Rattle.term_model.specs.declared.model.Model.{Model}
 use Rattle.term_model.specs.declared.term.Term.{Term}
 use Rattle.term_model.specs.declared.term.Term.TheOpen.{Term-F}
-use Rattle.term_model.specs.declared.term.Term.TheViews.{Node, out-Term, out-roll-Term, roll-Term}
+use Rattle.term_model.specs.declared.term.Term.TheViews.{out-Term, roll-Term}
 use Rattle.term_model.specs.declared.term.Term.TheVariants.{rolls-Node}
 use Rattle.term_model.specs.declared.term.Term.TheFolds.{fold-roll-Term, ind-Term, map-Term}
 use Rattle.term_model.proofs.EqualTerms.{roll_out, same_congruent, same_out, same_term_equiv}
-use Rattle.term_model.proofs.SubtermLaws.{any_same, once_all, once_apart, subterms_roll}
+use Rattle.term_model.proofs.SubtermLaws.{any_same, once_apart, subterms_roll}
 use Rattle.graph_values.specs.Graphs.{id_of}
 use Rattle.graph_values.specs.Members.{cells_of, variables_of}
 use Rattle.graph_values.proofs.Arguments.{known_of_node}

@@ -1,36 +1,32 @@
 -- What a move touches of a graph of a model with its totals is what it touches of the model.
-use Rattle.std.proofs.Common.{◌≡◌, ℕ, ℤ, zero, suc, ◌+◌, ◌-◌, ◌*◌, ◌<◌, ◌≤◌, ◌⊎◌, inl, inr, nat_lt, ◌&&◌, Bool, true, false, cond, ◌||◌, List, [], ◌∷◌, map, length, refl, sym, ap, ◌∙◌, subst, All, arith, Ok}
+use Rattle.std.proofs.Common.{◌≡◌, ℕ, ℤ, zero, suc, ◌+◌, ◌-◌, ◌*◌, ◌<◌, ◌≤◌, inl, inr, ◌&&◌, Bool, true, false, cond, ◌||◌, List, [], ◌∷◌, map, length, refl, sym, ap, ◌∙◌, All, arith}
 use Rattle.std.specs.Prelude.{nat_eq}
 use Rattle.std.specs.List.{list_any}
 use Rattle.std.proofs.lemmas.Bool.{cases_lt}
-use Rattle.std.proofs.lemmas.List.{length-map}
 use Rattle.std.proofs.lemmas.List.Elements.{All-head, All-tail}
 use Rattle.cbl_base.specs.NumberRule.{NumberRule}
 use Rattle.cbl_base.specs.declared.ids.NodeId.{NodeId}
 use Rattle.cbl_base.specs.declared.input.Input.{Input}
-use Rattle.cbl_base.specs.declared.input.Input.TheVariants.{Int}
-use Rattle.cbl_violations.specs.Violations.Repeat.{repeat}
 use Rattle.model_values.specs.Wholes.{place_of}
-use Rattle.model_values.specs.declared.wholes.Whole.{Whole}
 use Rattle.model_values.specs.declared.wholes.Whole.TheVariants.{System, Objective}
 use Rattle.store_build.specs.Aims.{start_of}
 use Rattle.store_build.proofs.GatherLemmas.{past_first}
-use Rattle.store_turns.specs.Meaning.{AreLayers, Each, Graph, IsMeaning, come_to, is_empty, outcome_of as ran, values_of}
+use Rattle.store_turns.specs.Meaning.{Each, Graph, IsMeaning, come_to, is_empty, outcome_of as ran, values_of}
 use Rattle.store_turns.specs.Telling.{places_in, positions}
-use Rattle.store_turns.specs.Touch.{bit, differs, edges, sum_below, touch, touched}
+use Rattle.store_turns.specs.Touch.{bit, differs, sum_below, touch, touched}
 use Rattle.store_turns.specs.declared.outcome.Outcome.{Outcome}
 use Rattle.store_turns.specs.declared.outcome.Outcome.TheVariants.{Value}
 use Rattle.term_model.specs.declared.model.Model.{Model}
-use Rattle.graph_values.specs.Graphs.{count_of, inputs_of, model_graph}
+use Rattle.graph_values.specs.Graphs.{count_of}
 use Rattle.graph_values.specs.Members.{cells_of, numbers_of}
-use Rattle.graph_values.specs.Outcomes.{IsGiven, fresh_at}
+use Rattle.graph_values.specs.Outcomes.{IsGiven}
 use Rattle.graph_values.specs.Totals.{HoldsModel}
-use Rattle.graph_values.specs.WholeGraphs.{by_range, first_objective, first_repeat, first_system, inputs_in_whole, inputs_of_total, total_id, value_of_total, weight_at, whole_graph}
+use Rattle.graph_values.specs.WholeGraphs.{first_objective, first_repeat, first_system, inputs_in_whole, total_id, whole_graph}
 use Rattle.graph_values.proofs.Held.{same_come, same_fresh}
 use Rattle.graph_values.proofs.ModelTotals.{repeat_is, total_is}
 use Rattle.graph_values.proofs.WholeLayers.{layer_in, whole_layers}
 use Rattle.graph_values.proofs.Wholes.{in_objectives, in_repeats, in_systems, in_terms, in_weights, objective_repeats, whole_holds}
-use Rattle.store_laws.specs.ModelTouch.{AreUses, IsWhole, differs_in, edges_from, is_other, many_nodes, model_touch, repeat_came, total_came, whole_at}
+use Rattle.store_laws.specs.ModelTouch.{AreUses, IsWhole, differs_in, edges_from, is_other, many_nodes, model_touch, whole_at}
 
 -- ---- sums
 sums_same : (f h : ℕ → ℕ) (n : ℕ) → ((j : ℕ) → j < n → f j ≡ h j) → sum_below f n ≡ sum_below h n

@@ -1,5 +1,5 @@
 -- A trial may be asked of a store that holds a model: the moves are of free cells, and the target is a number.
-use Rattle.std.proofs.Common.{◌≡◌, ◌≢◌, ◌⊎◌, inl, inr, ℕ, ℤ, suc, ◌+◌, ◌*◌, ◌<◌, ◌≤◌, All, Bool, true, false, cond, nat_lt, ◌&&◌, ◌||◌, List, [], ◌∷◌, map, Option, Some, None, is_some, length, Result, Ok, Err, refl, sym, ap, ◌∙◌, subst, arith}
+use Rattle.std.proofs.Common.{◌≡◌, ◌≢◌, inl, inr, ℕ, ℤ, suc, ◌+◌, ◌*◌, ◌<◌, ◌≤◌, All, Bool, true, false, cond, nat_lt, ◌||◌, List, [], Option, Some, None, is_some, Result, Ok, Err, refl, sym, ap, ◌∙◌, subst, arith}
 use Rattle.std.specs.Prelude.{nat_eq, IfOk, IfErr}
 use Rattle.std.specs.Option.{option_and_then}
 use Rattle.std.proofs.lemmas.Bool.{and_parts, ltb-true}
@@ -10,7 +10,7 @@ use Rattle.cbl_base.specs.declared.ids.VarId.{VarId}
 use Rattle.cbl_base.specs.declared.input.Input.{Input}
 use Rattle.cbl_base.specs.declared.input.Input.TheVariants.{Int}
 use Rattle.inc_store.specs.Moves.{AreMoves, is_moved, moved_to}
-use Rattle.inc_store.specs.Views.{IsUsable, count_of, first_of, graph_in, value_at}
+use Rattle.inc_store.specs.Views.{count_of, graph_in, value_at}
 use Rattle.inc_store.specs.declared.store.Store.{Store}
 use Rattle.model_values.specs.Delta.{delta_of, moved, moves_defined}
 use Rattle.model_values.specs.VarOutcomes.{outcome_of_var}
@@ -33,7 +33,7 @@ use Rattle.trial.specs.Differences.{IsDifference, IsStopped}
 use Rattle.trial.specs.declared.fault.DifferenceFault.{DifferenceFault}
 use Rattle.graph_values.specs.Graphs.{HoldsTerms, inputs_of, inputs_of_cell, inputs_of_node, term_at}
 use Rattle.graph_values.specs.Members.{cells_of, numbers_of, variables_of}
-use Rattle.graph_values.specs.Totals.{HoldsModel, came_repeat, came_total}
+use Rattle.graph_values.specs.Totals.{came_repeat, came_total}
 use Rattle.graph_values.proofs.ModelTotals.{repeat_is, total_is}
 use Rattle.graph_values.proofs.Stores.{meaning_assigned}
 use Rattle.model_store.specs.ModelStores.{IsStoreOf}

@@ -13,22 +13,25 @@ all_of-requires g c κs within =
 
 pub layers_of-requires-clause-few : goal.layers_of-requires-clause-few
 layers_of-requires-clause-few g c =
-    let few = c.in_ok-making.ensures.made.few in
+    let few = c.in_ok-made.ensures.made.few in
     omega (arith, few, ap length c.deref.ensures.value)
 
 pub layers_of-requires-clause-layers : goal.layers_of-requires-clause-layers
 layers_of-requires-clause-layers g c =
-    subst (λ (ls : List (Vec NodeId Global)). HasLayers ls) (sym c.deref.ensures.value) (layers_given g.about c.args.model.now c.requires.1.0 (map g.N.NodeRule.rule c.in_ok-making.making.nodes.items) c.in_ok-making.making.lists.items c.in_ok-making.making.places.items c.in_ok-making.ensures.made c.in_ok-making.ensures.count c.requires.1.1.0 c.requires.1.1.1.0)
+    subst (λ (ls : List (Vec NodeId Global)). HasLayers ls) (sym c.deref.ensures.value) (layers_given g.about c.args.model.now c.requires.1.0 (map g.N.NodeRule.rule c.in_ok-made.made.making.nodes.items) c.in_ok-made.made.making.lists.items c.in_ok-made.made.making.places.items c.in_ok-made.ensures.made c.in_ok-made.ensures.count c.requires.1.1.0 c.requires.1.1.1.0)
 
 pub returns-clause-nodes : goal.returns-clause-nodes
-returns-clause-nodes g c = nodes_given g.about c.args.model.now c.requires.1.0 (map g.N.NodeRule.rule c.in_ok-making.making.nodes.items) c.in_ok-making.making.lists.items c.in_ok-making.making.places.items c.in_ok-making.ensures.made c.in_ok-making.ensures.count
+returns-clause-nodes g c = nodes_given g.about c.args.model.now c.requires.1.0 (map g.N.NodeRule.rule c.in_ok-made.made.making.nodes.items) c.in_ok-made.made.making.lists.items c.in_ok-made.made.making.places.items c.in_ok-made.ensures.made c.in_ok-made.ensures.count
 
 pub returns-clause-linked : goal.returns-clause-linked
 returns-clause-linked g c =
-    linked_given g.about c.args.model.now c.requires.1.0 (map g.N.NodeRule.rule c.in_ok-making.making.nodes.items) c.in_ok-making.making.lists.items c.in_ok-making.making.places.items c.in_ok-making.ensures.made c.in_ok-making.ensures.count c.in_ok-layers.layers (subst (λ (ls : List (Vec NodeId Global)). ArePlanned ls c.in_ok-layers.layers) c.deref.ensures.value c.in_ok-layers.ensures)
+    linked_given g.about c.args.model.now c.requires.1.0 (map g.N.NodeRule.rule c.in_ok-made.made.making.nodes.items) c.in_ok-made.made.making.lists.items c.in_ok-made.made.making.places.items c.in_ok-made.ensures.made c.in_ok-made.ensures.count c.in_ok-layers.layers (subst (λ (ls : List (Vec NodeId Global)). ArePlanned ls c.in_ok-layers.layers) c.deref.ensures.value c.in_ok-layers.ensures)
 
 pub returns-clause-places : goal.returns-clause-places
-returns-clause-places g c = places_given g.about c.args.model.now c.requires.1.0 (map g.N.NodeRule.rule c.in_ok-making.making.nodes.items) c.in_ok-making.making.lists.items c.in_ok-making.making.places.items c.in_ok-making.ensures.made c.in_ok-making.ensures.count
+returns-clause-places g c = places_given g.about c.args.model.now c.requires.1.0 (map g.N.NodeRule.rule c.in_ok-made.made.making.nodes.items) c.in_ok-made.made.making.lists.items c.in_ok-made.made.making.places.items c.in_ok-made.ensures.made c.in_ok-made.ensures.count
 
 pub returns-clause-placed : goal.returns-clause-placed
-returns-clause-placed g c = places_all g.about c.args.model.now c.requires.1.0 (map g.N.NodeRule.rule c.in_ok-making.making.nodes.items) c.in_ok-making.making.lists.items c.in_ok-making.making.places.items c.in_ok-making.ensures.made c.in_ok-making.ensures.count
+returns-clause-placed g c = places_all g.about c.args.model.now c.requires.1.0 (map g.N.NodeRule.rule c.in_ok-made.made.making.nodes.items) c.in_ok-made.made.making.lists.items c.in_ok-made.made.making.places.items c.in_ok-made.ensures.made c.in_ok-made.ensures.count
+
+pub returns-clause-short : goal.returns-clause-short
+returns-clause-short g c = c.in_ok-made.ensures.made.short
