@@ -14,6 +14,7 @@ push_member-requires g c =
       knows = ap (λ f. f c.member-item.result.term) before.same_known
           ∙ known_member (g.I.Ids.knows c.args.ids.now) c.deref-member-items.result.now c.loop-member.member-index c.member-item.result all c.loop-member-test.true c.member-item.is;
       closed = subst IsClosed (sym before.same_known) c.requires.closed;
+      ready = before.ready;
     }
 
 pub loop-member-init : goal.loop-member-init
@@ -22,6 +23,7 @@ loop-member-init g c = record {
   systems = refl;
   same_ids = refl;
   same_known = refl;
+  ready = c.requires.ready;
 }
 
 pub loop-member-preserved : goal.loop-member-preserved
@@ -40,6 +42,7 @@ loop-member-preserved g c =
       systems = more.systems ∙ before.systems;
       same_ids = more.same_ids ∙ before.same_ids;
       same_known = more.same_known ∙ before.same_known;
+      ready = more.ready;
     }
 
 pub returns-clause-more : goal.returns-clause-more

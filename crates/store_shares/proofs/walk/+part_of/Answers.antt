@@ -45,7 +45,7 @@ part_of-requires g t c κs within =
     let one : g.I.Ids.knows c.args.ids.now c.arg-item.result ≡ true =
         known_arg (g.I.Ids.knows c.args.ids.now) c.requires.closed c.args.term.now c.in-Node.op c.in-Node.args c.in-Node.place c.in-Node.is c.requires.knows c.deref-arg-items.result.now c.loop-arg.arg-index c.arg-item.result
         c.deref-arg-items.ensures.value c.loop-arg-test.true c.arg-item.is in
-    (search (rules, below), (within, (ap (λ f. f c.arg-item.result) before.same_known ∙ one, subst IsClosed (sym before.same_known) c.requires.closed)))
+    (search (rules, below), (within, (ap (λ f. f c.arg-item.result) before.same_known ∙ one, (subst IsClosed (sym before.same_known) c.requires.closed, before.ready))))
 
 pub loop-arg-init : goal.loop-arg-init
 loop-arg-init g t c = record {
@@ -53,6 +53,7 @@ loop-arg-init g t c = record {
   tell = subst (λ ps. AllTell (g.I.Ids.id_of c.args.ids.now) ps [] c.args.walk.now.slots.count) (sym c.new-parts.ensures.items) tt;
   same_ids = c.id.ensures.same_ids;
   same_known = c.id.ensures.same_known;
+  ready = c.id.ensures.ready;
 }
 
 pub loop-arg-preserved : goal.loop-arg-preserved
@@ -69,6 +70,7 @@ loop-arg-preserved g t c =
           c.loop-arg-test.true c.arg-item.is before.tell before.walked tells);
       same_ids = more.same_ids ∙ before.same_ids;
       same_known = more.same_known ∙ before.same_known;
+      ready = more.ready;
     }
 
 pub returns-clause-walked : goal.returns-clause-walked
