@@ -31,8 +31,10 @@ use Rattle.store_shares.specs.Words.{has}
 use Rattle.store_shares.specs.declared.parts.Part.{Part}
 use Rattle.store_shares.specs.declared.parts.Span.{Span}
 use Rattle.store_shares.specs.declared.shares.Shares.{Shares}
+use Rattle.store_shares.specs.declared.words.Word.{Word}
 use Rattle.std.proofs.lemmas.Option.{slice_get_within}
 use Rattle.store_shares.proofs.MakingLaws.{tell_length}
+use Rattle.store_shares.proofs.ReadingLaws.{there_is}
 use Rattle.store_shares.proofs.SystemLaws.{system_is, tally_is}
 use Rattle.store_shares.proofs.TellLaws.{all_right, marks_left, marks_right, one_in_any, violations_told}
 use Rattle.store_shares.proofs.TermLaws.{share}
@@ -128,11 +130,6 @@ module _ (ids : Term → ℕ) (users : ℕ → NumberRule) (env : ℕ → Outcom
       ∙ sym (system_is users env depends M s total.members.items (members_are M formed s total e))
 
 -- ---- what a call answers
-there_is : {X : Type 0} (xs : List X) (i : ℕ) → i < length xs → (x : X) × (slice_get xs i ≡ Some x)
-there_is [] i lt = absurd (omega (arith, lt))
-there_is (x ∷ xs) zero lt = (x, refl)
-there_is (x ∷ xs) (suc i) lt = there_is xs i (omega (arith, lt))
-
 term_there : (terms : List Term) (f : Term → Result ℤ RunFault) (k : ℕ) (v : Result ℤ RunFault) → slice_get (map f terms) k ≡ Some v → (t : Term) × (slice_get terms k ≡ Some t)
 term_there [] f k v at = let c : None ≡ Some v = at in cc
 term_there (t ∷ terms) f zero v at = (t, refl)
@@ -185,3 +182,16 @@ module _ (users : ℕ → NumberRule) (M : Model) (env : ℕ → Outcome) (ids :
       let total = there_is M.systems.items s lt in
       let is : span ≡ (kept.systems s total.0 total.1).span = ap (λ (o : Option Span). unwrap_or o span) (sym there ∙ (kept.systems s total.0 total.1).kept) in
       answers (zeros total.0 total.1 span is) ∙ total_is total.0 total.1 span is
+
+  -- the same where the sets and the parts are taken out first
+  abbrev Answers : ℕ → Result ℤ RunFault → List Word → List Word → List Part → Type 0
+  Answers first result slots members parts =
+      AreZero (has members) first (map violation_of (map (told reading (has slots)) parts)) →
+      result ≡ tallied (tally_all no_tally (map violation_of (map (told reading (has slots)) parts)) (map (weight s) (range_with_len 0 (length parts))))
+
+  pub answer_by : (span : Span) → slice_get shares.systems.items s ≡ Some span → (result : Result ℤ RunFault) (slots members : List Word) (parts : List Part) →
+      slots ≡ known_words shares.slots.items x → members ≡ known_words shares.members.items x → parts ≡ parts_in shares (Some span) → Answers span.first result slots members parts →
+      result ≡ violation_in_system users M env (var_depends M x) s
+  answer_by span there result slots members parts e f h answers =
+      answer_is span there result (subst (Answers span.first result (known_words shares.slots.items x) (known_words shares.members.items x)) h
+      (subst (λ m. Answers span.first result (known_words shares.slots.items x) m parts) f (subst (λ l. Answers span.first result l members parts) e answers)))
