@@ -1,5 +1,5 @@
 -- What a call tells is the violations of the variable in the system.
-use Rattle.std.proofs.Common.{◌≡◌, ℕ, ℤ, pos, zero, suc, ◌+◌, ◌<◌, Bool, true, false, ◌||◌, List, [], ◌∷◌, ◌++◌, Option, Some, None, Result, Ok, Err, length, map, refl, sym, ap, ◌∙◌, subst, arith, All, slice_get}
+use Rattle.std.proofs.Common.{◌≡◌, ℕ, ℤ, pos, zero, suc, ◌+◌, ◌<◌, Bool, true, false, ◌||◌, List, [], ◌∷◌, Option, Some, None, Result, Ok, length, map, refl, sym, ap, ◌∙◌, subst, arith, All, slice_get}
 use Rattle.std.specs.Prelude.{filter_map, nat_eq, unwrap_or, if◌then◌else◌}
 use Rattle.std.specs.List.{cons_option, list_any, range_with_len}
 use Rattle.std.specs.Option.{option_and_then}
@@ -23,7 +23,7 @@ use Rattle.term_model.specs.declared.term.Term.{Term}
 use Rattle.violation_shares.specs.VariableViolations.{violation_in_system}
 use Rattle.store_shares.specs.Calls.{AreZero, no_tally, tallied, tally_all}
 use Rattle.store_shares.specs.Made.{AreKnown, AreWeights, IsSharesOf, parts_in, slots_in, terms_of}
-use Rattle.store_shares.specs.Parts.{Reading, one_in, told, violation_of}
+use Rattle.store_shares.specs.Parts.{Reading, told, violation_of}
 use Rattle.store_shares.specs.Slots.{AreMarked, joined_slots, slots_of}
 use Rattle.store_shares.specs.Telling.{AllTell, AreReads}
 use Rattle.store_shares.specs.Settled.{known_words}

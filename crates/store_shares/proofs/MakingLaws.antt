@@ -1,6 +1,6 @@
 -- The parts of one member more, and of one system more; and which of all parts are a system's.
-use Rattle.std.proofs.Common.{◌≡◌, ℕ, zero, suc, ◌+◌, ◌-◌, ◌<◌, ◌≤◌, Bool, List, [], ◌∷◌, ◌++◌, Option, Some, None, Vec, Global, All, true, length, length-append, get_or, map, take, drop, refl, sym, ap, ◌∙◌, subst, arith, slice_get}
-use Rattle.std.specs.Prelude.{slice_range, unwrap_or}
+use Rattle.std.proofs.Common.{◌≡◌, ℕ, zero, suc, ◌+◌, ◌-◌, ◌<◌, ◌≤◌, Bool, List, [], ◌∷◌, ◌++◌, Option, Some, None, All, true, length, length-append, get_or, map, take, drop, refl, sym, ap, ◌∙◌, subst, arith, slice_get}
+use Rattle.std.specs.Prelude.{unwrap_or}
 use Rattle.std.proofs.lemmas.List.{append_assoc, append-nil, map-append, length-map, take_more}
 use Rattle.std.proofs.lemmas.List.Elements.{All-head, All-tail}
 use Rattle.term_model.specs.Definitions.{joined}
@@ -9,7 +9,7 @@ use Rattle.term_model.specs.declared.model.Model.{Model}
 use Rattle.term_model.specs.declared.model.Total.{Total}
 use Rattle.term_model.specs.declared.term.Term.{Term}
 use Rattle.store_shares.specs.Closing.{depends_in}
-use Rattle.store_shares.specs.Made.{IsOrdered, IsSharesOf, IsSystem, parts_in, slots_in, terms_of}
+use Rattle.store_shares.specs.Made.{IsSharesOf, IsSystem, terms_of}
 use Rattle.store_shares.specs.Making.{IsMaking, IsMakingOf, named_among, slots_among, spans_of, terms_in}
 use Rattle.store_shares.specs.Naming.{IsNaming}
 use Rattle.store_shares.specs.Settled.{AreSets}

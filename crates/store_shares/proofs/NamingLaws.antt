@@ -1,16 +1,15 @@
 -- Numbers are put into the sets of variables, and what is in the sets then.
-use Rattle.std.proofs.Common.{◌≡◌, ◌⊎◌, inl, inr, ℕ, zero, suc, ◌+◌, ◌<◌, ◌≤◌, ◌/◌, Bool, true, false, ◌||◌, ◌&&◌, List, [], ◌∷◌, ◌++◌, Option, Some, None, Vec, get_or, length, set, refl, sym, ap, ◌∙◌, subst, arith, eqb-true, eq-eqb}
-use Rattle.std.specs.Prelude.{nat_eq, slice_get}
+use Rattle.std.proofs.Common.{◌≡◌, ◌⊎◌, inl, inr, ℕ, zero, suc, ◌+◌, ◌<◌, ◌≤◌, ◌/◌, Bool, true, false, ◌||◌, ◌&&◌, List, [], ◌∷◌, ◌++◌, Vec, get_or, length, set, refl, sym, ap, ◌∙◌, subst, arith, eqb-true, eq-eqb}
+use Rattle.std.specs.Prelude.{nat_eq}
 use Rattle.std.specs.List.{list_any}
 use Rattle.std.specs.declared.alloc.Global.{Global}
-use Rattle.std.proofs.lemmas.Bool.{cases_eq, cases_lt}
+use Rattle.std.proofs.lemmas.Bool.{cases_eq}
 use Rattle.std.proofs.lemmas.List.{length-set, length_push}
 use Rattle.std.proofs.lemmas.List.Folds.{list_any-append}
 use Rattle.std.proofs.lemmas.Option.{slice_get_read}
 use Rattle.cbl_base.proofs.PlaceLemmas.{others_stay}
 use Rattle.store_shares.specs.Closing.{names_in}
 use Rattle.store_shares.specs.Naming.{words_in, words_of, IsPut, IsNaming}
-use Rattle.store_shares.specs.Slots.{slot_at}
 use Rattle.store_shares.specs.Words.{has, IsRising, IsUpTo}
 use Rattle.store_shares.specs.declared.naming.Naming.{Naming}
 use Rattle.store_shares.specs.declared.words.Word.{Word}

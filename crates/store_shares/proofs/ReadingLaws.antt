@@ -1,10 +1,10 @@
 -- What is read one number after another: ranges of numbers that pass, the greatest and the fewest, sums and totals.
-use Rattle.std.proofs.Common.{◌≡◌, ◌⊎◌, inl, inr, ℕ, ℤ, pos, zero, suc, ◌+◌, ◌-◌, ◌+ℤ◌, ◌*ℤ◌, ◌<◌, ◌≤◌, Bool, true, false, cond, ◌||◌, ◌&&◌, List, [], ◌∷◌, ◌++◌, Option, Some, None, Result, Ok, Err, length, get_or, take, drop, fold, map, refl, sym, ap, ◌∙◌, subst, arith, true≢false, slice_get}
+use Rattle.std.proofs.Common.{◌≡◌, ◌⊎◌, inl, inr, ℕ, ℤ, pos, zero, suc, ◌+◌, ◌-◌, ◌+ℤ◌, ◌*ℤ◌, ◌<◌, ◌≤◌, Bool, true, false, cond, ◌||◌, ◌&&◌, List, [], ◌∷◌, ◌++◌, Option, Some, None, Result, Ok, Err, length, get_or, take, drop, fold, map, refl, sym, ap, ◌∙◌, arith, slice_get}
 use Rattle.std.specs.Prelude.{filter, int_lt, unwrap_or, if◌then◌else◌, ◌≤ℤ◌, ◌^◌, ◌*◌, neg_ℤ}
 use Rattle.std.specs.Int.{int_max}
 use Rattle.std.specs.List.{list_any, range_with_len}
 use Rattle.std.specs.Option.{option_map}
-use Rattle.std.proofs.lemmas.Bool.{cases_eq, cases_lt, or_right}
+use Rattle.std.proofs.lemmas.Bool.{cases_eq, or_right}
 use Rattle.std.proofs.lemmas.Int.{ints, clamps}
 use Rattle.std.proofs.lemmas.List.{drop-drop, length-map, map-append, take_more}
 use Rattle.std.proofs.lemmas.List.FromFn.{get_or-range_with_len, length-range_with_len}
@@ -13,8 +13,8 @@ use Rattle.std.proofs.lemmas.Option.{get_or_from_slice_get, slice_get-get_or, sl
 use Rattle.cbl_base.specs.Arithmetic.{fits_64}
 use Rattle.cbl_base.specs.declared.faults.RunFault.{RunFault}
 use Rattle.cbl_operations.specs.Operations.Greatest.{greatest_of}
-use Rattle.store_shares.specs.Calls.{AreZero, no_tally, tallied, tally_all, with_product}
-use Rattle.store_shares.specs.Parts.{Reading, Told, add_told, fewer_told, fewest_told, greater_told, one_in, sum_told, told, told_at, violation_of}
+use Rattle.store_shares.specs.Calls.{AreZero, tally_all, with_product}
+use Rattle.store_shares.specs.Parts.{Told, add_told, fewer_told, fewest_told, greater_told, one_in, told_at, violation_of}
 use Rattle.store_shares.specs.Words.{IsNext}
 use Rattle.store_shares.specs.declared.calls.Tally.{Tally}
 use Rattle.store_shares.specs.declared.parts.Part.{Part}

@@ -1,5 +1,5 @@
 -- Each form of a part tells its term, where its own parts tell the arguments.
-use Rattle.std.proofs.Common.{◌≡◌, ◌⊎◌, inl, inr, ℕ, ℤ, pos, zero, suc, ◌+◌, ◌-◌, ◌<◌, ◌≤◌, ◌+ℤ◌, Bool, true, false, cond, ◌||◌, List, [], ◌∷◌, ◌++◌, Option, Some, None, Vec, Global, Result, Ok, Err, length, length-append, fold, map, refl, sym, ap, ◌∙◌, subst, arith, true≢false, All, slice_get}
+use Rattle.std.proofs.Common.{◌≡◌, ℕ, ℤ, pos, zero, suc, ◌+◌, ◌-◌, ◌<◌, ◌≤◌, ◌+ℤ◌, Bool, true, false, cond, ◌||◌, List, [], ◌∷◌, ◌++◌, Option, Some, None, Vec, Global, Result, Ok, length, length-append, fold, map, refl, sym, ap, ◌∙◌, subst, arith, All}
 use Rattle.std.specs.Prelude.{filter, int_lt, unwrap_or, if◌then◌else◌}
 use Rattle.std.specs.List.{list_any, range_with_len}
 use Rattle.std.proofs.lemmas.Bool.{or_parts}
@@ -14,14 +14,13 @@ use Rattle.cbl_operations.specs.Operations.Greatest.{greatest_of}
 use Rattle.cbl_operations.specs.RuleOf.{rule_of}
 use Rattle.cbl_operations.specs.declared.op.Op.{Op}
 use Rattle.model_values.specs.Dependence.{marked}
-use Rattle.model_values.specs.Outcomes.{Outcome, gather, gathered, outcome_of}
+use Rattle.model_values.specs.Outcomes.{Outcome, gather, outcome_of}
 use Rattle.term_model.specs.declared.term.Term.{Term}
 use Rattle.term_model.specs.declared.term.Term.TheViews.{Node}
 use Rattle.violation_shares.specs.VariableViolations.{arguments_of, number_if, one_depends, share_of, total_violation, violations_where}
 use Rattle.store_shares.specs.Parts.{Reading, Told, add_told, fewer_told, fewest_told, fitted, one_in, sum_told, told, told_step, violation_if, violation_of, violations_in}
 use Rattle.store_shares.specs.Slots.{AreMarked, Slotted, joined_slots, kind_of, slot_at, slots_by, slots_of, slotted}
 use Rattle.store_shares.specs.Telling.{AllTell, AreReads, IsTold, Tells, told_of}
-use Rattle.store_shares.specs.declared.parts.Kind.{Kind}
 use Rattle.store_shares.specs.declared.parts.Kind.TheVariants.{Every, One, Negation, Plain}
 use Rattle.store_shares.specs.declared.parts.Part.{Part}
 use Rattle.store_shares.specs.declared.parts.Part.TheOpen.{Part-F}

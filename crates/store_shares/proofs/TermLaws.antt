@@ -6,7 +6,6 @@ use Rattle.std.specs.List.{list_any}
 use Rattle.std.proofs.lemmas.Int.{ints}
 use Rattle.std.proofs.lemmas.List.{append_assoc, append-nil}
 use Rattle.std.proofs.lemmas.List.Folds.{list_any-append}
-use Rattle.cbl_base.specs.Arithmetic.{exact}
 use Rattle.cbl_base.specs.Inputs.{number_of}
 use Rattle.cbl_base.specs.NumberRule.{NumberRule}
 use Rattle.cbl_base.specs.Totals.{total}
@@ -26,7 +25,7 @@ use Rattle.term_model.specs.declared.term.Term.TheOpen.{Term-F}
 use Rattle.term_model.specs.declared.term.Term.TheViews.{roll-Term, Node}
 use Rattle.term_model.specs.declared.term.Term.TheVariants.{rolls-Node}
 use Rattle.term_model.specs.declared.term.Term.TheFolds.{fold-roll-Term, map-Term, ind-Term}
-use Rattle.violation_shares.specs.VariableViolations.{Arguments, arguments_of, fewer, leaf_share, gather_violation, no_arguments, node_share, number_if, one_depends, share_of, share_step, total_violation, violation_in, violation_of_fewest, violations_where, with_argument}
+use Rattle.violation_shares.specs.VariableViolations.{Arguments, arguments_of, fewer, leaf_share, gather_violation, no_arguments, number_if, one_depends, share_of, share_step, total_violation, violation_in, violation_of_fewest, violations_where, with_argument}
 use Rattle.store_shares.specs.Parts.{Told, add_told, fewer_told, fewest_told, fitted, violation_if}
 use Rattle.store_shares.specs.Telling.{told_of}
 use Rattle.store_shares.specs.Slots.{Slotted, kind_of, slots_by, slots_of, slots_step, slotted}

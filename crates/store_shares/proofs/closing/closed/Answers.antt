@@ -1,4 +1,4 @@
-use Rattle.std.proofs.Common.{◌≡◌, ◌∙◌, ◌<◌, ℕ, true, length, arith, ap, sym, subst}
+use Rattle.std.proofs.Common.{◌≡◌, ◌<◌, ℕ, true, length, arith, sym, subst}
 use Rattle.layer_plan.specs.Dependencies.{list_of}
 use Rattle.store_shares.specs.Settled.{is_known}
 use Rattle.store_shares.proofs.SettledLaws.{right_none, round_more, sets_of_right}

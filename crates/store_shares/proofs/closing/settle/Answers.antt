@@ -1,4 +1,4 @@
-use Rattle.std.proofs.Common.{◌≡◌, ◌∙◌, ◌<◌, ◌||◌, ℕ, true, true≢false, length, arith, ap, sym, refl, Contains}
+use Rattle.std.proofs.Common.{◌≡◌, ◌∙◌, ◌<◌, ◌||◌, true, true≢false, length, arith, ap, sym, refl}
 use Rattle.std.specs.List.{list_all, list_any}
 use Rattle.layer_plan.specs.Dependencies.{list_of}
 use Rattle.store_shares.specs.Naming.{words_of}

@@ -1,4 +1,4 @@
-use Rattle.std.proofs.Common.{◌≡◌, ◌∙◌, map, ap}
+use Rattle.std.proofs.Common.{◌∙◌, map, ap}
 use Rattle.std.proofs.lemmas.List.{take_all}
 use Rattle.store_shares.specs.Parts.{Reading, fewest_told, told, told_at}
 use Rattle.store_shares.proofs.ReadingLaws.{fewest_more, there_is}

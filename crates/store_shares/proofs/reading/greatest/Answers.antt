@@ -1,6 +1,5 @@
-use Rattle.std.proofs.Common.{◌≡◌, ◌∙◌, ◌-◌, Some, arith, rules, ap, subst, sym}
+use Rattle.std.proofs.Common.{◌≡◌, ◌∙◌, ◌-◌, Some, arith, rules, ap, sym}
 use Rattle.std.proofs.lemmas.Int.{to_z-of_z}
-use Rattle.std.specs.Int.RustNames.{FitsSigned}
 use Rattle.cbl_operations.specs.Operations.Greatest.{greatest_of}
 use Rattle.store_shares.specs.Parts.{greater_told}
 use Rattle.store_shares.specs.Words.{has}

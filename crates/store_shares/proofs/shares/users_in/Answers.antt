@@ -1,4 +1,4 @@
-use Rattle.std.proofs.Common.{◌≡◌, ◌∙◌, ◌<◌, ◌^◌, length, map, sym, ap, subst}
+use Rattle.std.proofs.Common.{◌≡◌, ◌∙◌, ◌<◌, ◌^◌, map, sym, ap, subst}
 use Rattle.term_model.specs.Definitions.{named_by}
 use Rattle.store_shares.proofs.ClosingLaws.{items_are, named_count, users_are}
 use Rattle.store_shares.proofs.shares.users_in.Goals as goal

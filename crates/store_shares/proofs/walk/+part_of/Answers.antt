@@ -1,8 +1,7 @@
-use Rattle.std.proofs.Common.{rules, ◌+◌, ◌≡◌, ◌∙◌, ◌<◌, true, false, ℕ, List, [], map, take, length, subst, sym, ap}
+use Rattle.std.proofs.Common.{rules, ◌+◌, ◌≡◌, ◌∙◌, ◌<◌, true, false, [], map, take, subst, sym, ap}
 use Rattle.std.proofs.lemmas.List.{take_all}
 use Rattle.term_model.specs.Definitions.{vars_of}
 use Rattle.term_model.specs.Depth.{depth_of}
-use Rattle.term_model.specs.declared.term.Term.{Term}
 use Rattle.term_model.proofs.Layers.{depth_below}
 use Rattle.store_shares.specs.Slots.{is_flat, joined_slots, kind_of, part_by, slots_of}
 use Rattle.store_shares.specs.Telling.{AllTell, IsClosed, Tells}
