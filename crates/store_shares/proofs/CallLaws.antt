@@ -119,11 +119,11 @@ module _ (ids : Term → ℕ) (users : ℕ → NumberRule) (env : ℕ → Outcom
   call_is M formed s total e parts first weight tell knows marks weighs =
       let members = total.members.items in
       let same : map violation_of (map (told reading test) parts) ≡ map (λ (m : Member). share users env depends m.term) total.members.items =
-          ap (map violation_of) (all_right ids users env depends known reading test reads parts (terms_of total) first tell knows marks) ∙ violations_told users env depends (terms_of total) ∙ terms_mapped (share users env depends) total.members.items in
+      ap (map violation_of) (all_right ids users env depends known reading test reads parts (terms_of total) first tell knows marks) ∙ violations_told users env depends (terms_of total) ∙ terms_mapped (share users env depends) total.members.items in
       let weights : map weight (range_with_len 0 (length total.members.items)) ≡ map (λ (m : Member). m.weight) total.members.items =
-          weights_are weight total.members.items 0 (λ k m at. let to : 0 + k ≡ k = omega arith in ap weight to ∙ weighs k m at) in
+      weights_are weight total.members.items 0 (λ k m at. let to : 0 + k ≡ k = omega arith in ap weight to ∙ weighs k m at) in
       let long : length (map (λ (m : Member). share users env depends m.term) total.members.items) ≡ length (map (λ (m : Member). m.weight) total.members.items) =
-          length_of (λ (m : Member). share users env depends m.term) total.members.items ∙ sym (length_of (λ (m : Member). m.weight) total.members.items) in
+      length_of (λ (m : Member). share users env depends m.term) total.members.items ∙ sym (length_of (λ (m : Member). m.weight) total.members.items) in
       ap (λ vs. tallied (tally_all no_tally vs (map weight (range_with_len 0 (length total.members.items))))) same
       ∙ ap (λ ws. tallied (tally_all no_tally (map (λ (m : Member). share users env depends m.term) total.members.items) ws)) weights
       ∙ sym (tally_is (map (λ (m : Member). share users env depends m.term) total.members.items) (map (λ (m : Member). m.weight) total.members.items) long)
@@ -159,9 +159,9 @@ module _ (users : ℕ → NumberRule) (M : Model) (env : ℕ → Outcome) (ids :
         let here : slice_get (map (share users env (var_depends M x)) (terms_of total)) k ≡ Some v = ap (λ l. slice_get l k) (sym told_is) ∙ there in
         untouched ids users env (var_depends M x) known reading (has (known_words shares.slots.items x)) reads (parts_in shares (Some span)) (terms_of total) (kept.systems s total at).first_slot tells (knows total at) marks k v here
         (λ t term.
-            let first : (kept.systems s total at).span.first + k ≡ span.first + k = ap (λ (r : Span). r.first + k) (sym is) in
-            ap (list_any (var_depends M x)) (sym ((kept.systems s total at).members_there k t term))
-            ∙ sym (kept.member_sets.each x ((kept.systems s total at).span.first + k) is_var) ∙ ap (has (known_words shares.members.items x)) first ∙ none)
+        let first : (kept.systems s total at).span.first + k ≡ span.first + k = ap (λ (r : Span). r.first + k) (sym is) in
+        ap (list_any (var_depends M x)) (sym ((kept.systems s total at).members_there k t term))
+        ∙ sym (kept.member_sets.each x ((kept.systems s total at).span.first + k) is_var) ∙ ap (has (known_words shares.members.items x)) first ∙ none)
 
     count : length (parts_in shares (Some span)) ≡ length total.members.items
     count = tell_length ids (parts_in shares (Some span)) (terms_of total) (kept.systems s total at).first_slot tells ∙ length_of (λ (m : Member). m.term) total.members.items
@@ -170,11 +170,11 @@ module _ (users : ℕ → NumberRule) (M : Model) (env : ℕ → Outcome) (ids :
     total_is =
         ap (λ n. tallied (tally_all no_tally (map violation_of (map (told reading (has (known_words shares.slots.items x))) (parts_in shares (Some span)))) (map (weight s) (range_with_len 0 n)))) count
         ∙ call_is ids users env (var_depends M x) known reading (has (known_words shares.slots.items x)) reads M formed s total at (parts_in shares (Some span)) (kept.systems s total at).first_slot (weight s) tells (knows total at) marks
-          (λ k m there. weights total k m at there)
+        (λ k m there. weights total k m at there)
 
   pub answer_is : (span : Span) → slice_get shares.systems.items s ≡ Some span → (result : Result ℤ RunFault) →
       (AreZero (has (known_words shares.members.items x)) span.first (map violation_of (map (told reading (has (known_words shares.slots.items x))) (parts_in shares (Some span)))) →
-       result ≡ tallied (tally_all no_tally (map violation_of (map (told reading (has (known_words shares.slots.items x))) (parts_in shares (Some span)))) (map (weight s) (range_with_len 0 (length (parts_in shares (Some span))))))) →
+      result ≡ tallied (tally_all no_tally (map violation_of (map (told reading (has (known_words shares.slots.items x))) (parts_in shares (Some span)))) (map (weight s) (range_with_len 0 (length (parts_in shares (Some span))))))) →
       result ≡ violation_in_system users M env (var_depends M x) s
   answer_is span there result answers =
       let within : s < length shares.systems.items = slice_get_within shares.systems.items s span there in

@@ -172,10 +172,10 @@ module _ (M : Model) (formed : IsWellFormed M) (acyclic : IsAcyclic M) where
     rank = λ x. length M.vars.items - 1 - acyclic.rank x;
     within = λ x lt. omega (arith, lt);
     falls = λ x u in'.
-      let used = uses.only x u in' in
-      let falls = acyclic.falls u x used.1 in
-      let high = acyclic.within u used.0 in
-      omega (arith, falls, high);
+        let used = uses.only x u in' in
+        let falls = acyclic.falls u x used.1 in
+        let high = acyclic.within u used.0 in
+        omega (arith, falls, high);
     low = λ x u in'. (uses.only x u in').0;
   }
 

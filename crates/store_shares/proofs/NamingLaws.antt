@@ -48,8 +48,8 @@ put_none : (old new : List (Vec Word Global)) (number v : ℕ) → new ≡ old �
 put_none old new number v e past = subst (λ ss. IsPut old ss number (v ∷ [])) (sym e) (record {
   width = refl;
   both = λ x k lt.
-    let ne : nat_eq v x ≡ false = eq_false v x (λ is. absurd (omega (arith, is, lt, past))) in
-    sym (ap (λ b. has (words_of old x) k || ((b || false) && nat_eq k number)) ne ∙ or_false (has (words_of old x) k));
+      let ne : nat_eq v x ≡ false = eq_false v x (λ is. absurd (omega (arith, is, lt, past))) in
+      sym (ap (λ b. has (words_of old x) k || ((b || false) && nat_eq k number)) ne ∙ or_false (has (words_of old x) k));
   rising = λ x rising up. rising;
   up = λ x up. up;
 })
@@ -111,10 +111,10 @@ pub put_then : (old mid new : List (Vec Word Global)) (number : ℕ) (vs ws : Li
 put_then old mid new number vs ws first second = record {
   width = second.width ∙ first.width;
   both = λ x k lt.
-    second.both x k (subst (λ n. x < n) (sym first.width) lt)
-    ∙ ap (λ b. b || (list_any (λ d. nat_eq d x) ws && nat_eq k number)) (first.both x k lt)
-    ∙ or_and (has (words_of old x) k) (list_any (λ d. nat_eq d x) vs) (list_any (λ d. nat_eq d x) ws) (nat_eq k number)
-    ∙ ap (λ b. has (words_of old x) k || (b && nat_eq k number)) (sym (list_any-append (λ d. nat_eq d x) vs ws));
+      second.both x k (subst (λ n. x < n) (sym first.width) lt)
+      ∙ ap (λ b. b || (list_any (λ d. nat_eq d x) ws && nat_eq k number)) (first.both x k lt)
+      ∙ or_and (has (words_of old x) k) (list_any (λ d. nat_eq d x) vs) (list_any (λ d. nat_eq d x) ws) (nat_eq k number)
+      ∙ ap (λ b. has (words_of old x) k || (b && nat_eq k number)) (sym (list_any-append (λ d. nat_eq d x) vs ws));
   rising = λ x rising up. second.rising x (first.rising x rising up) (first.up x up);
   up = λ x up. second.up x (first.up x up);
 }
@@ -151,10 +151,10 @@ naming_more variables old new lists list naming put count = record {
   width = put.width ∙ naming.width;
   count = count ∙ ap (λ n. n + 1) naming.count ∙ sym (length_push lists list);
   named = λ x k lt.
-    put.both x k (subst (λ n. x < n) (sym naming.width) lt)
-    ∙ ap (λ b. b || (list_any (λ d. nat_eq d x) list && nat_eq k old.count)) (naming.named x k lt)
-    ∙ ap (λ n. names_in lists x k || (list_any (λ d. nat_eq d x) list && nat_eq k n)) naming.count
-    ∙ sym (names_more lists list x k);
+      put.both x k (subst (λ n. x < n) (sym naming.width) lt)
+      ∙ ap (λ b. b || (list_any (λ d. nat_eq d x) list && nat_eq k old.count)) (naming.named x k lt)
+      ∙ ap (λ n. names_in lists x k || (list_any (λ d. nat_eq d x) list && nat_eq k n)) naming.count
+      ∙ sym (names_more lists list x k);
   rising = λ x. put.rising x (naming.rising x) (naming.up x);
   up = λ x. subst (λ n. IsUpTo (words_of new.sets.items x) (n / 64)) (sym count) (up_next (words_of new.sets.items x) old.count (put.up x (naming.up x)));
 }

@@ -218,8 +218,8 @@ tally_skips touched first from end at tally vs ws zeros next le =
     let there : from - first + (at - from) ≡ at - first = omega (arith, above, le) in
     zeros_skipped tally (at - from) (drop (from - first) vs) (drop (from - first) ws)
     (λ k v lt is.
-        let here : first + (from - first + k) ≡ from + k = omega (arith, le) in
-        zeros (from - first + k) v (sym (get_dropped vs (from - first) k) ∙ is) (ap touched here ∙ next.none (from + k) (omega arith) (omega (arith, lt, above))))
+    let here : first + (from - first + k) ≡ from + k = omega (arith, le) in
+    zeros (from - first + k) v (sym (get_dropped vs (from - first) k) ∙ is) (ap touched here ∙ next.none (from + k) (omega arith) (omega (arith, lt, above))))
     ∙ ap (λ xs. tally_all tally xs (drop (at - from) (drop (from - first) ws))) (drop-drop (at - from) (from - first) vs ∙ ap (λ n. drop n vs) there)
     ∙ ap (λ xs. tally_all tally (drop (at - first) vs) xs) (drop-drop (at - from) (from - first) ws ∙ ap (λ n. drop n ws) there)
 

@@ -100,19 +100,31 @@ module _ (users : ℕ → NumberRule) (env : ℕ → Outcome) (depends : ℕ →
   layer : (y : Term-F Known) → Facts users env depends (roll-Term (map-Term Known Term (λ e. e.0) y))
   layer (Term-F.Const x) =
       let z : Term-F Term = Term-F.Const x in
-      record { value = ap (λ (s : Share). s.outcome) (fold-roll-Term Share (share_step users env depends) z) ∙ sym (fold-roll-Term Outcome (outcome_step users env) z); dependence =
-       ap (λ (s : Share). s.depends) (fold-roll-Term Share (share_step users env depends) z) ∙ sym (ap (list_any depends) (fold-roll-Term (List ℕ) vars_step z)); named =
-       ap (λ (s : Slotted). s.vars) (fold-roll-Term Slotted slots_step z) ∙ sym (fold-roll-Term (List ℕ) vars_step z) }
+      record {
+        value = ap (λ (s : Share). s.outcome) (fold-roll-Term Share (share_step users env depends) z) ∙ sym (fold-roll-Term Outcome (outcome_step users env) z);
+        dependence =
+            ap (λ (s : Share). s.depends) (fold-roll-Term Share (share_step users env depends) z) ∙ sym (ap (list_any depends) (fold-roll-Term (List ℕ) vars_step z));
+        named =
+            ap (λ (s : Slotted). s.vars) (fold-roll-Term Slotted slots_step z) ∙ sym (fold-roll-Term (List ℕ) vars_step z);
+      }
   layer (Term-F.ConstSet x) =
       let z : Term-F Term = Term-F.ConstSet x in
-      record { value = ap (λ (s : Share). s.outcome) (fold-roll-Term Share (share_step users env depends) z) ∙ sym (fold-roll-Term Outcome (outcome_step users env) z); dependence =
-       ap (λ (s : Share). s.depends) (fold-roll-Term Share (share_step users env depends) z) ∙ sym (ap (list_any depends) (fold-roll-Term (List ℕ) vars_step z)); named =
-       ap (λ (s : Slotted). s.vars) (fold-roll-Term Slotted slots_step z) ∙ sym (fold-roll-Term (List ℕ) vars_step z) }
+      record {
+        value = ap (λ (s : Share). s.outcome) (fold-roll-Term Share (share_step users env depends) z) ∙ sym (fold-roll-Term Outcome (outcome_step users env) z);
+        dependence =
+            ap (λ (s : Share). s.depends) (fold-roll-Term Share (share_step users env depends) z) ∙ sym (ap (list_any depends) (fold-roll-Term (List ℕ) vars_step z));
+        named =
+            ap (λ (s : Slotted). s.vars) (fold-roll-Term Slotted slots_step z) ∙ sym (fold-roll-Term (List ℕ) vars_step z);
+      }
   layer (Term-F.Var v) =
       let z : Term-F Term = Term-F.Var v in
-      record { value = ap (λ (s : Share). s.outcome) (fold-roll-Term Share (share_step users env depends) z) ∙ sym (fold-roll-Term Outcome (outcome_step users env) z); dependence =
-       ap (λ (s : Share). s.depends) (fold-roll-Term Share (share_step users env depends) z) ∙ sym (or_false (depends v.index)) ∙ sym (ap (list_any depends) (fold-roll-Term (List ℕ) vars_step z)); named =
-       ap (λ (s : Slotted). s.vars) (fold-roll-Term Slotted slots_step z) ∙ sym (fold-roll-Term (List ℕ) vars_step z) }
+      record {
+        value = ap (λ (s : Share). s.outcome) (fold-roll-Term Share (share_step users env depends) z) ∙ sym (fold-roll-Term Outcome (outcome_step users env) z);
+        dependence =
+            ap (λ (s : Share). s.depends) (fold-roll-Term Share (share_step users env depends) z) ∙ sym (or_false (depends v.index)) ∙ sym (ap (list_any depends) (fold-roll-Term (List ℕ) vars_step z));
+        named =
+            ap (λ (s : Slotted). s.vars) (fold-roll-Term Slotted slots_step z) ∙ sym (fold-roll-Term (List ℕ) vars_step z);
+      }
     where
       or_false : (b : Bool) → (b || false) ≡ b
       or_false true = refl
@@ -120,9 +132,13 @@ module _ (users : ℕ → NumberRule) (env : ℕ → Outcome) (depends : ℕ →
   layer (Term-F.Node op args place) =
       let z = map-Term Known Term (λ e. e.0) (Term-F.Node op args place) in
       let items : List Term = map (λ (e : Known). e.0) args.items in
-      record { value = ap (λ (s : Share). s.outcome) (fold-roll-Term Share (share_step users env depends) z) ∙ ap (λ os. operated users op (gathered os)) (outcomes_same args.items) ∙ sym (fold-roll-Term Outcome (outcome_step users env) z); dependence =
-       ap (λ (s : Share). s.depends) (fold-roll-Term Share (share_step users env depends) z) ∙ one_of items ∙ depends_same args.items ∙ sym (any_joined depends items) ∙ sym (ap (list_any depends) (fold-roll-Term (List ℕ) vars_step z)); named =
-       ap (λ (s : Slotted). s.vars) (fold-roll-Term Slotted slots_step z) ∙ ap joined (vars_same args.items) ∙ sym (fold-roll-Term (List ℕ) vars_step z) }
+      record {
+        value = ap (λ (s : Share). s.outcome) (fold-roll-Term Share (share_step users env depends) z) ∙ ap (λ os. operated users op (gathered os)) (outcomes_same args.items) ∙ sym (fold-roll-Term Outcome (outcome_step users env) z);
+        dependence =
+            ap (λ (s : Share). s.depends) (fold-roll-Term Share (share_step users env depends) z) ∙ one_of items ∙ depends_same args.items ∙ sym (any_joined depends items) ∙ sym (ap (list_any depends) (fold-roll-Term (List ℕ) vars_step z));
+        named =
+            ap (λ (s : Slotted). s.vars) (fold-roll-Term Slotted slots_step z) ∙ ap joined (vars_same args.items) ∙ sym (fold-roll-Term (List ℕ) vars_step z);
+      }
 
   pub facts : (t : Term) → Facts users env depends t
   facts = ind-Term (Facts users env depends) (λ x y is. subst (λ z. Facts users env depends (roll-Term z)) is (layer y))

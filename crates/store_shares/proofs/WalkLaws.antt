@@ -65,13 +65,13 @@ pub walked_then : (old mid new : Walk) (xs ys : List (List ℕ)) → IsWalked ol
 walked_then old mid new xs ys first second = record {
   naming = λ variables lists naming. subst (IsNaming variables new.slots) (append_assoc lists xs ys) (second.naming variables (lists ++ xs) (first.naming variables lists naming));
   count =
-    let a = first.count in
-    let b = second.count in
-    let c = length-append xs ys in
-    omega (arith, a, b, c);
+      let a = first.count in
+      let b = second.count in
+      let c = length-append xs ys in
+      omega (arith, a, b, c);
   named =
-    second.named ∙ ap (λ l. l ++ joined ys) first.named ∙ append_assoc old.named.items (joined xs) (joined ys)
-    ∙ ap (λ l. old.named.items ++ l) (sym (joined_append xs ys));
+      second.named ∙ ap (λ l. l ++ joined ys) first.named ∙ append_assoc old.named.items (joined xs) (joined ys)
+      ∙ ap (λ l. old.named.items ++ l) (sym (joined_append xs ys));
 }
 
 pub walked_one : (old new : Walk) (vars : List ℕ) → ((variables : ℕ) (lists : List (List ℕ)) → IsNaming variables old.slots lists → IsNaming variables new.slots (lists ++ vars ∷ [])) →

@@ -35,19 +35,19 @@ loop-at-preserved g c =
     let one : SFits w64 c.in_ok-violation.violation = search rules in
     let other : SFits w64 c.weight.result = search rules in
     let product : c.with_weighed-tally.result ≡ with_product c.loop-at.tally (c.in_ok-violation.violation *ℤ g.H.Held.weight_of c.args.held.now c.args.system (c.loop-at.at - c.args.first)) =
-        c.with_weighed-tally.ensures.is
-        ∙ (λ i. with_product c.loop-at.tally (to_z-of_z w64 c.in_ok-violation.violation one i *ℤ (to_z-of_z w64 c.weight.result other ∙ c.weight.ensures) i)) in
+    c.with_weighed-tally.ensures.is
+    ∙ (λ i. with_product c.loop-at.tally (to_z-of_z w64 c.in_ok-violation.violation one i *ℤ (to_z-of_z w64 c.weight.result other ∙ c.weight.ensures) i)) in
     record {
       low = omega (arith, low, above);
       high = next.within;
       few = low_wider (c.loop-at.at - c.args.first + 1) (c.next-at-in-loop-at.result - c.args.first) c.with_weighed-tally.result.sum on c.with_weighed-tally.ensures.low;
       most = high_wider (c.loop-at.at - c.args.first + 1) (c.next-at-in-loop-at.result - c.args.first) c.with_weighed-tally.result.sum on c.with_weighed-tally.ensures.high;
       rest = λ zeros.
-        tally_next (has c.args.touched.now) c.args.first (c.args.first + length c.args.parts.now) c.loop-at.at c.next-at-in-loop-at.result c.loop-at.tally c.with_weighed-tally.result c.in_ok-violation.violation
-        (g.H.Held.weight_of c.args.held.now c.args.system (c.loop-at.at - c.args.first)) (map violation_of (map (told reading (has c.args.slots.now)) c.args.parts.now)) (map (g.H.Held.weight_of c.args.held.now c.args.system) (range_with_len 0 (length c.args.parts.now)))
-        (tally_all no_tally (map violation_of (map (told reading (has c.args.slots.now)) c.args.parts.now)) (map (g.H.Held.weight_of c.args.held.now c.args.system) (range_with_len 0 (length c.args.parts.now)))) low zeros
-        (told_there (told reading (has c.args.slots.now)) c.args.parts.now (c.loop-at.at - c.args.first) c.index-parts-member.result (Ok c.in_ok-violation.violation) within c.index-parts-member.is c.in_ok-violation.ensures)
-        (weight_there (g.H.Held.weight_of c.args.held.now c.args.system) (length c.args.parts.now) (c.loop-at.at - c.args.first) within) product next (before.rest zeros);
+          tally_next (has c.args.touched.now) c.args.first (c.args.first + length c.args.parts.now) c.loop-at.at c.next-at-in-loop-at.result c.loop-at.tally c.with_weighed-tally.result c.in_ok-violation.violation
+          (g.H.Held.weight_of c.args.held.now c.args.system (c.loop-at.at - c.args.first)) (map violation_of (map (told reading (has c.args.slots.now)) c.args.parts.now)) (map (g.H.Held.weight_of c.args.held.now c.args.system) (range_with_len 0 (length c.args.parts.now)))
+          (tally_all no_tally (map violation_of (map (told reading (has c.args.slots.now)) c.args.parts.now)) (map (g.H.Held.weight_of c.args.held.now c.args.system) (range_with_len 0 (length c.args.parts.now)))) low zeros
+          (told_there (told reading (has c.args.slots.now)) c.args.parts.now (c.loop-at.at - c.args.first) c.index-parts-member.result (Ok c.in_ok-violation.violation) within c.index-parts-member.is c.in_ok-violation.ensures)
+          (weight_there (g.H.Held.weight_of c.args.held.now c.args.system) (length c.args.parts.now) (c.loop-at.at - c.args.first) within) product next (before.rest zeros);
     }
 
 pub returns-in_err-violation : goal.returns-in_err-violation
@@ -61,7 +61,7 @@ returns-in_err-violation g c zeros =
     failed.1 ∙ ap Err failed.2
     ∙ sym (ap tallied (before.rest zeros
     ∙ tally_stops c.loop-at.tally (c.loop-at.at - c.args.first) c.in_err-violation.field-0.0 (map violation_of (map (told reading (has c.args.slots.now)) c.args.parts.now)) (map (g.H.Held.weight_of c.args.held.now c.args.system) (range_with_len 0 (length c.args.parts.now)))
-      (told_there (told reading (has c.args.slots.now)) c.args.parts.now (c.loop-at.at - c.args.first) c.index-parts-member.result (Err c.in_err-violation.field-0.0) within c.index-parts-member.is c.in_err-violation.ensures)))
+    (told_there (told reading (has c.args.slots.now)) c.args.parts.now (c.loop-at.at - c.args.first) c.index-parts-member.result (Err c.in_err-violation.field-0.0) within c.index-parts-member.is c.in_err-violation.ensures)))
 
 pub returns : goal.returns
 returns g c zeros =

@@ -11,7 +11,7 @@ pub push_system-requires : goal.push_system-requires
 push_system-requires g c =
     let before = c.loop-total.invariant in
     let one = subst (λ (u : Total). All (λ t. g.I.Ids.knows c.args.ids.now t ≡ true) (terms_of u)) (sym c.total-item.is)
-        (All-get_or (λ (u : Total). All (λ t. g.I.Ids.knows c.args.ids.now t ≡ true) (terms_of u)) c.args.totals.now c.loop-total.total-index c.total-item.result c.loop-total-test.true c.requires.knows) in
+    (All-get_or (λ (u : Total). All (λ t. g.I.Ids.knows c.args.ids.now t ≡ true) (terms_of u)) c.args.totals.now c.loop-total.total-index c.total-item.result c.loop-total-test.true c.requires.knows) in
     record {
       knows = subst (λ f. All (λ t. f t ≡ true) (terms_of c.total-item.result)) (sym before.same_known) one;
       closed = subst IsClosed (sym before.same_known) c.requires.closed;

@@ -34,11 +34,11 @@ loop-member-preserved g c =
     let i = c.loop-member.member-index in
     record {
       more = λ variables terms made.
-        let one = subst (λ f. IsMaking variables f c.loop-member.making (terms ++ map (λ (m : Member). m.term) (take c.loop-member.member-index c.deref-member-items.result.now))) (sym before.same_ids) (before.more variables terms made) in
-        let two = more.more variables (terms ++ map (λ (m : Member). m.term) (take c.loop-member.member-index c.deref-member-items.result.now)) one in
-        subst (λ f. IsMaking variables f c.push_member.new.making (terms ++ map (λ (m : Member). m.term) (take (c.loop-member.member-index + 1) c.deref-member-items.result.now))) before.same_ids
-        (subst (IsMaking variables (g.I.Ids.id_of c.loop-member.ids) c.push_member.new.making)
-        (members_step c.deref-member-items.result.now c.loop-member.member-index c.member-item.result terms c.loop-member-test.true c.member-item.is) two);
+          let one = subst (λ f. IsMaking variables f c.loop-member.making (terms ++ map (λ (m : Member). m.term) (take c.loop-member.member-index c.deref-member-items.result.now))) (sym before.same_ids) (before.more variables terms made) in
+          let two = more.more variables (terms ++ map (λ (m : Member). m.term) (take c.loop-member.member-index c.deref-member-items.result.now)) one in
+          subst (λ f. IsMaking variables f c.push_member.new.making (terms ++ map (λ (m : Member). m.term) (take (c.loop-member.member-index + 1) c.deref-member-items.result.now))) before.same_ids
+          (subst (IsMaking variables (g.I.Ids.id_of c.loop-member.ids) c.push_member.new.making)
+          (members_step c.deref-member-items.result.now c.loop-member.member-index c.member-item.result terms c.loop-member-test.true c.member-item.is) two);
       systems = more.systems ∙ before.systems;
       same_ids = more.same_ids ∙ before.same_ids;
       same_known = more.same_known ∙ before.same_known;

@@ -18,7 +18,7 @@ returns-in_err-violation-in-Every g t c =
     let failed = err_from_is_err_and c.from_residual.result c.from_residual.ensures.1 in
     let one_there : one_in (has c.args.words.now) c.in-Every.first c.in-Every.end ≡ true = sym c.has_one.ensures ∙ c.if-not-has_one.false in
     let stops = sum_stops (told reading (has c.args.words.now)) c.deref-part-items.result.now c.loop-part.part-index c.part-item.result (to_z w128 c.loop-part.sum-bits) c.in_err-violation-in-Every.field-0.0
-        (sum_told (map violation_of (map (told reading (has c.args.words.now)) c.deref-part-items.result.now))) c.loop-part-test.true c.part-item.is c.loop-part.invariant.rest c.in_err-violation-in-Every.ensures in
+    (sum_told (map violation_of (map (told reading (has c.args.words.now)) c.deref-part-items.result.now))) c.loop-part-test.true c.part-item.is c.loop-part.invariant.rest c.in_err-violation-in-Every.ensures in
     told_stops reading (has c.args.words.now) c.args.part.now c.in-Every.id c.in-Every.first c.in-Every.end c.in-Every.parts c.deref-part-items.result.now c.in_err-violation-in-Every.field-0.0 c.from_residual.result
     c.in-Every.is one_there c.deref-part-items.ensures.value stops (failed.1 ∙ ap Err failed.2)
 
@@ -30,7 +30,7 @@ loop-part-preserved g t c =
     let one : SFits w64 c.in_ok-violation-in-Every.violation = search rules in
     let back : to_z w128 (of_z w128 c.plus-sum.result) ≡ c.plus-sum.result = to_z-of_z w128 c.plus-sum.result wide in
     let is : to_z w128 (of_z w128 c.plus-sum.result) ≡ (to_z w128 c.loop-part.sum-bits +ℤ c.in_ok-violation-in-Every.violation) =
-        back ∙ c.plus-sum.ensures.is ∙ ap (λ x. to_z w128 c.loop-part.sum-bits +ℤ x) (to_z-of_z w64 c.in_ok-violation-in-Every.violation one) in
+    back ∙ c.plus-sum.ensures.is ∙ ap (λ x. to_z w128 c.loop-part.sum-bits +ℤ x) (to_z-of_z w64 c.in_ok-violation-in-Every.violation one) in
     record {
       count = ap (λ n. n + 1) before.count;
       low = subst (λ z. neg_ℤ (pos (2 ^ 63 * (c.loop-part.count + 1))) ≤ℤ z) (sym back) c.plus-sum.ensures.low;
@@ -46,19 +46,19 @@ returns-after-loop-part g t c =
     let one_there : one_in (has c.args.words.now) c.in-Every.first c.in-Every.end ≡ true = sym c.has_one.ensures ∙ c.if-not-has_one.false in
     c.narrowed.ensures
     ∙ told_sum reading (has c.args.words.now) c.args.part.now c.in-Every.id c.in-Every.first c.in-Every.end c.in-Every.parts c.deref-part-items.result.now (to_z w128 c.loop-part.sum-bits) c.loop-part.part-index
-      c.in-Every.is one_there c.deref-part-items.ensures.value c.loop-part-test.false c.loop-part.invariant.rest
+    c.in-Every.is one_there c.deref-part-items.ensures.value c.loop-part-test.false c.loop-part.invariant.rest
 
 pub returns-in-Some : goal.returns-in-Some
 returns-in-Some g t c =
     let reading : Reading = record { number = g.H.Held.number_of c.args.held.now; violation = g.H.Held.violation_of c.args.held.now } in
     let one_there : one_in (has c.args.words.now) c.in-One.first c.in-One.end ≡ true = sym c.has_one-in-One.ensures ∙ c.if-not-has_one-2.false in
     let is : fewest_told (map (told reading (has c.args.words.now)) c.deref.result.now) ≡ Some (told reading (has c.args.words.now) c.index.result.now) =
-        sym (c.in-Some.ensures.fewest (has c.args.words.now))
-        ∙ ap (option_map (told reading (has c.args.words.now))) (slice_get_read c.deref.result.now (length c.deref.result.now) c.in-Some.at c.index.result.now refl c.in-Some.ensures.within
-        (subst (λ ps. c.index.result.now ≡ get_or ps c.in-Some.at c.index.result.now) (sym c.deref.ensures.value) c.index.ensures)) in
+    sym (c.in-Some.ensures.fewest (has c.args.words.now))
+    ∙ ap (option_map (told reading (has c.args.words.now))) (slice_get_read c.deref.result.now (length c.deref.result.now) c.in-Some.at c.index.result.now refl c.in-Some.ensures.within
+    (subst (λ ps. c.index.result.now ≡ get_or ps c.in-Some.at c.index.result.now) (sym c.deref.ensures.value) c.index.ensures)) in
     c.share-in-Some.ensures
     ∙ told_some reading (has c.args.words.now) c.args.part.now c.in-One.id c.in-One.first c.in-One.end c.in-One.parts c.deref.result.now (Some (told reading (has c.args.words.now) c.index.result.now))
-      c.in-One.is one_there c.deref.ensures.value is
+    c.in-One.is one_there c.deref.ensures.value is
 
 pub returns-in-None : goal.returns-in-None
 returns-in-None g t c =

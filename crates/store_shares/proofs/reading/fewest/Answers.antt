@@ -11,8 +11,8 @@ loop-at-preserved g c =
     record {
       within = c.fewer-best.ensures.within;
       fewest = λ test.
-        fewest_more (told reading test) c.args.parts.now c.loop-at.at one.0 (told_at (told reading test) c.args.parts.now c.loop-at.best) (told_at (told reading test) c.args.parts.now c.fewer-best.result)
-        c.loop-at-test.true one.1 (c.loop-at.invariant.fewest test) (c.fewer-best.ensures.fewer test one.0 one.1);
+          fewest_more (told reading test) c.args.parts.now c.loop-at.at one.0 (told_at (told reading test) c.args.parts.now c.loop-at.best) (told_at (told reading test) c.args.parts.now c.fewer-best.result)
+          c.loop-at-test.true one.1 (c.loop-at.invariant.fewest test) (c.fewer-best.ensures.fewer test one.0 one.1);
     }
 
 pub returns-clause-fewest : goal.returns-clause-fewest

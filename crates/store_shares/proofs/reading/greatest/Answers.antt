@@ -27,7 +27,7 @@ loop-at-preserved g c =
     let one : SFits w64 c.violation.result = search rules in
     let most : SFits w64 c.greater.result = search rules in
     let is : to_z w64 (of_z w64 c.greater.result) ≡ greater_told c.loop-at.most (g.H.Held.violation_of c.args.held.now c.args.id (c.loop-at.at - c.args.first)) =
-        to_z-of_z w64 c.greater.result most ∙ c.greater.ensures ∙ ap (greater_told c.loop-at.most) (to_z-of_z w64 c.violation.result one ∙ c.violation.ensures) in
+    to_z-of_z w64 c.greater.result most ∙ c.greater.ensures ∙ ap (greater_told c.loop-at.most) (to_z-of_z w64 c.violation.result one ∙ c.violation.ensures) in
     record {
       low = omega (arith, le, above);
       high = next.within;
@@ -46,4 +46,4 @@ returns g c =
     let fits : SFits w64 c.unwrap_or.result = search rules in
     to_z-of_z w64 c.unwrap_or.result fits ∙ c.unwrap_or.ensures
     ∙ greatest_end (g.H.Held.violation_of c.args.held.now c.args.id) (has c.args.words.now) c.args.first c.args.end c.loop-at.at c.loop-at.most
-      (greatest_of (violations_from (g.H.Held.violation_of c.args.held.now c.args.id) (has c.args.words.now) c.args.first c.args.first c.args.end)) c.loop-at-test.false c.loop-at.invariant.rest
+    (greatest_of (violations_from (g.H.Held.violation_of c.args.held.now c.args.id) (has c.args.words.now) c.args.first c.args.first c.args.end)) c.loop-at-test.false c.loop-at.invariant.rest
