@@ -25,8 +25,8 @@ returns-in-Swap-clause-steps g c =
     let is : g.question.change ≡ Swap left right = search rules in
     let numbers : a ≡ c.args.assignment.now = search rules in
     let same : (c.cell-in-Swap.result, slice_index_or c.args.assignment.now left (pos 0)) ∷ (c.cell-in-Swap-2.result, slice_index_or c.args.assignment.now right (pos 0)) ∷ [] ≡ moves_by a g.question.change =
-      ap (λ (v : VarId). (v, slice_index_or c.args.assignment.now left (pos 0)) ∷ (c.cell-in-Swap-2.result, slice_index_or c.args.assignment.now right (pos 0)) ∷ []) c.cell-in-Swap.ensures
-      ∙ ap (λ (v : VarId). (cell right, slice_index_or c.args.assignment.now left (pos 0)) ∷ (v, slice_index_or c.args.assignment.now right (pos 0)) ∷ []) c.cell-in-Swap-2.ensures
-      ∙ ap (λ (b : List ℤ). moves_by b (Swap left right)) (sym numbers)
-      ∙ ap (moves_by a) (sym is) in
+    ap (λ (v : VarId). (v, slice_index_or c.args.assignment.now left (pos 0)) ∷ (c.cell-in-Swap-2.result, slice_index_or c.args.assignment.now right (pos 0)) ∷ []) c.cell-in-Swap.ensures
+    ∙ ap (λ (v : VarId). (cell right, slice_index_or c.args.assignment.now left (pos 0)) ∷ (v, slice_index_or c.args.assignment.now right (pos 0)) ∷ []) c.cell-in-Swap-2.ensures
+    ∙ ap (λ (b : List ℤ). moves_by b (Swap left right)) (sym numbers)
+    ∙ ap (moves_by a) (sym is) in
     subst (λ (ms : List (VarId × ℤ)). c.told-in-Swap.new.steps ≤ c.args.steps.now + 4 * model_touch (users_in g.question.setting) M a M (moved a g.question.change) (is_moved ms)) same c.told-in-Swap.ensures.steps
