@@ -18,7 +18,7 @@ ghost use Rattle.term_model.specs.Subterms.{distinct_subterms};
 use crate::fault::SolverFault;
 use crate::posting::{put_place, user_term};
 use crate::solver::Solver;
-use cbl_base::{NoMemory, NodeRule};
+use cbl_base::{NoMemory, NodeRule, RunFault};
 use node_kinds::KindOf;
 use solver_models::{SystemId, TotalId};
 use std::alloc::Global;
@@ -65,6 +65,9 @@ impl<U: LocalConstraint> Solver<KindOf<U>> {
         ensures name { IfErr result (λ back. U.user_name back.1 ≡ U.user_name user) }
         ensures back { IfErr result (λ back. back.1 ≡ user) }
     {
+        if self.is_closed() {
+            return Err((SolverFault::Run(RunFault::AlreadyClosed), user));
+        }
         let Ok(number) = self.next_user() else {
             return Err((SolverFault::NoMemory, user));
         };
