@@ -1,5 +1,6 @@
 -- What a solver holds while it is open, once it is closed, and after a commit.
 use Rattle.std.proofs.Common.{◌≡◌, ℕ, ℤ, ◌<◌, All, Bool, true, false, List, [], ◌∷◌, ◌++◌, Option, Some, None, is_some, length, refl, sym, ap, ◌∙◌, subst, true≢false}
+use Rattle.std.proofs.lemmas.List.{length-map}
 use Rattle.std.proofs.lemmas.List.Elements.{All-nil, All-cons, All-head, All-tail}
 use Rattle.cbl_base.specs.NodeLaw.{Rule}
 use Rattle.cbl_base.specs.declared.ids.VarId.{VarId}
@@ -51,13 +52,19 @@ module _ {N : Type 0} (rule : N → Rule) (held : N → List Input) (ready : N �
   rules_stay M N' waiting None e = refl
   rules_stay M N' waiting (Some c) e = absurd (true≢false e)
 
+  -- there are as many as nodes wait
+  pub rules_counted : (number : ℕ) (M : Model) (a : List ℤ) (waiting : List N) (closed : Option (Closed N)) (usable : Bool) (s : SolverState) →
+      record { number = number; model = M; assignment = a; rules = rules_seen rule M waiting closed; closed = is_some closed; usable = usable } ≡ s → s.closed ≡ false → length s.rules ≡ length waiting
+  rules_counted number M a waiting closed usable s view shut =
+      ap (λ (t : SolverState). length t.rules) (sym view) ∙ ap length (open_rules M waiting closed (ap (λ (t : SolverState). t.closed) view ∙ shut)) ∙ length-map waiting (λ n. kept_of (rule n))
+
   -- and with a node more there is one more
   pub rules_grown : (M N' : Model) (waiting after : List N) (one : KeptRule) (closed : Option (Closed N)) → is_some closed ≡ false → waiting_rules rule after ≡ waiting_rules rule waiting ++ one ∷ [] →
       rules_seen rule N' after closed ≡ rules_seen rule M waiting closed ++ one ∷ []
   rules_grown M N' waiting after one None e more = more
   rules_grown M N' waiting after one (Some c) e more = absurd (true≢false e)
 
-  all_push : (waiting : List N) (n : N) → All (λ m. IsUserRule (rule m)) waiting → IsUserRule (rule n) → All (λ m. IsUserRule (rule m)) (waiting ++ n ∷ [])
+  pub all_push : (waiting : List N) (n : N) → All (λ m. IsUserRule (rule m)) waiting → IsUserRule (rule n) → All (λ m. IsUserRule (rule m)) (waiting ++ n ∷ [])
   all_push [] n all is = All-cons (λ m. IsUserRule (rule m)) n [] is (All-nil (λ m. IsUserRule (rule m)))
   all_push (m ∷ waiting) n all is =
       All-cons (λ m. IsUserRule (rule m)) m (waiting ++ n ∷ []) (All-head (λ m. IsUserRule (rule m)) m waiting all) (all_push waiting n (All-tail (λ m. IsUserRule (rule m)) m waiting all) is)

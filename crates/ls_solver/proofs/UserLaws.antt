@@ -1,38 +1,19 @@
--- The rules of the posted users' constraints, and the node of one over places that are numbers.
+-- The node of a user's constraint over places that are numbers.
 use Rattle.std.proofs.Common.{◌≡◌, ℕ, ℤ, Bool, true, false, ◌&&◌, List, [], ◌∷◌, ◌++◌, Option, Some, None, Vec, Global, All, fold, map, length, ap, sym, subst, refl, ◌∙◌}
 use Rattle.std.specs.Prelude.{if◌then◌else◌}
-use Rattle.std.proofs.lemmas.List.{length-map}
 use Rattle.std.proofs.lemmas.List.Elements.{All-head, All-tail}
 use Rattle.std.proofs.lemmas.List.Folds.{list_all-append}
 use Rattle.cbl_base.specs.Inputs.{InputKind, all_numbers, is_number_kind, number_kind}
-use Rattle.model_values.specs.Fresh.{Fresh}
-use Rattle.posted_users.specs.KeptRule.{KeptRule}
-use Rattle.posted_users.specs.PostedState.{PostedState, rules_of}
-use Rattle.solver_models.specs.Kept.{IsKept}
-use Rattle.solver_models.proofs.KeptLaws.{empty_kept}
 use Rattle.solver_models.specs.UserPosting.{no_place, user_term}
 use Rattle.term_model.specs.Definitions.{joined}
 use Rattle.term_model.specs.Kinds.{gather_kind, kind_of_term, node_kind}
 use Rattle.term_model.specs.Naming.{users_of, users_step}
 use Rattle.cbl_operations.specs.declared.op.Op.TheVariants.{User}
-use Rattle.term_model.specs.declared.model.Model.{Model}
 use Rattle.term_model.specs.declared.term.Term.{Term}
 use Rattle.term_model.specs.declared.term.Term.TheOpen.{Term-F}
 use Rattle.term_model.specs.declared.term.Term.TheVariants.{rolls-Node}
 use Rattle.term_model.specs.declared.term.Term.TheFolds.{fold-roll-Term}
 use Rattle.term_model.proofs.Layers.{kind_of_layer}
-
-pub rules_count : (posted : List PostedState) → length (rules_of posted) ≡ length posted
-rules_count posted = length-map posted (λ p. p.rule)
-
-pub no_rules : (posted : List PostedState) → posted ≡ [] → rules_of posted ≡ []
-no_rules posted e = ap rules_of e
-
--- what a new solver keeps
-pub empty_with : (M : Model) (a : List ℤ) (marks : List Bool) (rules : List KeptRule) (values : Fresh) → M.vars.items ≡ [] → M.defs.items ≡ [] → M.systems.items ≡ [] → M.objectives.items ≡ [] → M.posted.items ≡ [] →
-    a ≡ [] → marks ≡ [] → rules ≡ [] → IsKept M a marks rules None values false true
-empty_with M a marks rules values vars defs systems objectives posted assigned marked none =
-    subst (λ rs. IsKept M a marks rs None values false true) (sym none) (empty_kept M a marks values vars defs systems objectives posted assigned marked)
 
 -- ---- the kind of the node
 numbers_more : (ks : List InputKind) → all_numbers ks ≡ true → all_numbers (ks ++ number_kind ∷ []) ≡ true

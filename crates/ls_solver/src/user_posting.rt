@@ -3,6 +3,7 @@ ghost use Rattle.std.specs.Prelude.{◌≡◌, ◌<◌, ◌++◌, true, false, N
 ghost use Rattle.std.specs.List.{All};
 ghost use Rattle.cbl_base.specs.Inputs.{number_kind};
 ghost use Rattle.ls_solver.specs.Answers.{AnswersBack};
+ghost use Rattle.posted_users.specs.KeptOf.{IsUserRule};
 ghost use Rattle.posted_users.specs.KeptRule.{kept};
 ghost use Rattle.solver_store.specs.KeptRules.{waiting_rules};
 ghost use Rattle.solver_models.specs.Adding.{early_member_refusal, is_own_member, member_refusal};
@@ -27,11 +28,12 @@ use term_model::{Member, Term};
 use user_constraint::LocalConstraint;
 
 /// Puts a user's constraint behind the others as its node.
-#[tactic(auto, using(posted_users::proofs::KeptLaws::kept_of_node, posted_users::proofs::KeptLaws::is_user_node))]
 fn push_user<U: LocalConstraint>(alloc: Global, waiting: &mut Vec<KindOf<U>>, user: U)
     requires { vec_len waiting.old < vec_capacity waiting.old }
-    ensures { waiting_rules ⟦<KindOf<U> as NodeRule>⟧.rule waiting.new.items ≡
+    ensures rules { waiting_rules ⟦<KindOf<U> as NodeRule>⟧.rule waiting.new.items ≡
         waiting_rules ⟦<KindOf<U> as NodeRule>⟧.rule waiting.old.items ++ kept (U.user_rule user) ∷ [] }
+    ensures users { All (λ n. IsUserRule (⟦<KindOf<U> as NodeRule>⟧.rule n)) waiting.old.items →
+        All (λ n. IsUserRule (⟦<KindOf<U> as NodeRule>⟧.rule n)) waiting.new.items }
 {
     waiting.push_reserved(KindOf::user(alloc, user));
 }
