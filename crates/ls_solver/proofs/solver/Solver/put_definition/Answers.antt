@@ -4,7 +4,7 @@ use Rattle.solver_models.proofs.DefineLaws.{early_parts, definition_there, uncha
 use Rattle.solver_models.proofs.ModelLaws.{defs_few}
 use Rattle.ls_solver.proofs.solver.Solver.put_definition.Goals as goal
 use Rattle.ls_solver.specs.Solvers.{rules_seen}
-use Rattle.ls_solver.proofs.HeldLaws.{held_from, rules_stay}
+use Rattle.ls_solver.proofs.HeldLaws.{held_from, open_stays}
 use Rattle.solver_models.specs.State.{SolverState}
 
 pub push_definition-requires : goal.push_definition-requires
@@ -32,12 +32,12 @@ pub returns-in-Ok-clause-defined : goal.returns-in-Ok-clause-defined
 returns-in-Ok-clause-defined g c =
     let s = c.self.inside in
     let shut = ap (λ (t : SolverState). t.closed) c.self.view_is ∙ (early_parts c.args.self.now c.args.definition.var c.args.definition.term c.requires.early).0 in
-    let same = rules_stay g.N.NodeRule.rule g.N.NodeRule.held g.N.NodeRule.ready s.model c.push_definition.new.model s.waiting.items s.closed shut in
+    let same = open_stays c.self.invariant c.push_definition.new.model shut in
     search (rules, same)
 
 pub returns-in-Err-clause-kept : goal.returns-in-Err-clause-kept
 returns-in-Err-clause-kept g c =
     let s = c.self.inside in
     let shut = ap (λ (t : SolverState). t.closed) c.self.view_is ∙ (early_parts c.args.self.now c.args.definition.var c.args.definition.term c.requires.early).0 in
-    let same = rules_stay g.N.NodeRule.rule g.N.NodeRule.held g.N.NodeRule.ready s.model c.push_definition.new.model s.waiting.items s.closed shut in
+    let same = open_stays c.self.invariant c.push_definition.new.model shut in
     search (rules, same)

@@ -5,7 +5,7 @@ use Rattle.solver_models.proofs.AddLaws.{early_parts, member_there, member_withi
 use Rattle.term_model.specs.Posting.{totals_by}
 use Rattle.ls_solver.proofs.solver.Solver.put_member.Goals as goal
 use Rattle.ls_solver.specs.Solvers.{rules_seen}
-use Rattle.ls_solver.proofs.HeldLaws.{held_from, rules_stay}
+use Rattle.ls_solver.proofs.HeldLaws.{held_from, open_stays}
 
 pub push_member-requires : goal.push_member-requires
 push_member-requires g c =
@@ -32,12 +32,12 @@ pub returns-in-Ok-clause-added : goal.returns-in-Ok-clause-added
 returns-in-Ok-clause-added g c =
     let s = c.self.inside in
     let shut = ap (λ (t : SolverState). t.closed) c.self.view_is ∙ (early_parts c.args.self.now c.args.k c.args.member.term c.args.member.weight c.requires.early).0 in
-    let same = rules_stay g.N.NodeRule.rule g.N.NodeRule.held g.N.NodeRule.ready s.model c.push_member.new.model s.waiting.items s.closed shut in
+    let same = open_stays c.self.invariant c.push_member.new.model shut in
     search (rules, same)
 
 pub returns-in-Err-clause-kept : goal.returns-in-Err-clause-kept
 returns-in-Err-clause-kept g c =
     let s = c.self.inside in
     let shut = ap (λ (t : SolverState). t.closed) c.self.view_is ∙ (early_parts c.args.self.now c.args.k c.args.member.term c.args.member.weight c.requires.early).0 in
-    let same = rules_stay g.N.NodeRule.rule g.N.NodeRule.held g.N.NodeRule.ready s.model c.push_member.new.model s.waiting.items s.closed shut in
+    let same = open_stays c.self.invariant c.push_member.new.model shut in
     search (rules, same)

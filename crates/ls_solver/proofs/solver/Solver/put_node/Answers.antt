@@ -7,7 +7,7 @@ use Rattle.solver_models.specs.State.{SolverState}
 use Rattle.solver_models.proofs.AddLaws.{early_parts, member_within, no_member_there, user_there}
 use Rattle.term_model.specs.Posting.{totals_by}
 use Rattle.ls_solver.specs.Solvers.{IsHeld, rules_seen}
-use Rattle.ls_solver.proofs.HeldLaws.{held_from, held_more, rules_grown, rules_stay}
+use Rattle.ls_solver.proofs.HeldLaws.{held_from, held_more, open_grows, open_stays}
 use Rattle.ls_solver.proofs.solver.Solver.put_node.Goals as goal
 
 pub put_place-put-requires : goal.put_place-put-requires
@@ -41,13 +41,13 @@ returns-in-Ok-clause-posted g c =
     let s = c.self.inside in
     let shut = ap (λ (t : SolverState). t.closed) c.self.view_is ∙ (early_parts c.args.self.now c.args.k c.args.member.term c.args.member.weight c.requires.early).0 in
     let rule = kept_of (g.N.NodeRule.rule c.args.node) in
-    let more = ap (waiting_rules g.N.NodeRule.rule) (c.push_reserved.ensures.items ∙ ap (λ ns. ns ++ c.args.node ∷ []) c.put_place-put.ensures.same) ∙ map_push (λ n. kept_of (g.N.NodeRule.rule n)) s.waiting.items c.args.node in
-    let same = rules_grown g.N.NodeRule.rule g.N.NodeRule.held g.N.NodeRule.ready s.model c.put_place-put.new.model s.waiting.items c.push_reserved.new.self.items rule s.closed shut more in
+    let more = ap (waiting_rules g.N.NodeRule.rule) c.push_reserved.ensures.items ∙ map_push (λ n. kept_of (g.N.NodeRule.rule n)) c.put_place-put.new.waiting.items c.args.node in
+    let same = open_grows c.self.invariant c.put_place-put.new.model c.put_place-put.new.waiting.items c.push_reserved.new.self.items rule shut c.put_place-put.ensures.same more in
     search (rules, same)
 
 pub returns-in-Err-clause-kept : goal.returns-in-Err-clause-kept
 returns-in-Err-clause-kept g c =
     let s = c.self.inside in
     let shut = ap (λ (t : SolverState). t.closed) c.self.view_is ∙ (early_parts c.args.self.now c.args.k c.args.member.term c.args.member.weight c.requires.early).0 in
-    let same = rules_stay g.N.NodeRule.rule g.N.NodeRule.held g.N.NodeRule.ready s.model c.put_place-put.new.model s.waiting.items s.closed shut in
+    let same = open_stays c.self.invariant c.put_place-put.new.model shut in
     search (rules, same)

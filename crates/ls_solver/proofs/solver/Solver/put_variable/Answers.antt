@@ -5,7 +5,7 @@ use Rattle.solver_models.specs.Declaring.{variable_refusal}
 use Rattle.solver_models.proofs.KeptLaws.{kept_pushed, open_room}
 use Rattle.ls_solver.proofs.solver.Solver.put_variable.Goals as goal
 use Rattle.ls_solver.specs.Solvers.{rules_seen}
-use Rattle.ls_solver.proofs.HeldLaws.{held_from, rules_stay}
+use Rattle.ls_solver.proofs.HeldLaws.{held_from, open_stays}
 
 pub invariant_of-self : goal.invariant_of-self
 invariant_of-self g c =
@@ -22,12 +22,12 @@ pub returns-clause-declared : goal.returns-clause-declared
 returns-clause-declared g c =
     let s = c.self.inside in
     let shut = (open_room (is_some s.closed) _ (ap variable_refusal c.self.view_is ∙ c.requires)).0 in
-    let same = rules_stay g.N.NodeRule.rule g.N.NodeRule.held g.N.NodeRule.ready s.model c.push_variable.new.model s.waiting.items s.closed shut in
+    let same = open_stays c.self.invariant c.push_variable.new.model shut in
     search (rules, same)
 
 pub returns-clause-kept : goal.returns-clause-kept
 returns-clause-kept g c =
     let s = c.self.inside in
     let shut = (open_room (is_some s.closed) _ (ap variable_refusal c.self.view_is ∙ c.requires)).0 in
-    let same = rules_stay g.N.NodeRule.rule g.N.NodeRule.held g.N.NodeRule.ready s.model c.push_variable.new.model s.waiting.items s.closed shut in
+    let same = open_stays c.self.invariant c.push_variable.new.model shut in
     search (rules, same)
