@@ -74,9 +74,9 @@ module _ {N : Type 0} (rule : N → Rule) (held : N → List Input) (ready : N �
   held_more M N' a marks waiting n counted (Some c) usable e is kept waits = absurd (true≢false e)
 
   -- ---- once it is closed
-  pub held_closed : (M : Model) (a : List ℤ) (marks : List Bool) (waiting : List N) (counted : Option Subterms) (c : Closed N) (usable : Bool) → IsClosed rule held ready (setting_of M a (waiting_rules rule waiting)) c → kept_rules M (rules_in rule c.store) ≡ waiting_rules rule waiting →
-      IsClosable M → IsOpen M a marks waiting counted usable → IsHeld rule held ready M a marks [] counted (Some c) usable
-  held_closed M a marks waiting counted c usable is back closable h = record {
+  pub held_closed : (M : Model) (a : List ℤ) (marks : List Bool) (waiting others : List N) (counted : Option Subterms) (c : Closed N) (usable : Bool) → IsClosed rule held ready (setting_of M a (waiting_rules rule waiting)) c → kept_rules M (rules_in rule c.store) ≡ waiting_rules rule waiting →
+      IsClosable M → IsOpen M a marks waiting counted usable → IsHeld rule held ready M a marks others counted (Some c) usable
+  held_closed M a marks waiting others counted c usable is back closable h = record {
     kept = subst (λ rs. IsKept M a marks rs counted true usable) (sym back) (kept_closed M a a marks (waiting_rules rule waiting) counted false usable refl closable h.0);
     waits = tt;
     stands = λ can. subst (λ rs. IsClosed rule held ready (setting_of M a rs) c) (sym back) is;
