@@ -10,3 +10,4 @@ pub use Rattle.solver_models.proofs.ReadLaws
 pub mod UserLaws
 pub mod OfSolverModels
 pub mod HeldLaws
+pub mod ClosedLaws
