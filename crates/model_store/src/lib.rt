@@ -8,5 +8,7 @@
 #![tactic(auto)]
 
 mod stores;
+mod weights;
 
 pub use stores::{build, commit};
+pub use weights::set_weights;

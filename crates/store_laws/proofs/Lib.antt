@@ -7,3 +7,4 @@ pub mod Trials
 pub mod Touches
 pub mod SameGraphs
 pub mod CommitSteps
+pub mod WeightSteps

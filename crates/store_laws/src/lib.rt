@@ -9,7 +9,9 @@
 mod commits;
 mod deltas;
 mod laws;
+mod weights;
 
 pub use commits::commit;
 pub use deltas::delta;
 pub use laws::{delta_law, failure_law, standing_law, touch_law, whole_law};
+pub use weights::set_weights;
