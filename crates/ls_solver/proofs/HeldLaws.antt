@@ -22,6 +22,7 @@ use Rattle.solver_store.proofs.OwnMoves.{numbers_same}
 use Rattle.term_count.specs.declared.subterms.Subterms.{Subterms}
 use Rattle.term_model.specs.declared.model.Model.{Model}
 use Rattle.solver_models.specs.State.{SolverState}
+use Rattle.ls_solver.proofs.UserLaws.{all_push}
 use Rattle.ls_solver.specs.Solvers.{AreWaiting, IsHeld, Stands, rules_seen}
 
 module _ {N : Type 0} (rule : N → Rule) (held : N → List Input) (ready : N → Type 0) where
@@ -47,27 +48,11 @@ module _ {N : Type 0} (rule : N → Rule) (held : N → List Input) (ready : N �
   held_from M N' a marks waiting counted None usable e kept waits = record { kept = kept; waits = waits; stands = tt }
   held_from M N' a marks waiting counted (Some c) usable e kept waits = absurd (true≢false e)
 
-  -- the rules of an open solver don't change with its model
-  pub rules_stay : (M N' : Model) (waiting : List N) (closed : Option (Closed N)) → is_some closed ≡ false → rules_seen rule N' waiting closed ≡ rules_seen rule M waiting closed
-  rules_stay M N' waiting None e = refl
-  rules_stay M N' waiting (Some c) e = absurd (true≢false e)
-
   -- there are as many as nodes wait
   pub rules_counted : (number : ℕ) (M : Model) (a : List ℤ) (waiting : List N) (closed : Option (Closed N)) (usable : Bool) (s : SolverState) →
       record { number = number; model = M; assignment = a; rules = rules_seen rule M waiting closed; closed = is_some closed; usable = usable } ≡ s → s.closed ≡ false → length s.rules ≡ length waiting
   rules_counted number M a waiting closed usable s view shut =
       ap (λ (t : SolverState). length t.rules) (sym view) ∙ ap length (open_rules M waiting closed (ap (λ (t : SolverState). t.closed) view ∙ shut)) ∙ length-map waiting (λ n. kept_of (rule n))
-
-  -- and with a node more there is one more
-  pub rules_grown : (M N' : Model) (waiting after : List N) (one : KeptRule) (closed : Option (Closed N)) → is_some closed ≡ false → waiting_rules rule after ≡ waiting_rules rule waiting ++ one ∷ [] →
-      rules_seen rule N' after closed ≡ rules_seen rule M waiting closed ++ one ∷ []
-  rules_grown M N' waiting after one None e more = more
-  rules_grown M N' waiting after one (Some c) e more = absurd (true≢false e)
-
-  all_push : (waiting : List N) (n : N) → All (λ m. IsUserRule (rule m)) waiting → IsUserRule (rule n) → All (λ m. IsUserRule (rule m)) (waiting ++ n ∷ [])
-  all_push [] n all is = All-cons (λ m. IsUserRule (rule m)) n [] is (All-nil (λ m. IsUserRule (rule m)))
-  all_push (m ∷ waiting) n all is =
-      All-cons (λ m. IsUserRule (rule m)) m (waiting ++ n ∷ []) (All-head (λ m. IsUserRule (rule m)) m waiting all) (all_push waiting n (All-tail (λ m. IsUserRule (rule m)) m waiting all) is)
 
   -- the same with a node more
   pub held_grown : (M N' : Model) (a : List ℤ) (marks : List Bool) (waiting after : List N) (one : KeptRule) (counted : Option Subterms) (closed : Option (Closed N)) (usable : Bool) → is_some closed ≡ false → waiting_rules rule after ≡ waiting_rules rule waiting ++ one ∷ [] →
@@ -83,15 +68,15 @@ module _ {N : Type 0} (rule : N → Rule) (held : N → List Input) (ready : N �
       IsKept N' a marks (rules_seen rule M waiting closed ++ kept_of (rule n) ∷ []) counted (is_some closed) usable → AreWaiting rule waiting closed → IsHeld rule held ready N' a marks (waiting ++ n ∷ []) counted closed usable
   held_more M N' a marks waiting n counted None usable e is kept waits = record {
     kept = subst (λ rs. IsKept N' a marks rs counted false usable) (sym (map_push (λ m. kept_of (rule m)) waiting n)) kept;
-    waits = all_push waiting n waits is;
+    waits = all_push rule waiting n waits is;
     stands = tt;
   }
   held_more M N' a marks waiting n counted (Some c) usable e is kept waits = absurd (true≢false e)
 
   -- ---- once it is closed
-  pub held_closed : (M : Model) (a : List ℤ) (marks : List Bool) (waiting : List N) (counted : Option Subterms) (c : Closed N) (usable : Bool) → IsClosed rule held ready (setting_of M a (waiting_rules rule waiting)) c → kept_rules M (rules_in rule c.store) ≡ waiting_rules rule waiting →
-      IsClosable M → IsOpen M a marks waiting counted usable → IsHeld rule held ready M a marks [] counted (Some c) usable
-  held_closed M a marks waiting counted c usable is back closable h = record {
+  pub held_closed : (M : Model) (a : List ℤ) (marks : List Bool) (waiting others : List N) (counted : Option Subterms) (c : Closed N) (usable : Bool) → IsClosed rule held ready (setting_of M a (waiting_rules rule waiting)) c → kept_rules M (rules_in rule c.store) ≡ waiting_rules rule waiting →
+      IsClosable M → IsOpen M a marks waiting counted usable → IsHeld rule held ready M a marks others counted (Some c) usable
+  held_closed M a marks waiting others counted c usable is back closable h = record {
     kept = subst (λ rs. IsKept M a marks rs counted true usable) (sym back) (kept_closed M a a marks (waiting_rules rule waiting) counted false usable refl closable h.0);
     waits = tt;
     stands = λ can. subst (λ rs. IsClosed rule held ready (setting_of M a rs) c) (sym back) is;
@@ -125,3 +110,23 @@ module _ {N : Type 0} (rule : N → Rule) (held : N → List Input) (ready : N �
         stands = λ can. subst (λ rs. IsClosed rule held ready (setting_of M (after_moves a ms) rs) new) (sym rules)
             (subst (λ s. IsClosed rule held ready s new) (committed_setting M a (kept_rules M (rules_in rule old.store)) ms are) is);
       }
+
+-- ---- an open solver: its rules don't change with its model, and with a node more there is one more
+module _ {N : Type 0} {rule : N → Rule} {held : N → List Input} {ready : N → Type 0} {M : Model} {a : List ℤ} {marks : List Bool} {waiting : List N} {counted : Option Subterms} {closed : Option (Closed N)} {usable : Bool} (h : IsHeld rule held ready M a marks waiting counted closed usable) where
+  pub open_stays : (N' : Model) → is_some closed ≡ false → rules_seen rule N' waiting closed ≡ rules_seen rule M waiting closed
+  open_stays N' e = open_rules rule held ready N' waiting closed e ∙ sym (open_rules rule held ready M waiting closed e)
+
+  pub open_grows : (N' : Model) (before after : List N) (one : KeptRule) → is_some closed ≡ false → before ≡ waiting → waiting_rules rule after ≡ waiting_rules rule before ++ one ∷ [] →
+      rules_seen rule N' after closed ≡ rules_seen rule M waiting closed ++ one ∷ []
+  open_grows N' before after one e same more =
+      open_rules rule held ready N' after closed e ∙ more ∙ ap (λ ns. waiting_rules rule ns ++ one ∷ []) same ∙ ap (λ rs. rs ++ one ∷ []) (sym (open_rules rule held ready M waiting closed e))
+
+  -- what is held then
+  pub held_same : (N' : Model) (after : List N) (again : Option Subterms) → is_some closed ≡ false → after ≡ waiting → IsKept N' a marks (rules_seen rule M waiting closed) again (is_some closed) usable → IsHeld rule held ready N' a marks after again closed usable
+  held_same N' after again e same kept =
+      subst (λ ns. IsHeld rule held ready N' a marks ns again closed usable) (sym same) (held_from rule held ready M N' a marks waiting again closed usable e kept h.waits)
+
+  pub held_with : (N' : Model) (before after : List N) (one : KeptRule) (again : Option Subterms) → is_some closed ≡ false → before ≡ waiting → waiting_rules rule after ≡ waiting_rules rule before ++ one ∷ [] → (All (λ n. IsUserRule (rule n)) before → All (λ n. IsUserRule (rule n)) after) →
+      IsKept N' a marks (rules_seen rule M waiting closed ++ one ∷ []) again (is_some closed) usable → IsHeld rule held ready N' a marks after again closed usable
+  held_with N' before after one again e same more are kept =
+      held_grown rule held ready M N' a marks waiting after one again closed usable e (more ∙ ap (λ ns. waiting_rules rule ns ++ one ∷ []) same) (λ all. are (subst (All (λ n. IsUserRule (rule n))) (sym same) all)) kept h.waits

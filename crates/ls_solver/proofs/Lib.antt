@@ -1,5 +1,6 @@
 pub mod AdmitLaws
 pub mod AnswerLaws
+pub mod CloseLaws
 pub mod CommitLaws
 pub mod RestoreLaws
 pub use Rattle.solver_models.proofs.DefinitionLaws
