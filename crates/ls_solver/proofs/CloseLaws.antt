@@ -6,8 +6,7 @@ use Rattle.cbl_base.specs.declared.input.Input.{Input}
 use Rattle.graph_values.specs.Outcomes.{IsGiven}
 use Rattle.inc_store.specs.Views.{rules_in}
 use Rattle.model_store.proofs.StoreLemmas.{has_values}
-use Rattle.model_values.specs.Fresh.{IsFresh, fresh_of}
-use Rattle.model_values.specs.declared.values.ModelStop.{ModelStop}
+use Rattle.model_values.specs.Fresh.{fresh_of}
 use Rattle.posted_users.specs.KeptOf.{IsUserRule, kept_of}
 use Rattle.posted_users.specs.KeptRule.{KeptRule, users_of}
 use Rattle.solver_models.specs.Kept.{IsClosable, IsKept}
@@ -34,7 +33,7 @@ module _ {N : Type 0} {rule : N → Rule} {held : N → List Input} {ready : N �
   rules_there : waiting_rules rule gone ≡ rules_seen rule M waiting closed
   rules_there = ap (waiting_rules rule) same ∙ sym (open_rules rule held ready M waiting closed open')
 
-  fresh_there : fresh_of (users_of (waiting_rules rule gone)) M b ≡ fresh_of (users_of s.rules) s.model s.assignment
+  pub fresh_there : fresh_of (users_of (waiting_rules rule gone)) M b ≡ fresh_of (users_of s.rules) s.model s.assignment
   fresh_there = ap (λ rs. fresh_of (users_of rs) M b) rules_there ∙ ap (fresh_of (users_of (rules_seen rule M waiting closed)) M) numbers ∙ ap (λ (t : SolverState). fresh_of (users_of t.rules) t.model t.assignment) view
 
   pub close_given : IsAcyclic s.model → IsGiven M b
@@ -70,9 +69,6 @@ module _ {N : Type 0} {rule : N → Rule} {held : N → List Input} {ready : N �
         ∙ ap (λ (t : SolverState). record t { closed = true }) view
 
   -- ---- it couldn't be
-  pub close_lost : (others : List N) → others ≡ [] → IsHeld rule held ready M a marks others counted closed false
-  close_lost others none =
-      held_lost rule held ready M a marks waiting others counted closed usable open' (subst (All (λ n. IsUserRule (rule n))) (sym none) (All-nil (λ n. IsUserRule (rule n)))) (open_held rule held ready M a marks waiting counted closed usable open' h)
-
-  pub close_fault : (stop : ModelStop) → IsFresh (fresh_of (users_of (waiting_rules rule gone)) M b) (Err stop) → IsFresh (fresh_of (users_of s.rules) s.model s.assignment) (Err stop)
-  close_fault stop is = subst (λ f. IsFresh f (Err stop)) fresh_there is
+  pub close_lost : (others empty : List N) → others ≡ empty → empty ≡ [] → IsHeld rule held ready M a marks others counted closed false
+  close_lost others empty put none =
+      held_lost rule held ready M a marks waiting others counted closed usable open' (subst (All (λ n. IsUserRule (rule n))) (sym (put ∙ none)) (All-nil (λ n. IsUserRule (rule n)))) (open_held rule held ready M a marks waiting counted closed usable open' h)

@@ -11,3 +11,4 @@ pub mod UserLaws
 pub mod OfSolverModels
 pub mod HeldLaws
 pub mod ClosedLaws
+pub mod DeltaLaws

@@ -118,13 +118,14 @@ impl<N: SolverNode> Solver<N> {
             self.now.assignment (whole_of k) change) result }
         ensures steps { steps.new ≤ steps.old + 4 * touch_of_move self.now change }
     {
+        let kept = self.kept();
         if self.moves_defined(change) {
             return Err(AskStop::Run(RunFault::DefinedVariable));
         }
         if is_idle(change) {
             return Ok(0);
         }
-        self.kept().delta(
+        kept.delta(
             &self.model,
             &self.assignment,
             trial,
