@@ -14,9 +14,7 @@ use std::thread::Threads;
 
 /// The part of so many candidates, scanned in order under a fuel. Each worker scans adjoining ones under the whole fuel,
 /// beside the others. Where a part can't be merged with those before it, its candidates are scanned again, with the
-/// fuel that these left.
-///
-/// `NoMemory` also where a thread can't be had.
+/// fuel that these left. A worker gets a thread of its own where one can be made.
 pub fn scan<P: Probe + Sync, R: Threads + Sync>(
     rt: &R,
     alloc: Global,
