@@ -5,7 +5,8 @@ ghost use Rattle.ls_select.specs.Candidates.{Candidate, score};
 use cbl_base::NoMemory;
 use ls_select::Scored;
 
-/// What scores the candidates of a selector, which are numbered from 0. Workers share it, and no call changes it.
+/// What scores the candidates of a selector, which are numbered from 0. Workers share it, and no call changes what it
+/// says of them.
 ///
 /// Its meaning is `candidate`: what scoring the candidate with a number costs, how it ends, and where less fuel is
 /// spent.
