@@ -77,11 +77,7 @@ impl<N: SolverNode> Outside for Watch<'_, N> {
         Err(Stop::NoMemory)
     }
 
-    fn commit_waiting(
-        &mut self,
-        _alloc: Global,
-        _number: usize,
-    ) -> Result<Vec<VarChange>, Stop> {
+    fn commit_waiting(&mut self, _alloc: Global, _number: usize) -> Result<Vec<VarChange>, Stop> {
         Err(Stop::NoMemory)
     }
 
