@@ -27,7 +27,7 @@ fn named<K: SolverNode>(
     first: i64,
 ) -> Result<VarId, Stop> {
     let decl = VarDecl {
-        kind: VarKind::Int,
+        kind: VarKind::Number,
         low: 0,
         up: 9,
     };
@@ -62,7 +62,7 @@ fn variable(slot: Slot) -> Typed {
     typed(WHOLE, Kind::Variable, Form::Name(slot))
 }
 
-/// A question about the system.
+/// A question about the system, which costs a unit of fuel.
 fn asked(alloc: Global, method: Method, arguments: Vec<Typed>) -> Result<Typed, AllocError> {
     let object = Box::new(alloc, typed(WHOLE, Kind::System, Form::Name(S)))?;
     let form = Form::Method {
@@ -90,9 +90,9 @@ fn violations_are_told(rt: HostRuntime) -> Result<(), Fail> {
     let alloc = rt.alloc();
     let s = closed::<Boxed>(alloc)?;
     let all = asked(alloc, Method::Violations, Vec::new(alloc))?;
-    assert_eq!(rt; given_in(&s, 9, &all, 5), (Ok(12), 5));
+    assert_eq!(rt; given_in(&s, 9, &all, 5), (Ok(12), 4));
     let of_x = asked(alloc, Method::Violations, vec![in alloc; variable(X)]?)?;
-    assert_eq!(rt; given_in(&s, 9, &of_x, 5), (Ok(12), 5));
+    assert_eq!(rt; given_in(&s, 9, &of_x, 5), (Ok(12), 4));
     Ok(())
 }
 
@@ -104,12 +104,12 @@ fn deltas_are_told(rt: HostRuntime) -> Result<(), Fail> {
     let s = closed::<Boxed>(alloc)?;
     let moved = vec![in alloc; variable(X), number(4)]?;
     let assigned = asked(alloc, Method::SystemAssignDelta, moved)?;
-    assert_eq!(rt; given_in(&s, 9, &assigned, 5), (Ok(-8), 5));
+    assert_eq!(rt; given_in(&s, 9, &assigned, 5), (Ok(-8), 4));
     let both = vec![in alloc; variable(X), variable(Y)]?;
     let swapped = asked(alloc, Method::SystemSwapDelta, both)?;
-    assert_eq!(rt; given_in(&s, 9, &swapped, 5), (Ok(0), 5));
+    assert_eq!(rt; given_in(&s, 9, &swapped, 5), (Ok(0), 4));
     let all = asked(alloc, Method::Violations, Vec::new(alloc))?;
-    assert_eq!(rt; given_in(&s, 9, &all, 5), (Ok(12), 5));
+    assert_eq!(rt; given_in(&s, 9, &all, 5), (Ok(12), 4));
     Ok(())
 }
 
@@ -120,6 +120,6 @@ fn open_solvers_refuse(rt: HostRuntime) -> Result<(), Fail> {
     let s = open::<Boxed>(alloc)?;
     let all = asked(alloc, Method::Violations, Vec::new(alloc))?;
     let refused = Err(EvalStop::Fault(WHOLE, RunFault::NotClosed));
-    assert_eq!(rt; given_in(&s, 9, &all, 5), (refused, 5));
+    assert_eq!(rt; given_in(&s, 9, &all, 5), (refused, 4));
     Ok(())
 }
