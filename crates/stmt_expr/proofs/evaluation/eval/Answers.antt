@@ -2,7 +2,7 @@ use Rattle.std.specs.Prelude.{[]}
 use Rattle.interpreter.specs.OfRunSteps.Views.{code_seen, part}
 use Rattle.run_standing.specs.Seen.{standing_seen}
 use Rattle.run_standing.specs.OfRunState.Views.{state_seen}
-use Rattle.stmt_expr.proofs.Apart.{spends_known, apart, evaluated_apart}
+use Rattle.stmt_expr.proofs.Apart.{spends_known, evaluated_apart}
 use Rattle.stmt_expr.proofs.evaluation.eval.Goals as goal
 
 pub returns : goal.returns
