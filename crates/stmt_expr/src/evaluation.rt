@@ -12,8 +12,8 @@ use interpreter::{Code, evaluate};
 use node_kinds::SolverNode;
 use run_standing::Standing;
 use run_standing::solving::Trial;
-use run_standing::state_of_runs::{Bytes, Stage};
 use run_values::{Stop, Value};
+use run_watching::Watch;
 use std::sync::ledger::Ledger;
 
 /// Why an expression has no value.
@@ -45,24 +45,14 @@ pub fn eval<L: Ledger, N: SolverNode>(
     ensures { (printed : List ℕ) → Evaluates ((level (code_seen code.now) room).expr (part e.now))
         (standing_seen standing.now printed) fuel.old.left result fuel.new.left }
 {
-    let copy = match standing.without_data(fuel.left) {
-        Ok(copy) => copy,
+    let mut state = match standing.state.without_data(fuel.left) {
+        Ok(state) => state,
         Err(_) => return Err(EvalStop::NoMemory),
     };
-    let Standing {
-        mut state,
-        solvers,
-        users,
-    } = copy;
-    let bytes = Bytes {
-        bytes: Vec::new(standing.state.alloc),
+    let mut watch = Watch {
+        solvers: &standing.solvers,
     };
-    let mut stage = Stage {
-        out: bytes,
-        solvers,
-        users,
-    };
-    let answer = evaluate(&mut state, &mut stage, code, room, e);
+    let answer = evaluate(&mut state, &mut watch, code, room, e);
     fuel.left = state.fuel;
     handed_on(answer)
 }

@@ -4,4 +4,6 @@
 #![tactic(auto)]
 
 #[cfg(test)]
+mod solved;
+#[cfg(test)]
 mod values;

@@ -1,0 +1,7 @@
+use Rattle.std.proofs.Common.{refl}
+use Rattle.std.specs.Prelude.{[]}
+use Rattle.run_outside.specs.Told.{beside, told_of}
+use Rattle.run_watching.proofs.watch.WatchOutside.domain.Goals as goal
+
+pub returns-clause-did : goal.returns-clause-did
+returns-clause-did g c = λ s. c.domain.ensures.did (beside (told_of [] c.args.self.now.solvers.now []) s) refl
