@@ -34,8 +34,8 @@ none_of (Some d) e = let c : true ≡ false = e in cc
 pub free_read : (number : ℕ) (M : Model) (a : List ℤ) (rules : List KeptRule) (closed usable : Bool) (x : VarId) (s : SolverState) → seen number M a rules closed usable ≡ s → value_refusal s x ≡ None → closed ≡ false → (z : ℤ) → slice_get a x.index ≡ Some z → fresh_value s x.index ≡ Some (Int z)
 free_read number M a rules closed usable x s view =
     subst (λ (t : SolverState). value_refusal t x ≡ None → closed ≡ false → (z : ℤ) → slice_get a x.index ≡ Some z → fresh_value t x.index ≡ Some (Int z)) view (λ none open' z at.
-      let parts = readable (seen number M a rules closed usable) x none in
-      free_value (users_of rules) M a x.index (given_within number (length M.vars.items) x parts.0) (none_of (definition_of M x.index) (parts.1 open')) ∙ ap (option_map (λ v. Int v)) at)
+    let parts = readable (seen number M a rules closed usable) x none in
+    free_value (users_of rules) M a x.index (given_within number (length M.vars.items) x parts.0) (none_of (definition_of M x.index) (parts.1 open')) ∙ ap (option_map (λ v. Int v)) at)
 
 module _ {N : Type 0} (rule : N → Rule) (held : N → List Input) (ready : N → Type 0) (s : SolverState) (c : Closed N) (is : IsClosed rule held ready (setting_in s) c) where
   module _ (x : VarId) (own : is_own s x ≡ true) where

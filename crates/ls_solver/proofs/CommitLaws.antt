@@ -54,7 +54,7 @@ pub open_commits : (number : ℕ) (M : Model) (a next : List ℤ) (rules : List 
 open_commits number M a next rules closed usable moves e s view =
     subst (λ (t : SolverState). commit_refusal t moves ≡ None → t.closed ≡ false → (changes : Vec VarChange Global) → changes.items ≡ [] → Commits t moves (seen number M next rules closed usable) (Ok changes)) view
     (λ none open' changes nothing.
-      (none, ap (λ b. seen number M b rules closed usable) e, record { open_ = λ h. nothing; valued = λ h. open_ closed open' h; changes_ = λ h. open_ closed open' h }))
+    (none, ap (λ b. seen number M b rules closed usable) e, record { open_ = λ h. nothing; valued = λ h. open_ closed open' h; changes_ = λ h. open_ closed open' h }))
 
 module _ {N : Type 0} (rule : N → Rule) (held : N → List Input) (ready : N → Type 0) where
   -- ---- the values of what is closed are fresh
@@ -103,8 +103,7 @@ module _ {N : Type 0} (rule : N → Rule) (held : N → List Input) (ready : N �
             Commits (seen number M a (rules_seen rule M waiting (Some c)) true usable) ms (seen number M next (rules_seen rule M waiting (Some n)) true usable) (Ok changes)
         told c n same h k none can changes all =
             let was = vars_fresh M a (kept_rules M (rules_in rule c.store)) c (h.stands can) in
-            let is = k.stands can in
-            (
+            let is = k.stands can in (
               none,
               ap (λ b. seen number M b (kept_rules M (rules_in rule n.store)) true usable) moved ∙ ap (λ rs. seen number M (after_moves a ms) (kept_rules M rs) true usable) same,
               record {

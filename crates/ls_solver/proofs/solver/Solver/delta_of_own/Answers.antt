@@ -18,16 +18,34 @@ returns-then-is_idle-clause-answer g c =
     (sym c.is_idle.ensures ∙ c.if-is_idle.true) (sym c.moves_defined.ensures ∙ c.if-moves_defined.false)
 
 pub delta-requires : goal.delta-requires
-delta-requires g c κs within =
-    (search (rules, within), (search (rules, within),
-    (subst (λ (q : Question). IsClosed g.N.NodeRule.rule g.N.NodeRule.held g.N.NodeRule.ready q.setting c.kept-kept.result.now) (sym c.requires.1.1.0) c.kept-kept.ensures,
-    (ap (λ (q : Question). q.setting.model) c.requires.1.1.0 ∙ ap (λ (t : SolverState). t.model) (sym c.self.view_is),
-    (ap (λ (q : Question). q.setting.assignment) c.requires.1.1.0 ∙ ap (λ (t : SolverState). t.assignment) (sym c.self.view_is) ∙ sym c.deref.ensures.value,
-    (ap (λ (q : Question). q.whole) c.requires.1.1.0,
-    (ap (λ (q : Question). q.change) c.requires.1.1.0,
-    (subst (λ (t : SolverState). c.args.k.index < length (totals_by t.model c.args.k.side)) (sym c.self.view_is) c.requires.1.1.1.1.1.0,
-    (subst (λ (t : SolverState). IsProper t.model c.args.change) (sym c.self.view_is) (is_proper c.args.self.now.model c.args.change c.requires.1.1.1.1.1.1 (sym c.is_idle.ensures ∙ c.if-is_idle.false)),
-    subst (λ (t : SolverState). moves_defined t.model c.args.change ≡ false) (sym c.self.view_is) (sym c.moves_defined.ensures ∙ c.if-moves_defined.false))))))))))
+delta-requires g c κs within = (
+  search (rules, within),
+  (
+    search (rules, within),
+    (
+      subst (λ (q : Question). IsClosed g.N.NodeRule.rule g.N.NodeRule.held g.N.NodeRule.ready q.setting c.kept-kept.result.now) (sym c.requires.1.1.0) c.kept-kept.ensures,
+      (
+        ap (λ (q : Question). q.setting.model) c.requires.1.1.0 ∙ ap (λ (t : SolverState). t.model) (sym c.self.view_is),
+        (
+          ap (λ (q : Question). q.setting.assignment) c.requires.1.1.0 ∙ ap (λ (t : SolverState). t.assignment) (sym c.self.view_is) ∙ sym c.deref.ensures.value,
+          (
+            ap (λ (q : Question). q.whole) c.requires.1.1.0,
+            (
+              ap (λ (q : Question). q.change) c.requires.1.1.0,
+              (
+                subst (λ (t : SolverState). c.args.k.index < length (totals_by t.model c.args.k.side)) (sym c.self.view_is) c.requires.1.1.1.1.1.0,
+                (
+                  subst (λ (t : SolverState). IsProper t.model c.args.change) (sym c.self.view_is) (is_proper c.args.self.now.model c.args.change c.requires.1.1.1.1.1.1 (sym c.is_idle.ensures ∙ c.if-is_idle.false)),
+                  subst (λ (t : SolverState). moves_defined t.model c.args.change ≡ false) (sym c.self.view_is) (sym c.moves_defined.ensures ∙ c.if-moves_defined.false),
+                ),
+              ),
+            ),
+          ),
+        ),
+      ),
+    ),
+  ),
+)
 
 pub returns-clause-answer : goal.returns-clause-answer
 returns-clause-answer g c = subst (λ (q : Question). IsAnswer (delta_asked q) c.delta.result) c.requires.1.1.0 c.delta.ensures.answer

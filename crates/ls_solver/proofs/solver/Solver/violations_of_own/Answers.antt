@@ -14,12 +14,19 @@ use Rattle.ls_solver.proofs.solver.Solver.violations_of_own.Goals as goal
 pub share-requires : goal.share-requires
 share-requires g c κs within =
     let own = c.requires.1.1.1 in
-    let seen = sym c.self.view_is in
-    (search (rules, within),
-    (subst (λ (st : Setting). IsClosed g.N.NodeRule.rule g.N.NodeRule.held g.N.NodeRule.ready st c.kept.result.now) (sym c.requires.1.0) c.kept.ensures,
-    (ap (λ (st : Setting). st.model) c.requires.1.0 ∙ ap (λ (t : SolverState). t.model) seen,
-    (subst (λ (t : SolverState). c.args.s.index < length t.model.systems.items) seen (total_replies c.args.self.now (of_system c.args.s) (c.args.x ∷ []) own),
-    subst (λ (t : SolverState). c.args.x.index < length t.model.vars.items) seen (assigns_own c.args.self.now (of_system c.args.s) c.args.x own)))))
+    let seen = sym c.self.view_is in (
+      search (rules, within),
+      (
+        subst (λ (st : Setting). IsClosed g.N.NodeRule.rule g.N.NodeRule.held g.N.NodeRule.ready st c.kept.result.now) (sym c.requires.1.0) c.kept.ensures,
+        (
+          ap (λ (st : Setting). st.model) c.requires.1.0 ∙ ap (λ (t : SolverState). t.model) seen,
+          (
+            subst (λ (t : SolverState). c.args.s.index < length t.model.systems.items) seen (total_replies c.args.self.now (of_system c.args.s) (c.args.x ∷ []) own),
+            subst (λ (t : SolverState). c.args.x.index < length t.model.vars.items) seen (assigns_own c.args.self.now (of_system c.args.s) c.args.x own),
+          ),
+        ),
+      ),
+    )
 
 pub returns : goal.returns
 returns g c =
