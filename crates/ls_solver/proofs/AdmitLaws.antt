@@ -1,6 +1,6 @@
 -- What is known of a member and a definition that aren't refused, whatever their size.
-use Rattle.std.proofs.Common.{◌≡◌, ℤ, pos, Bool, true, false, Some, None, refl}
-use Rattle.std.specs.Prelude.{int_lt, not, if◌then◌else◌}
+use Rattle.std.proofs.Common.{◌≡◌, ℤ, Bool, true, false, Some, None, refl}
+use Rattle.std.specs.Prelude.{not, if◌then◌else◌}
 use Rattle.cbl_base.specs.declared.faults.RunFault.TheVariants.{AlreadyClosed, WrongSolver}
 use Rattle.cbl_base.specs.declared.faults.RunFault.{RunFault}
 use Rattle.cbl_base.specs.declared.ids.VarId.{VarId}

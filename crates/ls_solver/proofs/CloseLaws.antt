@@ -1,5 +1,5 @@
 -- What a solver holds once it was closed, or where it couldn't be.
-use Rattle.std.proofs.Common.{◌≡◌, ℕ, ℤ, All, Bool, true, false, List, [], Option, Some, Result, Ok, Err, is_some, length, refl, sym, ap, ◌∙◌, subst}
+use Rattle.std.proofs.Common.{◌≡◌, ℕ, ℤ, All, Bool, true, false, List, [], Option, Some, is_some, length, sym, ap, ◌∙◌, subst}
 use Rattle.std.specs.Prelude.{is_ok}
 use Rattle.cbl_base.specs.NodeLaw.{Rule}
 use Rattle.cbl_base.specs.declared.input.Input.{Input}
@@ -8,8 +8,7 @@ use Rattle.inc_store.specs.Views.{rules_in}
 use Rattle.model_store.proofs.StoreLemmas.{has_values}
 use Rattle.model_values.specs.Fresh.{fresh_of}
 use Rattle.posted_users.specs.KeptOf.{IsUserRule, kept_of}
-use Rattle.posted_users.specs.KeptRule.{KeptRule, users_of}
-use Rattle.solver_models.specs.Kept.{IsClosable, IsKept}
+use Rattle.posted_users.specs.KeptRule.{users_of}
 use Rattle.solver_models.specs.State.{SolverState}
 use Rattle.solver_store.specs.Closed.{IsClosed, setting_of}
 use Rattle.solver_store.specs.KeptRules.{kept_rules, waiting_rules}

@@ -1,12 +1,11 @@
 -- What a solver holds while it is open, once it is closed, and after a commit.
-use Rattle.std.proofs.Common.{◌≡◌, ℕ, ℤ, ◌<◌, All, Bool, true, false, List, [], ◌∷◌, ◌++◌, Option, Some, None, is_some, length, refl, sym, ap, ◌∙◌, subst, true≢false}
+use Rattle.std.proofs.Common.{◌≡◌, ℕ, ℤ, All, Bool, true, false, List, [], ◌∷◌, ◌++◌, Option, Some, None, is_some, length, refl, sym, ap, ◌∙◌, subst, true≢false}
 use Rattle.std.proofs.lemmas.List.{length-map}
-use Rattle.std.proofs.lemmas.List.Elements.{All-nil, All-cons, All-head, All-tail}
 use Rattle.cbl_base.specs.NodeLaw.{Rule}
 use Rattle.cbl_base.specs.declared.ids.VarId.{VarId}
 use Rattle.cbl_base.specs.declared.input.Input.{Input}
 use Rattle.inc_store.specs.Views.{rules_in}
-use Rattle.model_store.specs.Settings.{after, numbers_after}
+use Rattle.model_store.specs.Settings.{after}
 use Rattle.posted_users.specs.KeptOf.{IsUserRule, kept_of}
 use Rattle.posted_users.specs.KeptRule.{KeptRule}
 use Rattle.solver_models.specs.Kept.{IsClosable, IsKept}

@@ -104,12 +104,7 @@ impl<N: SolverNode> Solver<N> {
     }
 
     /// The same of a member.
-    fn post_member(
-        &mut self,
-        k: TotalId,
-        node: N,
-        member: Member,
-    ) -> Result<(), (SolverFault, N)>
+    fn post_member(&mut self, k: TotalId, node: N, member: Member) -> Result<(), (SolverFault, N)>
         requires usable { self.old.usable ≡ true }
         requires rule { IsUserRule (N.NodeRule.rule node) }
         requires kind { is_own_member self.old k member.term ≡ true →
@@ -150,13 +145,7 @@ impl<N: SolverNode> Solver<N> {
         ensures kept { OnErr result (IsUnchanged self.old self.new) }
         ensures back { IfErr result (λ back. back.1 ≡ node) }
     {
-        let put = put_place(
-            self.alloc,
-            &mut self.waiting,
-            &mut self.model,
-            k,
-            member,
-        );
+        let put = put_place(self.alloc, &mut self.waiting, &mut self.model, k, member);
         match put {
             Ok(()) => {
                 self.waiting.push_reserved(node);

@@ -126,13 +126,7 @@ impl<U: LocalConstraint> Solver<KindOf<U>> {
         ensures name { IfErr result (λ back. U.user_name back.1 ≡ U.user_name user) }
         ensures back { IfErr result (λ back. back.1 ≡ user) }
     {
-        let put = put_place(
-            self.alloc,
-            &mut self.waiting,
-            &mut self.model,
-            k,
-            member,
-        );
+        let put = put_place(self.alloc, &mut self.waiting, &mut self.model, k, member);
         match put {
             Ok(()) => {
                 push_user(self.alloc, &mut self.waiting, user);

@@ -1,5 +1,5 @@
 -- The distinct subterms of what was posted, one posting after another.
-use Rattle.std.proofs.Common.{◌≡◌, ◌+◌, List, [], ◌∷◌, ◌++◌, Some, None, Result, Ok, Err, fold, map, sym, ap, ◌∙◌, subst}
+use Rattle.std.proofs.Common.{◌≡◌, List, [], ◌∷◌, ◌++◌, Some, None, Result, Ok, Err, fold, map, sym, ap, ◌∙◌, subst}
 use Rattle.std.specs.Prelude.{OnOk}
 use Rattle.std.proofs.lemmas.List.Sums.{fold-append}
 use Rattle.cbl_base.specs.declared.faults.NoMemory.{NoMemory}

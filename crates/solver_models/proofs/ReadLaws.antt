@@ -1,21 +1,17 @@
 -- What is read of a variable: its number in the assignment while the solver is open, and then what is kept.
-use Rattle.std.proofs.Common.{◌≡◌, ℕ, ℤ, zero, suc, ◌<◌, Bool, true, false, ◌&&◌, List, Option, Some, None, is_some, length, refl, sym, ap, ◌∙◌, subst, arith, slice_get, true≢false}
+use Rattle.std.proofs.Common.{◌≡◌, ℕ, ℤ, zero, suc, ◌<◌, Bool, true, false, ◌&&◌, List, Some, None, length, refl, ap, arith, slice_get, true≢false}
 use Rattle.std.specs.Prelude.{not, if◌then◌else◌, nat_eq, nat_lt}
 use Rattle.std.specs.Option.{option_map}
-use Rattle.cbl_base.specs.Inputs.{kind_of, number_kind, set_kind}
 use Rattle.cbl_base.specs.NumberRule.{NumberRule}
-use Rattle.cbl_base.specs.declared.input.Input.{Input}
-use Rattle.cbl_base.specs.declared.input.Input.TheVariants.{Int, Set}
+use Rattle.cbl_base.specs.declared.input.Input.TheVariants.{Int}
 use Rattle.cbl_base.specs.declared.faults.RunFault.TheVariants.{NotClosed, WrongSolver}
 use Rattle.cbl_base.specs.declared.ids.VarId.{VarId}
 use Rattle.solver_models.specs.Ids.{has_definition, is_given, is_own}
-use Rattle.solver_models.specs.Reading.{fresh_value, set_refusal, value_refusal}
+use Rattle.solver_models.specs.Reading.{set_refusal, value_refusal}
 use Rattle.solver_models.specs.State.{SolverState}
 use Rattle.model_values.specs.VarOutcomes.{outcome_by, outcome_of_var, outcomes_through}
 use Rattle.term_model.specs.Definitions.{definition_of}
-use Rattle.term_model.specs.Kinds.{kinds_in}
 use Rattle.term_model.specs.declared.model.Model.{Model}
-use Rattle.posted_users.specs.KeptRule.{KeptRule, users_of}
 
 -- a free variable has its number
 pub free_value : (users : ℕ → NumberRule) (M : Model) (a : List ℤ) (i : ℕ) → i < length M.vars.items → definition_of M i ≡ None → outcome_of_var users M a i ≡ option_map (λ z. Int z) (slice_get a i)

@@ -1,19 +1,17 @@
 -- What a solver that isn't refused a reply has, and what is kept of its systems and objectives.
-use Rattle.std.proofs.Common.{◌≡◌, ℕ, ℤ, ◌<◌, Bool, true, false, ◌&&◌, List, [], ◌∷◌, Option, Some, None, Result, Ok, length, refl, sym, ap, ◌∙◌, subst, slice_get}
-use Rattle.std.specs.Prelude.{not, unwrap_or, if◌then◌else◌}
+use Rattle.std.proofs.Common.{◌≡◌, ◌<◌, Bool, true, false, ◌&&◌, List, [], ◌∷◌, Some, None, length, refl}
+use Rattle.std.specs.Prelude.{not, if◌then◌else◌}
 use Rattle.std.specs.List.{list_all}
 use Rattle.cbl_base.specs.declared.faults.RunFault.TheVariants.{NotClosed, WrongSolver}
 use Rattle.cbl_base.specs.declared.ids.VarId.{VarId}
 use Rattle.solver_models.specs.Ids.{is_own}
-use Rattle.solver_models.specs.Replying.{fresh_total, read_refusal, reply_refusal}
+use Rattle.solver_models.specs.Replying.{reply_refusal}
 use Rattle.solver_models.specs.State.{SolverState}
 use Rattle.solver_models.specs.Totals.{is_own_total}
 use Rattle.solver_models.specs.declared.totals.TotalId.{TotalId}
 use Rattle.solver_models.proofs.AddLaws.{total_within}
 use Rattle.solver_models.proofs.ReadLaws.{given_within}
 use Rattle.term_model.specs.Posting.{totals_by}
-use Rattle.term_model.specs.declared.model.Model.{Model}
-use Rattle.posted_users.specs.KeptRule.{KeptRule, users_of}
 
 both_true : (a b : Bool) → (a && b) ≡ true → (a ≡ true) × (b ≡ true)
 both_true true b h = (refl, h)

@@ -1,26 +1,21 @@
 -- What a solver keeps beside its state: which variables have a definition, the distinct subterms of the model where they
 -- were counted, and as long as it may be used a rule for each user's constraint in the model.
-use Rattle.std.specs.Prelude.{◌≡◌, ℕ, ℤ, ◌<◌, ◌^◌, Bool, true, false, List, length, Option, Some, None, Ok, slice_get, unwrap_or}
-use Rattle.cbl_base.specs.Inputs.{kind_of, number_kind}
+use Rattle.std.specs.Prelude.{◌≡◌, ℕ, ℤ, ◌<◌, ◌^◌, Bool, true, false, List, length, Option, Some, None, slice_get, unwrap_or}
+use Rattle.cbl_base.specs.Inputs.{number_kind}
 use Rattle.cbl_base.specs.NumberRule.{NumberRule}
 use Rattle.cbl_base.specs.declared.input.Input.{Input}
 use Rattle.solver_models.specs.Ids.{has_definition}
-use Rattle.model_values.specs.Delta.{value_of}
-use Rattle.model_values.specs.Fresh.{Fresh, fresh_of, whole_by}
 use Rattle.model_values.specs.VarOutcomes.{outcome_of_var}
 use Rattle.term_count.specs.Counting.{Counts}
 use Rattle.term_count.specs.declared.subterms.Subterms.{Subterms}
 use Rattle.term_model.specs.Definitions.{IsAcyclic}
 use Rattle.term_model.specs.Kinds.{kinds_in}
 use Rattle.term_model.specs.Naming.{users_posted}
-use Rattle.term_model.specs.Posting.{totals_by}
 use Rattle.term_model.specs.Subterms.{distinct_subterms}
 use Rattle.term_model.specs.Wellformed.{HasDefinedSets, IsWellFormed}
 use Rattle.term_model.specs.declared.model.Model.{Model}
 use Rattle.term_model.specs.declared.model.VarDecl.{VarDecl}
-use Rattle.term_model.specs.declared.posting.Side.{Side}
-use Rattle.term_model.specs.declared.posting.Side.TheVariants.{Systems, Objectives}
-use Rattle.posted_users.specs.KeptRule.{KeptRule, users_of}
+use Rattle.posted_users.specs.KeptRule.{KeptRule}
 
 -- a mark for each variable that has a definition
 abbrev pub mark_at : List Bool → ℕ → Bool

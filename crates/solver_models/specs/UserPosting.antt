@@ -2,7 +2,7 @@
 -- is posted last; its rule goes behind the others. It is refused as any other constraint. Its node has no place in the
 -- program, since it never fails. A rule of this project.
 use Rattle.std.specs.declared.alloc.Global.{Global}
-use Rattle.std.specs.Prelude.{◌≡◌, ℕ, List, [], ◌∷◌, ◌++◌, Vec}
+use Rattle.std.specs.Prelude.{◌≡◌, ℕ, [], ◌∷◌, ◌++◌, Vec}
 use Rattle.cbl_base.specs.declared.place.Place.{Place}
 use Rattle.cbl_operations.specs.declared.op.Op.TheVariants.{User}
 use Rattle.posted_users.specs.KeptRule.{KeptRule}

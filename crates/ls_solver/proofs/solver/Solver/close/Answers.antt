@@ -1,4 +1,4 @@
-use Rattle.std.proofs.Common.{List, ap, ◌∙◌, refl, subst, sym, ℕ}
+use Rattle.std.proofs.Common.{List, ◌∙◌, refl, subst, sym, ℕ}
 use Rattle.ls_solver.specs.Closing.{AreAt}
 use Rattle.solver_models.specs.NamedCycle.{IsNamedCycle}
 use Rattle.solver_models.specs.State.{SolverState}

@@ -1,4 +1,3 @@
-use Rattle.std.proofs.Common.{rules}
 use Rattle.ls_solver.proofs.HeldLaws.{standing}
 use Rattle.ls_solver.proofs.solver.Solver.kept.Goals as goal
 

@@ -1,9 +1,8 @@
-use Rattle.std.proofs.Common.{◌<◌, ◌++◌, [], ◌∷◌, All, Some, length, ap, rules, subst, sym, ◌∙◌}
+use Rattle.std.proofs.Common.{◌<◌, Some, length, ap, rules, subst, sym, ◌∙◌}
 use Rattle.std.specs.Prelude.{is_some}
 use Rattle.posted_users.specs.KeptRule.{kept}
 use Rattle.solver_models.specs.State.{SolverState}
 use Rattle.solver_models.proofs.AddLaws.{early_parts, member_within, no_member_there, user_there}
-use Rattle.solver_store.specs.KeptRules.{waiting_rules}
 use Rattle.term_model.specs.Posting.{totals_by}
 use Rattle.ls_solver.proofs.HeldLaws.{held_same, held_with, open_grows, open_stays}
 use Rattle.ls_solver.proofs.user_posting.Solver+KindOf+U.put_user.Goals as goal
