@@ -1,8 +1,7 @@
 -- What is read of what is closed.
 use Rattle.std.proofs.Common.{◌≡◌, ℕ, ℤ, ◌<◌, Bool, true, false, List, Option, Some, None, Ok, is_some, length, refl, sym, ap, ◌∙◌, subst, slice_get}
-use Rattle.std.specs.Prelude.{pos, slice_index_or, slice_set}
 use Rattle.std.specs.Option.{option_map}
-use Rattle.cbl_base.specs.Inputs.{InputKind, kind_of, number_kind, number_of, set_kind}
+use Rattle.cbl_base.specs.Inputs.{InputKind, kind_of, number_kind, number_of}
 use Rattle.cbl_base.specs.NodeLaw.{Rule}
 use Rattle.cbl_base.specs.declared.ids.VarId.{VarId}
 use Rattle.cbl_base.specs.declared.input.Input.{Input}
@@ -10,7 +9,7 @@ use Rattle.cbl_base.specs.declared.input.Input.TheVariants.{Int}
 use Rattle.inc_store.specs.Views.{value_at}
 use Rattle.ls_solver.proofs.CommitLaws.{seen, setting_in}
 use Rattle.posted_users.specs.KeptRule.{KeptRule, users_of}
-use Rattle.solver_models.specs.Ids.{has_definition, is_own}
+use Rattle.solver_models.specs.Ids.{is_own}
 use Rattle.solver_models.specs.Reading.{fresh_value, value_refusal}
 use Rattle.solver_models.specs.Replying.{fresh_total, reply_refusal}
 use Rattle.solver_models.specs.State.{SolverState}

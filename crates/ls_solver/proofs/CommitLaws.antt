@@ -1,5 +1,5 @@
 -- What a commit leaves and tells.
-use Rattle.std.proofs.Common.{◌≡◌, ℕ, ℤ, ◌+◌, ◌*◌, ◌<◌, Bool, true, false, List, [], ◌∷◌, map, None, Some, Option, Ok, Err, Vec, Global, length, is_some, refl, sym, ap, ◌∙◌, subst, slice_get, arith, true≢false}
+use Rattle.std.proofs.Common.{◌≡◌, ℕ, ℤ, ◌+◌, ◌<◌, Bool, true, false, List, [], None, Some, Option, Ok, Err, Vec, Global, length, is_some, refl, sym, ap, ◌∙◌, subst, slice_get, arith, true≢false}
 use Rattle.std.specs.Prelude.{is_ok, filter_map}
 use Rattle.std.specs.List.{range_with_len}
 use Rattle.std.specs.Option.{option_map}
@@ -14,7 +14,7 @@ use Rattle.inc_store.specs.Moves.{is_moved}
 use Rattle.inc_store.specs.Views.{rules_in, value_at}
 use Rattle.ls_events.specs.declared.change.VarChange.{VarChange}
 use Rattle.ls_solver.specs.ClosedParts.{IsClosedIn, rules_in_closed, vars_in_closed}
-use Rattle.ls_solver.specs.Committing.{Commits, Fails, after_moves, commit_refusal, committed}
+use Rattle.ls_solver.specs.Committing.{Commits, Fails, after_moves, commit_refusal}
 use Rattle.ls_solver.specs.Solvers.{IsHeld, rules_seen}
 use Rattle.ls_solver.specs.Touching.{touch_of}
 use Rattle.ls_solver.specs.declared.fault.SolverFault.TheVariants.{At}

@@ -1,6 +1,6 @@
 -- Deltas of a solver: a variable exchanged with itself changes nothing; and what is asked of what is closed.
-use Rattle.std.proofs.Common.{◌≡◌, ◌≢◌, ℕ, ℤ, zero, suc, ◌<◌, Bool, true, false, List, [], ◌∷◌, Result, Ok, Err, None, length, refl, sym, ap, ◌∙◌, subst, pos, ◌-ℤ◌, arith, true≢false}
-use Rattle.std.specs.Prelude.{nat_eq, slice_index_or, slice_set, if◌then◌else◌}
+use Rattle.std.proofs.Common.{◌≡◌, ℕ, ℤ, zero, suc, ◌<◌, true, false, List, [], ◌∷◌, Result, Ok, Err, length, refl, sym, ap, ◌∙◌, pos, ◌-ℤ◌, arith, true≢false}
+use Rattle.std.specs.Prelude.{slice_index_or, slice_set, if◌then◌else◌}
 use Rattle.std.proofs.lemmas.Bool.{eqb-true, eqb-false}
 use Rattle.cbl_base.specs.Arithmetic.{exact}
 use Rattle.cbl_base.specs.Inputs.{number_of}
@@ -12,7 +12,6 @@ use Rattle.ls_solver.specs.Touching.{is_idle}
 use Rattle.ls_solver.proofs.CommitLaws.{setting_in}
 use Rattle.model_values.specs.Asked.{answer_of}
 use Rattle.model_values.specs.Delta.{AreOwn, delta_of, difference, moved, moves_defined, value_of}
-use Rattle.model_values.specs.declared.asked.AskStop.{AskStop}
 use Rattle.model_values.specs.declared.asked.AskStop.TheVariants.{Run}
 use Rattle.model_values.specs.declared.deltas.Move.{Move}
 use Rattle.model_values.specs.declared.deltas.Move.TheVariants.{Assign, Swap}

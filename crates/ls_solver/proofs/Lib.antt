@@ -1,5 +1,4 @@
 pub mod AdmitLaws
-pub mod AnswerLaws
 pub mod CloseLaws
 pub mod CommitLaws
 pub mod RestoreLaws

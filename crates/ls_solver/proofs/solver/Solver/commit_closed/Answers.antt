@@ -1,4 +1,4 @@
-use Rattle.std.proofs.Common.{◌≡◌, ◌+◌, ◌*◌, ◌≤◌, false, Err, subst}
+use Rattle.std.proofs.Common.{◌+◌, ◌*◌, ◌≤◌, false, Err, subst}
 use Rattle.model_store.specs.Settings.{after, fresh_in}
 use Rattle.model_values.specs.Fresh.{IsFresh}
 use Rattle.ls_solver.proofs.CommitLaws.{closed_commits, fails, held_failed, held_next, seen, touched_by}

@@ -1,4 +1,4 @@
-use Rattle.std.proofs.Common.{◌≡◌, Some, ap, ◌∙◌, slice_get, sym, rules, w64, FitsSigned}
+use Rattle.std.proofs.Common.{ap, ◌∙◌, slice_get, sym, rules, w64, FitsSigned}
 use Rattle.std.proofs.lemmas.Int.{to_z-of_z}
 use Rattle.std.specs.Prelude.{is_some}
 use Rattle.cbl_base.specs.Inputs.{number_kind}
