@@ -1,5 +1,6 @@
 pub mod AdmitLaws
 pub mod AnswerLaws
+pub mod CloseLaws
 pub mod CommitLaws
 pub mod RestoreLaws
 pub use Rattle.solver_models.proofs.DefinitionLaws
@@ -9,3 +10,5 @@ pub use Rattle.solver_models.proofs.ReadLaws
 pub mod UserLaws
 pub mod OfSolverModels
 pub mod HeldLaws
+pub mod ClosedLaws
+pub mod DeltaLaws

@@ -1,38 +1,26 @@
--- The rules of the posted users' constraints, and the node of one over places that are numbers.
+-- The node of a user's constraint over places that are numbers.
 use Rattle.std.proofs.Common.{◌≡◌, ℕ, ℤ, Bool, true, false, ◌&&◌, List, [], ◌∷◌, ◌++◌, Option, Some, None, Vec, Global, All, fold, map, length, ap, sym, subst, refl, ◌∙◌}
 use Rattle.std.specs.Prelude.{if◌then◌else◌}
-use Rattle.std.proofs.lemmas.List.{length-map}
-use Rattle.std.proofs.lemmas.List.Elements.{All-head, All-tail}
+use Rattle.std.proofs.lemmas.List.Elements.{All-cons, All-head, All-nil, All-tail}
 use Rattle.std.proofs.lemmas.List.Folds.{list_all-append}
 use Rattle.cbl_base.specs.Inputs.{InputKind, all_numbers, is_number_kind, number_kind}
-use Rattle.model_values.specs.Fresh.{Fresh}
-use Rattle.posted_users.specs.KeptRule.{KeptRule}
-use Rattle.posted_users.specs.PostedState.{PostedState, rules_of}
-use Rattle.solver_models.specs.Kept.{IsKept}
-use Rattle.solver_models.proofs.KeptLaws.{empty_kept}
+use Rattle.cbl_base.specs.NodeLaw.{Rule}
+use Rattle.posted_users.specs.KeptOf.{IsUserRule, kept_of, user_node_rule}
+use Rattle.posted_users.specs.KeptRule.{kept}
+use Rattle.posted_users.proofs.KeptLaws.{is_user_node, kept_of_node}
+use Rattle.user_constraint.specs.UserRule.{UserRule}
+use Rattle.solver_models.proofs.ListLaws.{map_push}
+use Rattle.solver_store.specs.KeptRules.{waiting_rules}
 use Rattle.solver_models.specs.UserPosting.{no_place, user_term}
 use Rattle.term_model.specs.Definitions.{joined}
 use Rattle.term_model.specs.Kinds.{gather_kind, kind_of_term, node_kind}
 use Rattle.term_model.specs.Naming.{users_of, users_step}
 use Rattle.cbl_operations.specs.declared.op.Op.TheVariants.{User}
-use Rattle.term_model.specs.declared.model.Model.{Model}
 use Rattle.term_model.specs.declared.term.Term.{Term}
 use Rattle.term_model.specs.declared.term.Term.TheOpen.{Term-F}
 use Rattle.term_model.specs.declared.term.Term.TheVariants.{rolls-Node}
 use Rattle.term_model.specs.declared.term.Term.TheFolds.{fold-roll-Term}
 use Rattle.term_model.proofs.Layers.{kind_of_layer}
-
-pub rules_count : (posted : List PostedState) → length (rules_of posted) ≡ length posted
-rules_count posted = length-map posted (λ p. p.rule)
-
-pub no_rules : (posted : List PostedState) → posted ≡ [] → rules_of posted ≡ []
-no_rules posted e = ap rules_of e
-
--- what a new solver keeps
-pub empty_with : (M : Model) (a : List ℤ) (marks : List Bool) (rules : List KeptRule) (values : Fresh) → M.vars.items ≡ [] → M.defs.items ≡ [] → M.systems.items ≡ [] → M.objectives.items ≡ [] → M.posted.items ≡ [] →
-    a ≡ [] → marks ≡ [] → rules ≡ [] → IsKept M a marks rules None values false true
-empty_with M a marks rules values vars defs systems objectives posted assigned marked none =
-    subst (λ rs. IsKept M a marks rs None values false true) (sym none) (empty_kept M a marks values vars defs systems objectives posted assigned marked)
 
 -- ---- the kind of the node
 numbers_more : (ks : List InputKind) → all_numbers ks ≡ true → all_numbers (ks ++ number_kind ∷ []) ≡ true
@@ -62,3 +50,15 @@ none_joined (t ∷ ts) all = ap (λ ns. ns ++ joined (map users_of ts)) (All-hea
 pub user_named : (number : ℕ) (places : Vec Term Global) → All (λ t. users_of t ≡ []) places.items → users_of (user_term number places) ≡ number ∷ []
 user_named number places all =
     ap users_of (sym (rolls-Node (User number) places no_place)) ∙ fold-roll-Term (List ℕ) users_step (Term-F.Node (User number) places no_place) ∙ ap (λ ns. ns ++ number ∷ []) (none_joined places.items all)
+
+-- ---- a user's constraint behind the others as its node
+pub all_push : {N : Type 0} (rule : N → Rule) (waiting : List N) (n : N) → All (λ m. IsUserRule (rule m)) waiting → IsUserRule (rule n) → All (λ m. IsUserRule (rule m)) (waiting ++ n ∷ [])
+all_push rule [] n all is = All-cons (λ m. IsUserRule (rule m)) n [] is (All-nil (λ m. IsUserRule (rule m)))
+all_push rule (m ∷ waiting) n all is =
+    All-cons (λ m. IsUserRule (rule m)) m (waiting ++ n ∷ []) (All-head (λ m. IsUserRule (rule m)) m waiting all) (all_push rule waiting n (All-tail (λ m. IsUserRule (rule m)) m waiting all) is)
+
+pub user_pushed : {N : Type 0} (rule : N → Rule) (waiting after : List N) (n : N) (one : UserRule) → after ≡ waiting ++ n ∷ [] → rule n ≡ user_node_rule (kept one) → waiting_rules rule after ≡ waiting_rules rule waiting ++ kept one ∷ []
+user_pushed rule waiting after n one e is = ap (waiting_rules rule) e ∙ map_push (λ m. kept_of (rule m)) waiting n ∙ ap (λ r. waiting_rules rule waiting ++ r ∷ []) (kept_of_node one (rule n) is)
+
+pub users_pushed : {N : Type 0} (rule : N → Rule) (waiting after : List N) (n : N) (one : UserRule) → after ≡ waiting ++ n ∷ [] → rule n ≡ user_node_rule (kept one) → All (λ m. IsUserRule (rule m)) waiting → All (λ m. IsUserRule (rule m)) after
+users_pushed rule waiting after n one e is all = subst (All (λ m. IsUserRule (rule m))) (sym e) (all_push rule waiting n all (is_user_node one (rule n) is))

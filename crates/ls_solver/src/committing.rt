@@ -12,6 +12,7 @@ ghost use Rattle.model_store.specs.Settings.{Setting, after, fresh_in, numbers_a
 ghost use Rattle.model_values.specs.Fresh.{IsFresh};
 ghost use Rattle.solver_models.specs.Ids.{is_own};
 ghost use Rattle.solver_models.specs.KeptChanges.{change_in};
+ghost use Rattle.solver_store.specs.Closed.{setting_of};
 ghost use Rattle.solver_store.specs.FreeMoves.{AreFree};
 ghost use Rattle.store_laws.specs.ModelTouch.{model_touch};
 ghost use Rattle.term_model.specs.Kinds.{kinds_in};
@@ -139,6 +140,8 @@ impl<N: SolverNode> Solver<N> {
         moves: &[(VarId, i64)],
         steps: &mut Steps<L>,
     ) -> Result<Vec<VarChange>, SolverFault>
+        ghost setting: { Setting }
+        requires setting { setting ≡ setting_of self.old.model self.old.assignment self.old.rules }
         requires usable { self.old.usable ≡ true }
         requires refusal { commit_refusal self.old moves.now ≡ None }
         requires free { AreFree self.old.model moves.now }

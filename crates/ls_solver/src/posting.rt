@@ -17,7 +17,7 @@ ghost use Rattle.term_model.specs.Subterms.{distinct_subterms};
 
 use crate::fault::SolverFault;
 use crate::solver::Solver;
-use cbl_base::{NoMemory, Place};
+use cbl_base::{NoMemory, Place, RunFault};
 use node_kinds::SolverNode;
 use solver_models::{SystemId, TotalId, push_member};
 use std::alloc::Global;
@@ -54,8 +54,9 @@ pub(crate) fn put_place<N: SolverNode>(
 }
 
 impl<N: SolverNode> Solver<N> {
-    /// The number of the next user's constraint.
+    /// The number of the next user's constraint, while it is open.
     pub(crate) fn next_user(&self) -> Result<u32, NoMemory>
+        requires { self.now.closed ≡ false }
         ensures { IfOk result (λ number. number ≡ length self.now.rules) }
     {
         let count = self.waiting.len();
@@ -92,6 +93,9 @@ impl<N: SolverNode> Solver<N> {
         ensures kept { OnErr result (IsUnchanged self.old self.new) }
         ensures back { IfErr result (λ back. back.1 ≡ node) }
     {
+        if self.is_closed() {
+            return Err((SolverFault::Run(RunFault::AlreadyClosed), node));
+        }
         let Ok(number) = self.next_user() else {
             return Err((SolverFault::NoMemory, node));
         };

@@ -5,10 +5,14 @@ ghost use Rattle.model_values.specs.Asked.{IsAnswer};
 ghost use Rattle.model_values.specs.Delta.{AreOwn, delta_of, moves_defined};
 ghost use Rattle.model_values.specs.declared.asked.AskStop.{AskStop};
 ghost use Rattle.model_values.specs.declared.deltas.Move.TheVariants.{Assign, Swap};
+ghost use Rattle.ls_solver.specs.ClosedParts.{question_of};
 ghost use Rattle.ls_solver.specs.Touching.{is_idle, touch_of_move};
+ghost use Rattle.model_store.specs.Settings.{Setting};
 ghost use Rattle.posted_users.specs.KeptRule.{users_of};
 ghost use Rattle.solver_models.specs.Replying.{assign_reply, delta_reply, reply_refusal, swap_reply, variable_reply};
 ghost use Rattle.solver_models.specs.Totals.{of_objective, of_system, whole_of};
+ghost use Rattle.solver_store.specs.Closed.{setting_of};
+ghost use Rattle.store_laws.specs.Deltas.{Question};
 ghost use Rattle.term_model.specs.Posting.{totals_by};
 
 use crate::fault::SolverFault;
@@ -104,6 +108,8 @@ impl<N: SolverNode> Solver<N> {
         trial: &mut Trial,
         steps: &mut Steps<L>,
     ) -> Result<i64, AskStop>
+        ghost question: { Question }
+        requires question { question ≡ question_of self.now k change }
         requires usable { self.now.usable ≡ true }
         requires closed { self.now.closed ≡ true }
         requires there { k.index < length (totals_by self.now.model k.side) }
@@ -112,13 +118,14 @@ impl<N: SolverNode> Solver<N> {
             self.now.assignment (whole_of k) change) result }
         ensures steps { steps.new ≤ steps.old + 4 * touch_of_move self.now change }
     {
+        let kept = self.kept();
         if self.moves_defined(change) {
             return Err(AskStop::Run(RunFault::DefinedVariable));
         }
         if is_idle(change) {
             return Ok(0);
         }
-        self.kept().delta(
+        kept.delta(
             &self.model,
             &self.assignment,
             trial,
@@ -298,6 +305,8 @@ impl<N: SolverNode> Solver<N> {
 
     /// The same where none of these is refused.
     fn violations_of_own(&self, s: SystemId, x: VarId) -> Result<i64, SolverFault>
+        ghost setting: { Setting }
+        requires setting { setting ≡ setting_of self.now.model self.now.assignment self.now.rules }
         requires usable { self.now.usable ≡ true }
         requires own { reply_refusal self.now (of_system s) (x ∷ []) ≡ None }
         ensures { IsReply (variable_reply self.now s x) result }

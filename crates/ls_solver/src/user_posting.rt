@@ -3,6 +3,7 @@ ghost use Rattle.std.specs.Prelude.{◌≡◌, ◌<◌, ◌++◌, true, false, N
 ghost use Rattle.std.specs.List.{All};
 ghost use Rattle.cbl_base.specs.Inputs.{number_kind};
 ghost use Rattle.ls_solver.specs.Answers.{AnswersBack};
+ghost use Rattle.posted_users.specs.KeptOf.{IsUserRule};
 ghost use Rattle.posted_users.specs.KeptRule.{kept};
 ghost use Rattle.solver_store.specs.KeptRules.{waiting_rules};
 ghost use Rattle.solver_models.specs.Adding.{early_member_refusal, is_own_member, member_refusal};
@@ -18,7 +19,7 @@ ghost use Rattle.term_model.specs.Subterms.{distinct_subterms};
 use crate::fault::SolverFault;
 use crate::posting::{put_place, user_term};
 use crate::solver::Solver;
-use cbl_base::{NoMemory, NodeRule};
+use cbl_base::{NoMemory, NodeRule, RunFault};
 use node_kinds::KindOf;
 use solver_models::{SystemId, TotalId};
 use std::alloc::Global;
@@ -27,11 +28,12 @@ use term_model::{Member, Term};
 use user_constraint::LocalConstraint;
 
 /// Puts a user's constraint behind the others as its node.
-#[tactic(auto, using(posted_users::proofs::KeptLaws::kept_of_node, posted_users::proofs::KeptLaws::is_user_node))]
 fn push_user<U: LocalConstraint>(alloc: Global, waiting: &mut Vec<KindOf<U>>, user: U)
     requires { vec_len waiting.old < vec_capacity waiting.old }
-    ensures { waiting_rules ⟦<KindOf<U> as NodeRule>⟧.rule waiting.new.items ≡
+    ensures rules { waiting_rules ⟦<KindOf<U> as NodeRule>⟧.rule waiting.new.items ≡
         waiting_rules ⟦<KindOf<U> as NodeRule>⟧.rule waiting.old.items ++ kept (U.user_rule user) ∷ [] }
+    ensures users { All (λ n. IsUserRule (⟦<KindOf<U> as NodeRule>⟧.rule n)) waiting.old.items →
+        All (λ n. IsUserRule (⟦<KindOf<U> as NodeRule>⟧.rule n)) waiting.new.items }
 {
     waiting.push_reserved(KindOf::user(alloc, user));
 }
@@ -65,6 +67,9 @@ impl<U: LocalConstraint> Solver<KindOf<U>> {
         ensures name { IfErr result (λ back. U.user_name back.1 ≡ U.user_name user) }
         ensures back { IfErr result (λ back. back.1 ≡ user) }
     {
+        if self.is_closed() {
+            return Err((SolverFault::Run(RunFault::AlreadyClosed), user));
+        }
         let Ok(number) = self.next_user() else {
             return Err((SolverFault::NoMemory, user));
         };

@@ -1,5 +1,5 @@
 -- The changes of all ids of a store, cut to the variables, are those between the variables' values.
-use Rattle.std.proofs.Common.{◌≡◌, ℕ, ℤ, zero, suc, ◌+◌, ◌-◌, ◌<◌, ◌≤◌, Bool, true, false, cond, not, List, [], ◌∷◌, Option, Some, None, length, nat_lt, refl, sym, ap, ◌∙◌, subst, arith, slice_get, true≢false}
+use Rattle.std.proofs.Common.{◌≡◌, ℕ, ℤ, zero, suc, ◌+◌, ◌-◌, ◌<◌, ◌≤◌, Bool, true, false, cond, not, List, [], ◌∷◌, Option, Some, None, length, nat_lt, refl, sym, ap, ◌∙◌, arith, slice_get, true≢false}
 use Rattle.std.proofs.lemmas.Bool.Decides.{Decides-int_eq}
 use Rattle.std.specs.Prelude.{filter_map, if◌then◌else◌}
 use Rattle.std.specs.List.{cons_option, range_with_len}
@@ -16,7 +16,7 @@ use Rattle.solver_models.specs.KeptChanges.{change_in}
 use Rattle.solver_models.proofs.ListLaws.{filter_range}
 use Rattle.store_turns.specs.Touch.{differs}
 use Rattle.store_turns.specs.declared.outcome.Outcome.TheVariants.{Value}
-use Rattle.solver_store.specs.ToldChanges.{variable_change, variable_changes}
+use Rattle.solver_store.specs.ToldChanges.{variable_changes}
 
 lt_true : (m n : ℕ) → m < n → nat_lt m n ≡ true
 lt_true m n lt = grind (arith, lt)
@@ -93,11 +93,11 @@ module _ (solver count : ℕ) where
   from (suc k) id (x ∷ xs) (y ∷ ys) few same e =
       here id x y (changes_between (suc id) xs ys) (omega (arith, e))
       ∙ ap (cons_option (change_between (record { solver = solver; index = id }) (Some x) (Some y))) (
-        ap (λ j. cut (changes_between j xs ys)) (let on : suc id ≡ id + 1 = omega arith in on)
-        ∙ from k (id + 1) xs ys (omega (arith, few)) (omega (arith, same)) (omega (arith, e))
-        ∙ filter_range (at (id + 1) xs ys) (at id (x ∷ xs) (y ∷ ys)) (id + 1) k (λ i le lt.
-          ap (λ o. change_between (record { solver = solver; index = i }) o (slice_get ys (i - (id + 1)))) (sym (at_next id i x xs le))
-          ∙ ap (change_between (record { solver = solver; index = i }) (slice_get (x ∷ xs) (i - id))) (sym (at_next id i y ys le)))
+      ap (λ j. cut (changes_between j xs ys)) (let on : suc id ≡ id + 1 = omega arith in on)
+      ∙ from k (id + 1) xs ys (omega (arith, few)) (omega (arith, same)) (omega (arith, e))
+      ∙ filter_range (at (id + 1) xs ys) (at id (x ∷ xs) (y ∷ ys)) (id + 1) k (λ i le lt.
+      ap (λ o. change_between (record { solver = solver; index = i }) o (slice_get ys (i - (id + 1)))) (sym (at_next id i x xs le))
+      ∙ ap (change_between (record { solver = solver; index = i }) (slice_get (x ∷ xs) (i - id))) (sym (at_next id i y ys le)))
       )
       ∙ ap (λ o. cons_option o (filter_map (at id (x ∷ xs) (y ∷ ys)) (range_with_len (id + 1) k))) first
     where

@@ -1,23 +1,21 @@
 -- What is read of a store of a model: the fresh values of its variables, systems and objectives.
-use Rattle.std.proofs.Common.{◌≡◌, ℕ, ℤ, ◌+◌, ◌<◌, ◌≤◌, List, map, length, Option, Some, None, Result, Ok, Err, inl, inr, refl, sym, ap, ◌∙◌, subst, arith}
+use Rattle.std.proofs.Common.{◌≡◌, ℕ, ◌<◌, List, Some, Ok, inl, refl, sym, ap, ◌∙◌, arith}
 use Rattle.std.specs.Prelude.{unwrap_or}
 use Rattle.cbl_base.specs.Inputs.{InputKind, kind_of, number_kind, number_of, set_kind}
 use Rattle.cbl_base.specs.NodeLaw.{Rule}
 use Rattle.cbl_base.specs.declared.input.Input.{Input}
 use Rattle.cbl_base.specs.declared.input.Input.TheVariants.{Int, Set}
-use Rattle.graph_values.specs.Graphs.{count_of as terms_end}
-use Rattle.graph_values.specs.Members.{cells_of, numbers_of, variables_of}
+use Rattle.graph_values.specs.Members.{variables_of}
 use Rattle.graph_values.proofs.ModelTotals.{vars_held}
 use Rattle.graph_values.proofs.Stores.{meaning_assigned}
 use Rattle.graph_values.proofs.ValueKinds.{variables_kinded}
-use Rattle.inc_store.specs.Views.{IsUsable, count_of, graph_in, value_at}
+use Rattle.inc_store.specs.Views.{count_of, graph_in, value_at}
 use Rattle.inc_store.specs.declared.store.Store.{Store}
 use Rattle.model_store.specs.ModelStores.{IsStoreOf}
 use Rattle.model_store.specs.Settings.{Setting, numbers_in, users_in}
 use Rattle.model_values.specs.Delta.{value_of}
 use Rattle.model_values.specs.VarOutcomes.{outcome_of_var}
 use Rattle.model_values.specs.Wholes.{IsOf}
-use Rattle.model_values.specs.declared.failure.Failure.{Failure}
 use Rattle.model_values.specs.declared.wholes.Whole.{Whole}
 use Rattle.store_build.specs.Aims.{start_of}
 use Rattle.store_laws.proofs.Tells.{has_value}

@@ -1,14 +1,12 @@
 -- What is closed is right from the start: the nodes of users' constraints have the rules that are kept of them.
-use Rattle.std.proofs.Common.{◌≡◌, ℕ, ◌<◌, List, [], ◌∷◌, map, All, length, Some, refl, sym, ap, ◌∙◌, subst, slice_get, arith}
-use Rattle.std.specs.Prelude.{unwrap_or, zero, suc}
+use Rattle.std.proofs.Common.{◌≡◌, List, [], ◌∷◌, All, sym, ap, ◌∙◌}
+use Rattle.std.specs.Prelude.{unwrap_or}
 use Rattle.std.proofs.lemmas.List.Elements.{All-nil, All-cons, All-head, All-tail}
 use Rattle.cbl_base.specs.NodeLaw.{Rule}
-use Rattle.cbl_operations.specs.RuleOf.{rule_of}
-use Rattle.cbl_operations.specs.declared.op.Op.TheVariants.{User}
 use Rattle.graph_values.proofs.Arguments.{all_at}
 use Rattle.model_nodes.specs.Waiting.{AreUserNodes}
 use Rattle.posted_users.specs.KeptOf.{IsUserRule, kept_of, user_node_rule}
-use Rattle.posted_users.specs.KeptRule.{KeptRule, no_rule, rule_numbered, users_of}
+use Rattle.posted_users.specs.KeptRule.{no_rule, users_of}
 use Rattle.solver_models.proofs.ListLaws.{slice_map}
 use Rattle.std.specs.Option.{option_map}
 use Rattle.solver_store.specs.KeptRules.{Lasts, waiting_rules}

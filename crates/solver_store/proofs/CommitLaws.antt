@@ -1,5 +1,5 @@
 -- What a commit leaves closed, and what it tells.
-use Rattle.std.proofs.Common.{◌≡◌, ℕ, ℤ, ◌+◌, ◌<◌, ◌≤◌, List, map, length, Option, Some, None, Result, Ok, Err, refl, sym, ap, ◌∙◌, subst, slice_get, arith}
+use Rattle.std.proofs.Common.{◌≡◌, ℕ, ℤ, ◌+◌, ◌<◌, ◌≤◌, List, length, Some, sym, ap, ◌∙◌, subst, slice_get, arith}
 use Rattle.std.specs.Prelude.{filter_map, pos, unwrap_or}
 use Rattle.std.specs.List.{range_with_len}
 use Rattle.std.specs.Option.{option_map}
@@ -9,14 +9,13 @@ use Rattle.cbl_base.specs.declared.ids.VarId.{VarId}
 use Rattle.cbl_base.specs.declared.input.Input.{Input}
 use Rattle.cbl_base.specs.declared.input.Input.TheVariants.{Int}
 use Rattle.graph_values.specs.Links.{IsModelStop}
-use Rattle.graph_values.specs.Members.{cells_of, variables_of}
+use Rattle.graph_values.specs.Members.{variables_of}
 use Rattle.graph_values.specs.WholeGraphs.{total_id}
 use Rattle.graph_values.proofs.Stores.{meaning_assigned}
 use Rattle.inc_store.specs.Moves.{moved_to}
 use Rattle.inc_store.specs.Stores.{changes_between}
-use Rattle.inc_store.specs.Views.{KeepsNodes, graph_in, inputs_at, rules_in, value_at}
+use Rattle.inc_store.specs.Views.{KeepsNodes, graph_in, value_at}
 use Rattle.inc_store.specs.declared.store.Store.{Store}
-use Rattle.ls_events.specs.declared.change.VarChange.{VarChange}
 use Rattle.model_nodes.specs.StopPlaces.{IsBehind}
 use Rattle.model_store.specs.ModelStores.{IsFaultOf, IsStoreOf, StopsMoved}
 use Rattle.model_store.specs.Settings.{AreOfVariables, Setting, after, numbers_after, users_in}
@@ -28,7 +27,7 @@ use Rattle.solver_models.proofs.ListLaws.{filter_range, range_at, slice_map, sli
 use Rattle.store_build.specs.Frames.{cell_of}
 use Rattle.store_build.specs.declared.parts.StoreFault.{StoreFault}
 use Rattle.store_build.specs.declared.parts.StoreFault.TheVariants.{Node, NoMemory}
-use Rattle.store_laws.specs.ModelTouch.{IsWhole, many_nodes}
+use Rattle.store_laws.specs.ModelTouch.{IsWhole}
 use Rattle.store_laws.proofs.Tells.{fails_behind}
 use Rattle.store_turns.specs.Meaning.{inputs_in}
 use Rattle.store_turns.specs.declared.frame.Frame.{Frame}
@@ -95,7 +94,7 @@ pub told_changes : {N : Type 0} (solver : ℕ) (M : Model) (old new : Closed N) 
 told_changes solver M old new olds news e f few same =
     changes_cut solver (variables_of M) olds news few same
     ∙ filter_range (change_in solver olds news) (change_in solver (vars_in M old) (vars_in M new)) 0 (variables_of M) (λ i le lt.
-      ap (λ o. change_between (record { solver = solver; index = i }) o (slice_get news i))
-      (cell_there olds i (omega (arith, lt, few)) ∙ ap (λ cs. Some (cell_of cs i)) e ∙ sym (var_there M old i (omega (arith, lt))))
-      ∙ ap (change_between (record { solver = solver; index = i }) (slice_get (vars_in M old) i))
-      (cell_there news i (omega (arith, lt, few, same)) ∙ ap (λ cs. Some (cell_of cs i)) f ∙ sym (var_there M new i (omega (arith, lt)))))
+    ap (λ o. change_between (record { solver = solver; index = i }) o (slice_get news i))
+    (cell_there olds i (omega (arith, lt, few)) ∙ ap (λ cs. Some (cell_of cs i)) e ∙ sym (var_there M old i (omega (arith, lt))))
+    ∙ ap (change_between (record { solver = solver; index = i }) (slice_get (vars_in M old) i))
+    (cell_there news i (omega (arith, lt, few, same)) ∙ ap (λ cs. Some (cell_of cs i)) f ∙ sym (var_there M new i (omega (arith, lt)))))

@@ -1,11 +1,10 @@
 -- The terms that a store of a model has ids for: their arguments are such terms; their values, and the violations at
 -- their places, are what the store has at their ids.
-use Rattle.std.proofs.Common.{◌≡◌, ◌⊎◌, inl, inr, ℕ, ℤ, pos, ◌+◌, ◌-◌, ◌<◌, ◌≤◌, All, Bool, true, false, cond, nat_lt, ◌&&◌, List, [], ◌∷◌, map, length, Option, Some, None, is_some, Vec, Global, refl, sym, ap, ◌∙◌, subst, slice_get, arith}
+use Rattle.std.proofs.Common.{◌≡◌, ◌⊎◌, inl, inr, ℕ, ℤ, pos, ◌+◌, ◌<◌, All, Bool, true, false, cond, List, [], ◌∷◌, map, length, Option, Some, is_some, Vec, Global, refl, sym, ap, ◌∙◌, subst, slice_get}
 use Rattle.std.specs.Prelude.{unwrap_or}
-use Rattle.std.specs.List.{list_all, list_any}
+use Rattle.std.specs.List.{list_all}
 use Rattle.std.proofs.lemmas.Bool.{and_parts, lt-ltb}
 use Rattle.std.proofs.lemmas.List.Elements.{All-nil, All-cons, All-head, All-tail}
-use Rattle.cbl_base.specs.NodeLaw.{Rule}
 use Rattle.cbl_base.specs.NumberRule.{NumberRule}
 use Rattle.cbl_base.specs.declared.input.Input.{Input}
 use Rattle.cbl_base.specs.declared.place.Place.{Place}
@@ -177,10 +176,10 @@ module _ (M : Model) (formed : IsWellFormed M) where
     args_values : (t : Term) (op : Op) (args : Vec Term Global) (place : Place) (xs : List Input) → out-Term t ≡ Term-F.Node op args place → is_held M t ≡ true → gathered (map (outcome_of users env) args.items) ≡ Some xs → map x (map (id_of M) args.items) ≡ xs
     args_values t op args place xs out h e =
         some_same (map x (map (id_of M) args.items)) xs (
-          sym (all_there (map (id_of M) args.items)) ∙ values_gathered (map (λ id. Value (x id)) (map (id_of M) args.items))
-          ∙ ap gathered (values_at_ids users env M (λ id. Value (x id)) (vars_held users M a formed acyclic long g holds (λ id. Value (x id)) meaning) (nodes_held users M a formed acyclic long g holds (λ id. Value (x id)) meaning)
-            args.items (args_known t op args place out h) (args_kinded t op args place out h))
-          ∙ e
+        sym (all_there (map (id_of M) args.items)) ∙ values_gathered (map (λ id. Value (x id)) (map (id_of M) args.items))
+        ∙ ap gathered (values_at_ids users env M (λ id. Value (x id)) (vars_held users M a formed acyclic long g holds (λ id. Value (x id)) meaning) (nodes_held users M a formed acyclic long g holds (λ id. Value (x id)) meaning)
+        args.items (args_known t op args place out h) (args_kinded t op args place out h))
+        ∙ e
         )
 
     -- the violation at a place, where the node that stands there has its subterm's rule and its inputs

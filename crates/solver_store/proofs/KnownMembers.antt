@@ -1,9 +1,8 @@
 -- The terms of a system's members are held, and what is read as their weights are theirs.
-use Rattle.std.proofs.Common.{◌≡◌, ℕ, ℤ, pos, All, true, List, [], ◌∷◌, map, length, Option, Some, refl, sym, ap, ◌∙◌, subst, slice_get}
+use Rattle.std.proofs.Common.{◌≡◌, ℕ, pos, All, true, List, [], ◌∷◌, map, Some, refl, ap, ◌∙◌, subst, slice_get}
 use Rattle.std.specs.Prelude.{unwrap_or, zero, suc}
 use Rattle.std.specs.Option.{option_and_then, option_map}
 use Rattle.std.proofs.lemmas.List.Elements.{All-nil, All-cons, All-head, All-tail}
-use Rattle.graph_values.specs.Members.{members_of}
 use Rattle.graph_values.proofs.ModelTotals.{IsUsual, members_usual}
 use Rattle.model_nodes.proofs.OwnMembers.{own_members}
 use Rattle.model_values.specs.declared.wholes.Whole.TheVariants.{System}

@@ -1,9 +1,7 @@
 -- The graph of a model's terms is the same after a held term is added again, and tells its id.
-use Rattle.std.proofs.Common.{◌≡◌, ℕ, ◌+◌, ◌<◌, ◌≤◌, All, Bool, true, IsSome, List, [], ◌∷◌, ◌++◌, fold, map, length, refl, sym, ap, ◌∙◌, subst, arith}
+use Rattle.std.proofs.Common.{◌≡◌, ◌<◌, All, true, IsSome, List, [], ◌∷◌, ◌++◌, fold, map, refl, sym, ap, ◌∙◌, subst, arith}
 use Rattle.std.specs.Prelude.{if◌then◌else◌}
-use Rattle.std.specs.List.{list_any}
 use Rattle.std.proofs.lemmas.List.Elements.{All-nil, All-cons, All-head, All-tail, All-append, All-weaker}
-use Rattle.cbl_base.specs.declared.place.Place.{Place}
 use Rattle.graph_values.specs.Members.{cells_of}
 use Rattle.store_laws.proofs.Terms.{StandsIn, stands_of}
 use Rattle.term_count.specs.Codes.{IsNode}
@@ -11,7 +9,6 @@ use Rattle.term_count.specs.Numbering.{terms_after}
 use Rattle.term_graph.specs.Ids.{HasCells}
 use Rattle.term_model.specs.Definitions.{vars_of}
 use Rattle.term_model.specs.Kinds.{kinds_in}
-use Rattle.term_model.specs.SameTerms.{same_term}
 use Rattle.term_model.specs.Subterms.{distinct_subterms, joined_terms, subterms, with_subterm}
 use Rattle.term_model.specs.Wellformed.{IsWellFormed}
 use Rattle.term_model.specs.declared.model.Model.{Model}

@@ -1,9 +1,9 @@
 -- Moves that a solver doesn't refuse are moves of free cells of its store, no two of one; and the numbers after them are
 -- the same in whatever order they are written.
-use Rattle.std.proofs.Common.{◌≡◌, ℕ, ℤ, zero, suc, ◌+◌, ◌<◌, ◌≤◌, Bool, true, false, cond, nat_lt, ◌&&◌, ◌||◌, List, [], ◌∷◌, map, Option, Some, None, is_some, length, refl, sym, ap, ◌∙◌, subst, slice_get, arith, true≢false}
+use Rattle.std.proofs.Common.{◌≡◌, ℕ, ℤ, zero, suc, ◌+◌, ◌<◌, ◌≤◌, Bool, true, false, cond, nat_lt, ◌||◌, List, [], ◌∷◌, map, Option, Some, None, is_some, length, refl, sym, ap, ◌∙◌, slice_get, arith}
 use Rattle.std.specs.Prelude.{filter, nat_eq, not, slice_set, unwrap_or, zip, if◌then◌else◌}
 use Rattle.std.specs.List.{list_all, list_any, range_with_len}
-use Rattle.std.specs.Option.{option_and_then, option_map}
+use Rattle.std.specs.Option.{option_and_then}
 use Rattle.std.proofs.lemmas.Bool.{and_parts, eqb-true, eqb-false}
 use Rattle.cbl_base.specs.NumberRule.{NumberRule}
 use Rattle.cbl_base.specs.declared.faults.RunFault.TheVariants.{DefinedVariable, WrongSolver}
@@ -12,11 +12,10 @@ use Rattle.graph_values.specs.Graphs.{HoldsTerms, inputs_of, inputs_of_cell, inp
 use Rattle.graph_values.specs.Members.{cells_of, variables_of}
 use Rattle.inc_store.specs.Moves.{AreMoves, is_moved}
 use Rattle.model_store.specs.Settings.{AreOfVariables, numbers_after}
-use Rattle.solver_models.specs.FreeVariables.{free_places, moves_to}
+use Rattle.solver_models.specs.FreeVariables.{moves_to}
 use Rattle.solver_models.specs.Ids.{has_definition, id_at, is_given, is_own}
 use Rattle.solver_models.specs.Moves.{AreDistinct, after_moves, commit_refusal, moved}
 use Rattle.solver_models.specs.State.{SolverState}
-use Rattle.solver_models.proofs.ListLaws.{slice_map}
 use Rattle.solver_models.proofs.ReadLaws.{given_within}
 use Rattle.store_build.proofs.GatherLemmas.{before_first}
 use Rattle.store_turns.specs.Meaning.{Graph, is_empty}

@@ -1,5 +1,5 @@
 -- What is kept of the rules of a closed solver's nodes is what was kept of the users' constraints.
-use Rattle.std.proofs.Common.{◌≡◌, ℕ, ◌+◌, ◌-◌, ◌<◌, Bool, true, false, ◌||◌, List, [], ◌∷◌, map, All, length, Option, Some, None, get_or, refl, sym, ap, ◌∙◌, subst, slice_get, arith}
+use Rattle.std.proofs.Common.{◌≡◌, ℕ, ◌+◌, ◌-◌, ◌<◌, Bool, true, false, ◌||◌, List, map, All, length, Some, get_or, refl, sym, ap, ◌∙◌, subst, slice_get, arith}
 use Rattle.std.specs.Prelude.{nat_eq, unwrap_or}
 use Rattle.std.specs.List.{list_any, range_with_len}
 use Rattle.std.proofs.lemmas.Bool.{eqb-true, lt-ltb}
@@ -12,13 +12,11 @@ use Rattle.cbl_operations.specs.declared.op.Op.{Op}
 use Rattle.cbl_operations.specs.declared.op.Op.TheVariants.{User}
 use Rattle.graph_values.specs.Graphs.{count_of, term_at}
 use Rattle.graph_values.specs.Members.{cells_of}
-use Rattle.graph_values.specs.WholeGraphs.{weight_at}
 use Rattle.graph_values.proofs.Arguments.{all_at}
 use Rattle.model_nodes.specs.WholeNodes.{rule_by, rule_in_whole, rule_of_subterm}
 use Rattle.solver_models.proofs.ListLaws.{slice_within}
 use Rattle.posted_users.specs.KeptOf.{kept_of, user_node_rule}
-use Rattle.posted_users.specs.KeptRule.{KeptRule, no_rule, rule_numbered, users_of}
-use Rattle.store_laws.specs.ModelTouch.{many_nodes}
+use Rattle.posted_users.specs.KeptRule.{KeptRule, no_rule, users_of}
 use Rattle.term_model.specs.Naming.{user_number, users_posted}
 use Rattle.term_model.specs.Subterms.{distinct_subterms}
 use Rattle.term_model.specs.Wellformed.{IsWellFormed}

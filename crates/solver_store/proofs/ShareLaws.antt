@@ -1,6 +1,5 @@
 -- The share of a variable is the model's, where what is closed may be read.
 use Rattle.std.proofs.Common.{◌≡◌, ℕ, ℤ, List, Result, Ok, sym, ap, ◌∙◌}
-use Rattle.cbl_base.specs.Inputs.{number_of}
 use Rattle.cbl_base.specs.NumberRule.{NumberRule}
 use Rattle.cbl_base.specs.declared.faults.RunFault.{RunFault}
 use Rattle.model_values.specs.Asked.{answer_of}

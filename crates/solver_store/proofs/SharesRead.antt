@@ -1,11 +1,8 @@
 -- What is read of a store of a model for the shares of a variable is what these ask for.
-use Rattle.std.proofs.Common.{◌≡◌, ℕ, ℤ, pos, ◌+◌, ◌-◌, ◌<◌, ◌≤◌, All, Bool, true, false, cond, nat_lt, List, [], ◌∷◌, map, length, Option, Some, None, Result, Ok, Err, Vec, Global, refl, sym, ap, ◌∙◌, subst, slice_get, arith}
-use Rattle.std.specs.Prelude.{IsOk, unwrap_or}
+use Rattle.std.proofs.Common.{◌≡◌, ℕ, ◌+◌, ◌-◌, ◌<◌, false, cond, nat_lt, List, map, Some, None, Vec, Global, refl, sym, ap, ◌∙◌, slice_get, arith}
 use Rattle.std.proofs.lemmas.Option.{slice_get_within}
-use Rattle.cbl_base.specs.Inputs.{number_of}
 use Rattle.cbl_base.specs.NodeLaw.{Rule}
 use Rattle.cbl_base.specs.NumberRule.{NumberRule}
-use Rattle.cbl_base.specs.declared.faults.RunFault.{RunFault}
 use Rattle.cbl_base.specs.declared.input.Input.{Input}
 use Rattle.cbl_base.specs.declared.place.Place.{Place}
 use Rattle.cbl_operations.specs.RuleOf.{rule_of}
@@ -17,20 +14,18 @@ use Rattle.inc_store.specs.declared.store.Store.{Store}
 use Rattle.model_nodes.specs.WholeNodes.{rule_by}
 use Rattle.model_store.specs.ModelStores.{IsStoreOf}
 use Rattle.model_store.specs.Settings.{Setting, users_in}
-use Rattle.model_values.specs.Outcomes.{gathered, outcome_of}
 use Rattle.model_values.specs.VarOutcomes.{outcome_of_var}
 use Rattle.store_build.proofs.GatherLemmas.{past_first}
 use Rattle.store_shares.specs.Telling.{AreReads}
-use Rattle.store_turns.specs.declared.outcome.Outcome.TheVariants.{Value}
 use Rattle.term_model.specs.Subterms.{distinct_subterms}
 use Rattle.term_model.specs.declared.model.Model.{Model}
 use Rattle.term_model.specs.declared.term.Term.{Term}
 use Rattle.term_model.specs.declared.term.Term.TheOpen.{Term-F}
-use Rattle.term_model.specs.declared.term.Term.TheViews.{Node, out-Term}
+use Rattle.term_model.specs.declared.term.Term.TheViews.{out-Term}
 use Rattle.solver_store.specs.NodeRules.{AreRules}
 use Rattle.solver_store.specs.Reads.{is_held, number_in, rule_at, violation_in, violation_there}
 use Rattle.solver_store.proofs.ClosedReads.{meaning}
-use Rattle.solver_store.proofs.HeldTerms.{IsNodeAt, arguments_held, held_value, held_violation}
+use Rattle.solver_store.proofs.HeldTerms.{arguments_held, held_value, held_violation}
 use Rattle.solver_store.proofs.RulesBack.{there}
 
 module _ {N : Type 0} (rule : N → Rule) (held : N → List Input) (ready : N → Type 0) (setting : Setting) (s : Store N) (is : IsStoreOf rule held ready setting s) (rules : AreRules (users_in setting) setting.model (rules_in rule s)) where

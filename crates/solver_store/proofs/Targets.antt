@@ -1,16 +1,13 @@
 -- What a delta is asked of, and the place of its fault.
-use Rattle.std.proofs.Common.{◌≡◌, ℕ, ℤ, ◌+◌, ◌<◌, ◌≤◌, inl, inr, List, [], ◌∷◌, length, Option, Some, None, Result, Ok, Err, refl, sym, ap, ◌∙◌, subst, slice_get, arith}
+use Rattle.std.proofs.Common.{◌≡◌, ℕ, ℤ, ◌+◌, ◌<◌, inl, inr, List, length, Some, Result, Err, refl, sym, ap, ◌∙◌, slice_get, arith}
 use Rattle.std.specs.Prelude.{unwrap_or}
 use Rattle.cbl_base.specs.NumberRule.{NumberRule}
 use Rattle.cbl_base.specs.declared.faults.RunFault.{RunFault}
-use Rattle.cbl_base.specs.declared.ids.NodeId.{NodeId}
-use Rattle.cbl_base.specs.declared.input.Input.{Input}
 use Rattle.cbl_base.specs.declared.place.Place.{Place}
 use Rattle.graph_values.specs.Totals.{IsRepeat}
-use Rattle.graph_values.specs.WholeGraphs.{first_repeat, total_id, whole_graph}
+use Rattle.graph_values.specs.WholeGraphs.{first_repeat, total_id}
 use Rattle.graph_values.proofs.Wholes.{objective_repeats}
 use Rattle.model_nodes.specs.Making.{ArePlaces}
-use Rattle.model_values.specs.Asked.{IsAnswer}
 use Rattle.model_values.specs.Fresh.{whole_by}
 use Rattle.model_values.specs.Wholes.{IsOf}
 use Rattle.model_values.specs.declared.asked.AskStop.{AskStop}
@@ -19,7 +16,7 @@ use Rattle.model_values.specs.declared.deltas.Move.{Move}
 use Rattle.model_values.specs.declared.deltas.Move.TheVariants.{Assign, Swap}
 use Rattle.model_values.specs.declared.wholes.Whole.TheVariants.{Objective}
 use Rattle.store_laws.specs.Deltas.{IsMoveOf, IsTarget}
-use Rattle.store_laws.specs.ModelTouch.{IsWhole, many_nodes}
+use Rattle.store_laws.specs.ModelTouch.{IsWhole}
 use Rattle.store_turns.specs.Meaning.{Graph}
 use Rattle.term_model.specs.Posting.{totals_by}
 use Rattle.term_model.specs.declared.model.Model.{Model}

@@ -1,5 +1,5 @@
 -- What a call tells is the violations of the variable in the system.
-use Rattle.std.proofs.Common.{◌≡◌, ℕ, ℤ, pos, zero, suc, ◌+◌, ◌<◌, Bool, true, false, ◌||◌, List, [], ◌∷◌, ◌++◌, Option, Some, None, Result, Ok, Err, length, map, refl, sym, ap, ◌∙◌, subst, arith, All, slice_get}
+use Rattle.std.proofs.Common.{◌≡◌, ℕ, ℤ, pos, zero, suc, ◌+◌, ◌<◌, Bool, true, false, ◌||◌, List, [], ◌∷◌, Option, Some, None, Result, Ok, length, map, refl, sym, ap, ◌∙◌, subst, arith, All, slice_get}
 use Rattle.std.specs.Prelude.{filter_map, nat_eq, unwrap_or, if◌then◌else◌}
 use Rattle.std.specs.List.{cons_option, list_any, range_with_len}
 use Rattle.std.specs.Option.{option_and_then}
@@ -23,7 +23,7 @@ use Rattle.term_model.specs.declared.term.Term.{Term}
 use Rattle.violation_shares.specs.VariableViolations.{violation_in_system}
 use Rattle.store_shares.specs.Calls.{AreZero, no_tally, tallied, tally_all}
 use Rattle.store_shares.specs.Made.{AreKnown, AreWeights, IsSharesOf, parts_in, slots_in, terms_of}
-use Rattle.store_shares.specs.Parts.{Reading, one_in, told, violation_of}
+use Rattle.store_shares.specs.Parts.{Reading, told, violation_of}
 use Rattle.store_shares.specs.Slots.{AreMarked, joined_slots, slots_of}
 use Rattle.store_shares.specs.Telling.{AllTell, AreReads}
 use Rattle.store_shares.specs.Settled.{known_words}
@@ -31,8 +31,10 @@ use Rattle.store_shares.specs.Words.{has}
 use Rattle.store_shares.specs.declared.parts.Part.{Part}
 use Rattle.store_shares.specs.declared.parts.Span.{Span}
 use Rattle.store_shares.specs.declared.shares.Shares.{Shares}
+use Rattle.store_shares.specs.declared.words.Word.{Word}
 use Rattle.std.proofs.lemmas.Option.{slice_get_within}
 use Rattle.store_shares.proofs.MakingLaws.{tell_length}
+use Rattle.store_shares.proofs.ReadingLaws.{there_is}
 use Rattle.store_shares.proofs.SystemLaws.{system_is, tally_is}
 use Rattle.store_shares.proofs.TellLaws.{all_right, marks_left, marks_right, one_in_any, violations_told}
 use Rattle.store_shares.proofs.TermLaws.{share}
@@ -117,22 +119,17 @@ module _ (ids : Term → ℕ) (users : ℕ → NumberRule) (env : ℕ → Outcom
   call_is M formed s total e parts first weight tell knows marks weighs =
       let members = total.members.items in
       let same : map violation_of (map (told reading test) parts) ≡ map (λ (m : Member). share users env depends m.term) total.members.items =
-          ap (map violation_of) (all_right ids users env depends known reading test reads parts (terms_of total) first tell knows marks) ∙ violations_told users env depends (terms_of total) ∙ terms_mapped (share users env depends) total.members.items in
+      ap (map violation_of) (all_right ids users env depends known reading test reads parts (terms_of total) first tell knows marks) ∙ violations_told users env depends (terms_of total) ∙ terms_mapped (share users env depends) total.members.items in
       let weights : map weight (range_with_len 0 (length total.members.items)) ≡ map (λ (m : Member). m.weight) total.members.items =
-          weights_are weight total.members.items 0 (λ k m at. let to : 0 + k ≡ k = omega arith in ap weight to ∙ weighs k m at) in
+      weights_are weight total.members.items 0 (λ k m at. let to : 0 + k ≡ k = omega arith in ap weight to ∙ weighs k m at) in
       let long : length (map (λ (m : Member). share users env depends m.term) total.members.items) ≡ length (map (λ (m : Member). m.weight) total.members.items) =
-          length_of (λ (m : Member). share users env depends m.term) total.members.items ∙ sym (length_of (λ (m : Member). m.weight) total.members.items) in
+      length_of (λ (m : Member). share users env depends m.term) total.members.items ∙ sym (length_of (λ (m : Member). m.weight) total.members.items) in
       ap (λ vs. tallied (tally_all no_tally vs (map weight (range_with_len 0 (length total.members.items))))) same
       ∙ ap (λ ws. tallied (tally_all no_tally (map (λ (m : Member). share users env depends m.term) total.members.items) ws)) weights
       ∙ sym (tally_is (map (λ (m : Member). share users env depends m.term) total.members.items) (map (λ (m : Member). m.weight) total.members.items) long)
       ∙ sym (system_is users env depends M s total.members.items (members_are M formed s total e))
 
 -- ---- what a call answers
-there_is : {X : Type 0} (xs : List X) (i : ℕ) → i < length xs → (x : X) × (slice_get xs i ≡ Some x)
-there_is [] i lt = absurd (omega (arith, lt))
-there_is (x ∷ xs) zero lt = (x, refl)
-there_is (x ∷ xs) (suc i) lt = there_is xs i (omega (arith, lt))
-
 term_there : (terms : List Term) (f : Term → Result ℤ RunFault) (k : ℕ) (v : Result ℤ RunFault) → slice_get (map f terms) k ≡ Some v → (t : Term) × (slice_get terms k ≡ Some t)
 term_there [] f k v at = let c : None ≡ Some v = at in cc
 term_there (t ∷ terms) f zero v at = (t, refl)
@@ -162,9 +159,9 @@ module _ (users : ℕ → NumberRule) (M : Model) (env : ℕ → Outcome) (ids :
         let here : slice_get (map (share users env (var_depends M x)) (terms_of total)) k ≡ Some v = ap (λ l. slice_get l k) (sym told_is) ∙ there in
         untouched ids users env (var_depends M x) known reading (has (known_words shares.slots.items x)) reads (parts_in shares (Some span)) (terms_of total) (kept.systems s total at).first_slot tells (knows total at) marks k v here
         (λ t term.
-            let first : (kept.systems s total at).span.first + k ≡ span.first + k = ap (λ (r : Span). r.first + k) (sym is) in
-            ap (list_any (var_depends M x)) (sym ((kept.systems s total at).members_there k t term))
-            ∙ sym (kept.member_sets.each x ((kept.systems s total at).span.first + k) is_var) ∙ ap (has (known_words shares.members.items x)) first ∙ none)
+        let first : (kept.systems s total at).span.first + k ≡ span.first + k = ap (λ (r : Span). r.first + k) (sym is) in
+        ap (list_any (var_depends M x)) (sym ((kept.systems s total at).members_there k t term))
+        ∙ sym (kept.member_sets.each x ((kept.systems s total at).span.first + k) is_var) ∙ ap (has (known_words shares.members.items x)) first ∙ none)
 
     count : length (parts_in shares (Some span)) ≡ length total.members.items
     count = tell_length ids (parts_in shares (Some span)) (terms_of total) (kept.systems s total at).first_slot tells ∙ length_of (λ (m : Member). m.term) total.members.items
@@ -173,11 +170,11 @@ module _ (users : ℕ → NumberRule) (M : Model) (env : ℕ → Outcome) (ids :
     total_is =
         ap (λ n. tallied (tally_all no_tally (map violation_of (map (told reading (has (known_words shares.slots.items x))) (parts_in shares (Some span)))) (map (weight s) (range_with_len 0 n)))) count
         ∙ call_is ids users env (var_depends M x) known reading (has (known_words shares.slots.items x)) reads M formed s total at (parts_in shares (Some span)) (kept.systems s total at).first_slot (weight s) tells (knows total at) marks
-          (λ k m there. weights total k m at there)
+        (λ k m there. weights total k m at there)
 
   pub answer_is : (span : Span) → slice_get shares.systems.items s ≡ Some span → (result : Result ℤ RunFault) →
       (AreZero (has (known_words shares.members.items x)) span.first (map violation_of (map (told reading (has (known_words shares.slots.items x))) (parts_in shares (Some span)))) →
-       result ≡ tallied (tally_all no_tally (map violation_of (map (told reading (has (known_words shares.slots.items x))) (parts_in shares (Some span)))) (map (weight s) (range_with_len 0 (length (parts_in shares (Some span))))))) →
+      result ≡ tallied (tally_all no_tally (map violation_of (map (told reading (has (known_words shares.slots.items x))) (parts_in shares (Some span)))) (map (weight s) (range_with_len 0 (length (parts_in shares (Some span))))))) →
       result ≡ violation_in_system users M env (var_depends M x) s
   answer_is span there result answers =
       let within : s < length shares.systems.items = slice_get_within shares.systems.items s span there in
@@ -185,3 +182,16 @@ module _ (users : ℕ → NumberRule) (M : Model) (env : ℕ → Outcome) (ids :
       let total = there_is M.systems.items s lt in
       let is : span ≡ (kept.systems s total.0 total.1).span = ap (λ (o : Option Span). unwrap_or o span) (sym there ∙ (kept.systems s total.0 total.1).kept) in
       answers (zeros total.0 total.1 span is) ∙ total_is total.0 total.1 span is
+
+  -- the same where the sets and the parts are taken out first
+  abbrev Answers : ℕ → Result ℤ RunFault → List Word → List Word → List Part → Type 0
+  Answers first result slots members parts =
+      AreZero (has members) first (map violation_of (map (told reading (has slots)) parts)) →
+      result ≡ tallied (tally_all no_tally (map violation_of (map (told reading (has slots)) parts)) (map (weight s) (range_with_len 0 (length parts))))
+
+  pub answer_by : (span : Span) → slice_get shares.systems.items s ≡ Some span → (result : Result ℤ RunFault) (slots members : List Word) (parts : List Part) →
+      slots ≡ known_words shares.slots.items x → members ≡ known_words shares.members.items x → parts ≡ parts_in shares (Some span) → Answers span.first result slots members parts →
+      result ≡ violation_in_system users M env (var_depends M x) s
+  answer_by span there result slots members parts e f h answers =
+      answer_is span there result (subst (Answers span.first result (known_words shares.slots.items x) (known_words shares.members.items x)) h
+      (subst (λ m. Answers span.first result (known_words shares.slots.items x) m parts) f (subst (λ l. Answers span.first result l members parts) e answers)))

@@ -1,5 +1,5 @@
 -- A variable depends on another where it is that one, or depends on one whose definition names that one.
-use Rattle.std.proofs.Common.{◌≡◌, ◌⊎◌, inl, inr, ℕ, zero, suc, ◌+◌, ◌-◌, ◌<◌, ◌≤◌, Bool, true, false, ◌||◌, List, [], ◌∷◌, ◌++◌, length, refl, sym, ap, ◌∙◌, subst, arith, Contains, true≢false, eqb-true, eq-eqb}
+use Rattle.std.proofs.Common.{◌≡◌, ◌⊎◌, inl, inr, ℕ, zero, suc, ◌+◌, ◌-◌, ◌<◌, ◌≤◌, Bool, true, false, ◌||◌, List, [], ◌∷◌, length, refl, sym, ap, ◌∙◌, subst, arith, Contains, true≢false, eqb-true, eq-eqb}
 use Rattle.std.specs.Prelude.{nat_eq, map, Option, Some, None, Vec, slice_get, unwrap_or}
 use Rattle.std.specs.List.{list_any}
 use Rattle.std.specs.Option.{option_map}
@@ -21,10 +21,11 @@ use Rattle.layer_plan.specs.Uses.{AreUses}
 use Rattle.layer_plan.proofs.Lists.{depends_in as depends_in_lists}
 use Rattle.store_shares.specs.Closing.{AreUsers, Closes, depends_in, names_in}
 use Rattle.store_shares.specs.Naming.{IsNaming, words_of}
-use Rattle.store_shares.specs.Settled.{AreRanked}
+use Rattle.store_shares.specs.Settled.{AreRanked, AreSets}
 use Rattle.store_shares.specs.Slots.{slot_at}
 use Rattle.store_shares.specs.Words.{has}
 use Rattle.store_shares.specs.declared.naming.Naming.{Naming}
+use Rattle.store_shares.specs.declared.words.Word.{Word}
 
 -- ---- one of a list passes
 pub any_from : (f : ℕ → Bool) (xs : List ℕ) (d : ℕ) → Contains xs d → f d ≡ true → list_any f xs ≡ true
@@ -171,12 +172,24 @@ module _ (M : Model) (formed : IsWellFormed M) (acyclic : IsAcyclic M) where
     rank = λ x. length M.vars.items - 1 - acyclic.rank x;
     within = λ x lt. omega (arith, lt);
     falls = λ x u in'.
-      let used = uses.only x u in' in
-      let falls = acyclic.falls u x used.1 in
-      let high = acyclic.within u used.0 in
-      omega (arith, falls, high);
+        let used = uses.only x u in' in
+        let falls = acyclic.falls u x used.1 in
+        let high = acyclic.within u used.0 in
+        omega (arith, falls, high);
     low = λ x u in'. (uses.only x u in').0;
   }
+
+  pub ranked_by : (own : List (Vec Word Global)) (users : List (Vec ℕ Global)) → length own ≡ length M.vars.items → AreUsers M (list_of users) → AreRanked (list_of users) (length own)
+  ranked_by own users e uses = subst (AreRanked (list_of users)) (sym e) (ranked (list_of users) uses)
+
+  -- the sets that are found are those of the lists
+  pub sets_are : (own : List (Vec Word Global)) (users : List (Vec ℕ Global)) (naming : Naming) (lists : List (List ℕ)) (sets : List (Option (Vec Word Global))) → own ≡ naming.sets.items → AreUsers M (list_of users) →
+      IsNaming (length M.vars.items) naming lists → ((all : ℕ → ℕ → Bool) → Closes all (λ x. has (words_of own x)) (list_of users) (length own) → AreSets all (length own) sets) →
+      AreSets (depends_in M lists) (length M.vars.items) sets
+  sets_are own users naming lists sets e uses names found =
+      subst (λ n. AreSets (depends_in M lists) n sets) (ap length e ∙ names.width)
+      (found (depends_in M lists)
+      (subst (λ o. Closes (depends_in M lists) (λ x. has (words_of o x)) (list_of users) (length o)) (sym e) (closes_named (list_of users) uses naming lists names)))
 
 -- ---- the users of each variable
 list_is : (named : List (Vec ℕ Global)) (u : ℕ) (l : List ℕ) → slice_get (map (λ names. names.items) named) u ≡ Some l → list_of named u ≡ l

@@ -1,6 +1,6 @@
 -- The parts of one member more, and of one system more; and which of all parts are a system's.
-use Rattle.std.proofs.Common.{◌≡◌, ℕ, zero, suc, ◌+◌, ◌-◌, ◌<◌, ◌≤◌, Bool, List, [], ◌∷◌, ◌++◌, Option, Some, None, Vec, Global, All, true, length, length-append, get_or, map, take, drop, refl, sym, ap, ◌∙◌, subst, arith, slice_get}
-use Rattle.std.specs.Prelude.{slice_range, unwrap_or}
+use Rattle.std.proofs.Common.{◌≡◌, ℕ, zero, suc, ◌+◌, ◌-◌, ◌<◌, ◌≤◌, Bool, List, [], ◌∷◌, ◌++◌, Option, Some, None, All, true, length, length-append, get_or, map, take, drop, refl, sym, ap, ◌∙◌, subst, arith, slice_get}
+use Rattle.std.specs.Prelude.{unwrap_or}
 use Rattle.std.proofs.lemmas.List.{append_assoc, append-nil, map-append, length-map, take_more}
 use Rattle.std.proofs.lemmas.List.Elements.{All-head, All-tail}
 use Rattle.term_model.specs.Definitions.{joined}
@@ -9,7 +9,7 @@ use Rattle.term_model.specs.declared.model.Model.{Model}
 use Rattle.term_model.specs.declared.model.Total.{Total}
 use Rattle.term_model.specs.declared.term.Term.{Term}
 use Rattle.store_shares.specs.Closing.{depends_in}
-use Rattle.store_shares.specs.Made.{IsOrdered, IsSharesOf, IsSystem, parts_in, slots_in, terms_of}
+use Rattle.store_shares.specs.Made.{IsSharesOf, IsSystem, terms_of}
 use Rattle.store_shares.specs.Making.{IsMaking, IsMakingOf, named_among, slots_among, spans_of, terms_in}
 use Rattle.store_shares.specs.Naming.{IsNaming}
 use Rattle.store_shares.specs.Settled.{AreSets}
@@ -154,15 +154,15 @@ module _ (M : Model) (ids : Term → ℕ) (making : Making) (made : IsMakingOf (
       let n = length cut.left in
       let span : Span = record { first = length cut.left; end = length cut.left + length (terms_of total) } in
       let all : AllTell ids shares.parts.items (cut.left ++ (terms_of total ++ cut.right)) 0 =
-          subst (λ ps. AllTell ids ps (cut.left ++ (terms_of total ++ cut.right)) 0) (sym parts) (subst (λ ts. AllTell ids making.parts.items ts 0) cut.whole made.made.tell) in
+      subst (λ ps. AllTell ids ps (cut.left ++ (terms_of total ++ cut.right)) 0) (sym parts) (subst (λ ts. AllTell ids making.parts.items ts 0) cut.whole made.made.tell) in
       let right = tell_right ids cut.left (terms_of total ++ cut.right) shares.parts.items 0 all in
       let left = tell_left ids (terms_of total) cut.right (drop (length cut.left) shares.parts.items) (0 + length (slots_among cut.left)) right in
       let width : length cut.left + length (terms_of total) - length cut.left ≡ length (terms_of total) = omega arith in
       let slots : slots_among (terms_in M.systems.items) ≡ slots_among cut.left ++ (slots_among (terms_of total) ++ slots_among cut.right) =
-          ap slots_among cut.whole ∙ slots_append cut.left (terms_of total ++ cut.right) ∙ ap (λ l. slots_among cut.left ++ l) (slots_append (terms_of total) cut.right) in
+      ap slots_among cut.whole ∙ slots_append cut.left (terms_of total ++ cut.right) ∙ ap (λ l. slots_among cut.left ++ l) (slots_append (terms_of total) cut.right) in
       let named : named_among (terms_in M.systems.items) ≡ named_among cut.left ++ (named_among (terms_of total) ++ named_among cut.right) =
-          ap named_among cut.whole ∙ map-append (λ t. joined (slots_of t)) cut.left (terms_of total ++ cut.right)
-          ∙ ap (λ l. named_among cut.left ++ l) (map-append (λ t. joined (slots_of t)) (terms_of total) cut.right) in
+      ap named_among cut.whole ∙ map-append (λ t. joined (slots_of t)) cut.left (terms_of total ++ cut.right)
+      ∙ ap (λ l. named_among cut.left ++ l) (map-append (λ t. joined (slots_of t)) (terms_of total) cut.right) in
       let long : length (named_among cut.left) ≡ length cut.left = length-map cut.left (λ t. joined (slots_of t)) in
       record {
         span = record { first = length cut.left; end = length cut.left + length (terms_of total) };
@@ -170,14 +170,14 @@ module _ (M : Model) (ids : Term → ℕ) (making : Making) (made : IsMakingOf (
         first_slot = 0 + length (slots_among cut.left);
         tell = subst (λ m. AllTell ids (take m (drop (length cut.left) shares.parts.items)) (terms_of total) (0 + length (slots_among cut.left))) (sym width) left;
         slots_there = λ k lt.
-          let to : 0 + length (slots_among cut.left) + k ≡ length (slots_among cut.left) + k = omega arith in
-          ap (slot_at (slots_among (terms_in M.systems.items))) to ∙ ap (λ l. slot_at l (length (slots_among cut.left) + k)) slots
-          ∙ slot_middle (slots_among cut.left) (slots_among (terms_of total)) (slots_among cut.right) k lt;
+            let to : 0 + length (slots_among cut.left) + k ≡ length (slots_among cut.left) + k = omega arith in
+            ap (slot_at (slots_among (terms_in M.systems.items))) to ∙ ap (λ l. slot_at l (length (slots_among cut.left) + k)) slots
+            ∙ slot_middle (slots_among cut.left) (slots_among (terms_of total)) (slots_among cut.right) k lt;
         members_there = λ k t there.
-          let one = named_at (terms_of total) k t there in
-          ap (λ l. slot_at l (length cut.left + k)) named
-          ∙ ap (λ m. slot_at (named_among cut.left ++ (named_among (terms_of total) ++ named_among cut.right)) (m + k)) (sym long)
-          ∙ slot_middle (named_among cut.left) (named_among (terms_of total)) (named_among cut.right) k one.0 ∙ one.1;
+            let one = named_at (terms_of total) k t there in
+            ap (λ l. slot_at l (length cut.left + k)) named
+            ∙ ap (λ m. slot_at (named_among cut.left ++ (named_among (terms_of total) ++ named_among cut.right)) (m + k)) (sym long)
+            ∙ slot_middle (named_among cut.left) (named_among (terms_of total)) (named_among cut.right) k one.0 ∙ one.1;
       }
 
   spans_there : (s : ℕ) (span : Span) → slice_get shares.systems.items s ≡ Some span → (span.first ≤ span.end) × (span.end ≤ length shares.parts.items)
@@ -211,8 +211,8 @@ pub members_step : (members : List Member) (i : ℕ) (member : Member) (terms : 
 members_step members i member terms lt is =
     append_assoc terms (map (λ (m : Member). m.term) (take i members)) (member.term ∷ [])
     ∙ ap (λ l. terms ++ l)
-      (sym (ap (map (λ (m : Member). m.term)) (take_more members i member lt ∙ ap (λ (u : Member). take i members ++ u ∷ []) (sym is))
-      ∙ map-append (λ (m : Member). m.term) (take i members) (member ∷ [])))
+    (sym (ap (map (λ (m : Member). m.term)) (take_more members i member lt ∙ ap (λ (u : Member). take i members ++ u ∷ []) (sym is))
+    ∙ map-append (λ (m : Member). m.term) (take i members) (member ∷ [])))
 
 pub known_member : (known : Term → Bool) (members : List Member) (i : ℕ) (member : Member) → All (λ t. known t ≡ true) (map (λ (m : Member). m.term) members) → i < length members → member ≡ get_or members i member →
     known member.term ≡ true

@@ -1,16 +1,15 @@
 -- Numbers are put into the sets of variables, and what is in the sets then.
-use Rattle.std.proofs.Common.{◌≡◌, ◌⊎◌, inl, inr, ℕ, zero, suc, ◌+◌, ◌<◌, ◌≤◌, ◌/◌, Bool, true, false, ◌||◌, ◌&&◌, List, [], ◌∷◌, ◌++◌, Option, Some, None, Vec, get_or, length, set, refl, sym, ap, ◌∙◌, subst, arith, eqb-true, eq-eqb}
-use Rattle.std.specs.Prelude.{nat_eq, slice_get}
+use Rattle.std.proofs.Common.{◌≡◌, ◌⊎◌, inl, inr, ℕ, zero, suc, ◌+◌, ◌<◌, ◌≤◌, ◌/◌, Bool, true, false, ◌||◌, ◌&&◌, List, [], ◌∷◌, ◌++◌, Vec, get_or, length, set, refl, sym, ap, ◌∙◌, subst, arith, eqb-true, eq-eqb}
+use Rattle.std.specs.Prelude.{nat_eq}
 use Rattle.std.specs.List.{list_any}
 use Rattle.std.specs.declared.alloc.Global.{Global}
-use Rattle.std.proofs.lemmas.Bool.{cases_eq, cases_lt}
+use Rattle.std.proofs.lemmas.Bool.{cases_eq}
 use Rattle.std.proofs.lemmas.List.{length-set, length_push}
 use Rattle.std.proofs.lemmas.List.Folds.{list_any-append}
 use Rattle.std.proofs.lemmas.Option.{slice_get_read}
 use Rattle.cbl_base.proofs.PlaceLemmas.{others_stay}
 use Rattle.store_shares.specs.Closing.{names_in}
 use Rattle.store_shares.specs.Naming.{words_in, words_of, IsPut, IsNaming}
-use Rattle.store_shares.specs.Slots.{slot_at}
 use Rattle.store_shares.specs.Words.{has, IsRising, IsUpTo}
 use Rattle.store_shares.specs.declared.naming.Naming.{Naming}
 use Rattle.store_shares.specs.declared.words.Word.{Word}
@@ -49,8 +48,8 @@ put_none : (old new : List (Vec Word Global)) (number v : ℕ) → new ≡ old �
 put_none old new number v e past = subst (λ ss. IsPut old ss number (v ∷ [])) (sym e) (record {
   width = refl;
   both = λ x k lt.
-    let ne : nat_eq v x ≡ false = eq_false v x (λ is. absurd (omega (arith, is, lt, past))) in
-    sym (ap (λ b. has (words_of old x) k || ((b || false) && nat_eq k number)) ne ∙ or_false (has (words_of old x) k));
+      let ne : nat_eq v x ≡ false = eq_false v x (λ is. absurd (omega (arith, is, lt, past))) in
+      sym (ap (λ b. has (words_of old x) k || ((b || false) && nat_eq k number)) ne ∙ or_false (has (words_of old x) k));
   rising = λ x rising up. rising;
   up = λ x up. up;
 })
@@ -112,10 +111,10 @@ pub put_then : (old mid new : List (Vec Word Global)) (number : ℕ) (vs ws : Li
 put_then old mid new number vs ws first second = record {
   width = second.width ∙ first.width;
   both = λ x k lt.
-    second.both x k (subst (λ n. x < n) (sym first.width) lt)
-    ∙ ap (λ b. b || (list_any (λ d. nat_eq d x) ws && nat_eq k number)) (first.both x k lt)
-    ∙ or_and (has (words_of old x) k) (list_any (λ d. nat_eq d x) vs) (list_any (λ d. nat_eq d x) ws) (nat_eq k number)
-    ∙ ap (λ b. has (words_of old x) k || (b && nat_eq k number)) (sym (list_any-append (λ d. nat_eq d x) vs ws));
+      second.both x k (subst (λ n. x < n) (sym first.width) lt)
+      ∙ ap (λ b. b || (list_any (λ d. nat_eq d x) ws && nat_eq k number)) (first.both x k lt)
+      ∙ or_and (has (words_of old x) k) (list_any (λ d. nat_eq d x) vs) (list_any (λ d. nat_eq d x) ws) (nat_eq k number)
+      ∙ ap (λ b. has (words_of old x) k || (b && nat_eq k number)) (sym (list_any-append (λ d. nat_eq d x) vs ws));
   rising = λ x rising up. second.rising x (first.rising x rising up) (first.up x up);
   up = λ x up. second.up x (first.up x up);
 }
@@ -152,10 +151,10 @@ naming_more variables old new lists list naming put count = record {
   width = put.width ∙ naming.width;
   count = count ∙ ap (λ n. n + 1) naming.count ∙ sym (length_push lists list);
   named = λ x k lt.
-    put.both x k (subst (λ n. x < n) (sym naming.width) lt)
-    ∙ ap (λ b. b || (list_any (λ d. nat_eq d x) list && nat_eq k old.count)) (naming.named x k lt)
-    ∙ ap (λ n. names_in lists x k || (list_any (λ d. nat_eq d x) list && nat_eq k n)) naming.count
-    ∙ sym (names_more lists list x k);
+      put.both x k (subst (λ n. x < n) (sym naming.width) lt)
+      ∙ ap (λ b. b || (list_any (λ d. nat_eq d x) list && nat_eq k old.count)) (naming.named x k lt)
+      ∙ ap (λ n. names_in lists x k || (list_any (λ d. nat_eq d x) list && nat_eq k n)) naming.count
+      ∙ sym (names_more lists list x k);
   rising = λ x. put.rising x (naming.rising x) (naming.up x);
   up = λ x. subst (λ n. IsUpTo (words_of new.sets.items x) (n / 64)) (sym count) (up_next (words_of new.sets.items x) old.count (put.up x (naming.up x)));
 }

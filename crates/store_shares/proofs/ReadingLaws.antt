@@ -1,18 +1,20 @@
 -- What is read one number after another: ranges of numbers that pass, the greatest and the fewest, sums and totals.
-use Rattle.std.proofs.Common.{◌≡◌, ◌⊎◌, inl, inr, ℕ, ℤ, pos, zero, suc, ◌+◌, ◌-◌, ◌+ℤ◌, ◌*ℤ◌, ◌<◌, ◌≤◌, Bool, true, false, cond, ◌||◌, ◌&&◌, List, [], ◌∷◌, ◌++◌, Option, Some, None, Result, Ok, Err, length, get_or, take, drop, fold, map, refl, sym, ap, ◌∙◌, subst, arith, true≢false, slice_get}
-use Rattle.std.specs.Prelude.{filter, int_lt, unwrap_or, if◌then◌else◌}
+use Rattle.std.proofs.Common.{◌≡◌, ◌⊎◌, inl, inr, ℕ, ℤ, pos, zero, suc, ◌+◌, ◌-◌, ◌+ℤ◌, ◌*ℤ◌, ◌<◌, ◌≤◌, Bool, true, false, cond, ◌||◌, ◌&&◌, List, [], ◌∷◌, ◌++◌, Option, Some, None, Result, Ok, Err, length, get_or, take, drop, fold, map, refl, sym, ap, ◌∙◌, arith, slice_get}
+use Rattle.std.specs.Prelude.{filter, int_lt, unwrap_or, if◌then◌else◌, ◌≤ℤ◌, ◌^◌, ◌*◌, neg_ℤ}
 use Rattle.std.specs.Int.{int_max}
 use Rattle.std.specs.List.{list_any, range_with_len}
 use Rattle.std.specs.Option.{option_map}
-use Rattle.std.proofs.lemmas.Bool.{cases_eq, cases_lt, or_right}
+use Rattle.std.proofs.lemmas.Bool.{cases_eq, or_right}
 use Rattle.std.proofs.lemmas.Int.{ints, clamps}
-use Rattle.std.proofs.lemmas.List.{take_more, map-append}
+use Rattle.std.proofs.lemmas.List.{drop-drop, length-map, map-append, take_more}
+use Rattle.std.proofs.lemmas.List.FromFn.{get_or-range_with_len, length-range_with_len}
 use Rattle.std.proofs.lemmas.List.Sums.{fold-append}
+use Rattle.std.proofs.lemmas.Option.{get_or_from_slice_get, slice_get-get_or, slice_get-map, slice_get_read}
 use Rattle.cbl_base.specs.Arithmetic.{fits_64}
 use Rattle.cbl_base.specs.declared.faults.RunFault.{RunFault}
 use Rattle.cbl_operations.specs.Operations.Greatest.{greatest_of}
-use Rattle.store_shares.specs.Calls.{AreZero, no_tally, tallied, tally_all, with_product}
-use Rattle.store_shares.specs.Parts.{Reading, Told, add_told, fewer_told, fewest_told, greater_told, one_in, sum_told, told, told_at, violation_of}
+use Rattle.store_shares.specs.Calls.{AreZero, tally_all, with_product}
+use Rattle.store_shares.specs.Parts.{Told, add_told, fewer_told, fewest_told, greater_told, one_in, told_at, violation_of}
 use Rattle.store_shares.specs.Words.{IsNext}
 use Rattle.store_shares.specs.declared.calls.Tally.{Tally}
 use Rattle.store_shares.specs.declared.parts.Part.{Part}
@@ -133,11 +135,16 @@ fewer_is f parts first at p q part less one other there is =
     choose true h g = ap (option_map f) g
     choose false h g = ap (option_map f) h
 
-pub fewest_more : (f : Part → Told) (parts : List Part) (i : ℕ) (part : Part) (so_far after : Option Told) → i < length parts → part ≡ get_or parts i part → so_far ≡ fewest_told (map f (take i parts)) →
+pub there_is : {X : Type 0} (xs : List X) (i : ℕ) → i < length xs → (x : X) × (slice_get xs i ≡ Some x)
+there_is [] i lt = absurd (omega (arith, lt))
+there_is (x ∷ xs) zero lt = (x, refl)
+there_is (x ∷ xs) (suc i) lt = there_is xs i (omega (arith, lt))
+
+pub fewest_more : (f : Part → Told) (parts : List Part) (i : ℕ) (part : Part) (so_far after : Option Told) → i < length parts → slice_get parts i ≡ Some part → so_far ≡ fewest_told (map f (take i parts)) →
     after ≡ fewer_told so_far (f part) → after ≡ fewest_told (map f (take (i + 1) parts))
 fewest_more f parts i part so_far after lt is before more =
     more ∙ ap (λ o. fewer_told o (f part)) before
-    ∙ sym (ap (λ ps. fewest_told (map f ps)) (take_more parts i part lt ∙ ap (λ (u : Part). take i parts ++ u ∷ []) (sym is))
+    ∙ sym (ap (λ ps. fewest_told (map f ps)) (take_more parts i part lt ∙ ap (λ (u : Part). take i parts ++ u ∷ []) (get_or_from_slice_get parts i part part is))
     ∙ ap fewest_told (map-append f (take i parts) (part ∷ [])) ∙ fold-append fewer_told None (map f (take i parts)) (f part ∷ []))
 
 -- ---- sums
@@ -149,7 +156,9 @@ add_fault fault (v ∷ vs) = add_fault fault vs
 left_first : (parts : List Part) (i : ℕ) (part : Part) → i < length parts → part ≡ get_or parts i part → drop i parts ≡ part ∷ drop (i + 1) parts
 left_first [] i part lt is = absurd (omega (arith, lt))
 left_first (p ∷ parts) zero part lt is = ap (λ (u : Part). u ∷ parts) (sym is)
-left_first (p ∷ parts) (suc i) part lt is = left_first parts i part (omega (arith, lt)) is
+left_first (p ∷ parts) (suc i) part lt is =
+    let e : suc (i + 1) ≡ suc i + 1 = omega arith in
+    left_first parts i part (omega (arith, lt)) is ∙ ap (λ n. part ∷ drop n (p ∷ parts)) e
 
 abbrev pub sum_left : (Part → Told) → ℤ → List Part → Result ℤ RunFault
 sum_left f sum parts = fold add_told (Ok sum) (map violation_of (map f parts))
@@ -189,7 +198,7 @@ zeros_skipped tally (suc n) (v ∷ vs) [] none =
     ap (λ u. tally_all tally (u ∷ vs) []) (none 0 v (omega arith) refl)
     ∙ zeros_skipped tally n vs [] (λ k u lt at. none (suc k) u (omega (arith, lt)) at) ∙ ap (tally_all tally (drop n vs)) (drop_none n)
   where
-    drop_none : (m : ℕ) → drop m [] ≡ []
+    drop_none : (m : ℕ) → drop {A = ℤ} m [] ≡ []
     drop_none zero = refl
     drop_none (suc m) = refl
 zeros_skipped tally (suc n) (v ∷ vs) (w ∷ ws) none =
@@ -201,12 +210,6 @@ get_dropped xs zero k = let e : k ≡ 0 + k = omega arith in ap (slice_get xs) e
 get_dropped [] (suc n) k = refl
 get_dropped (x ∷ xs) (suc n) k = let e : suc n + k ≡ suc (n + k) = omega arith in get_dropped xs n k ∙ ap (slice_get (x ∷ xs)) (sym e)
 
-drop_drop : {X : Type 0} (xs : List X) (n m : ℕ) → drop m (drop n xs) ≡ drop (n + m) xs
-drop_drop xs zero m = let e : m ≡ 0 + m = omega arith in ap (λ k. drop k xs) e
-drop_drop [] (suc n) zero = refl
-drop_drop [] (suc n) (suc m) = refl
-drop_drop (x ∷ xs) (suc n) m = let e : suc n + m ≡ suc (n + m) = omega arith in drop_drop xs n m ∙ ap (λ k. drop k (x ∷ xs)) (sym e)
-
 -- from one number to the next that is touched
 pub tally_skips : (touched : ℕ → Bool) (first from end at : ℕ) (tally : Tally) (vs : List (Result ℤ RunFault)) (ws : List ℤ) → AreZero touched first vs → IsNext touched from end at → first ≤ from →
     tally_all tally (drop (from - first) vs) (drop (from - first) ws) ≡ tally_all tally (drop (at - first) vs) (drop (at - first) ws)
@@ -215,15 +218,17 @@ tally_skips touched first from end at tally vs ws zeros next le =
     let there : from - first + (at - from) ≡ at - first = omega (arith, above, le) in
     zeros_skipped tally (at - from) (drop (from - first) vs) (drop (from - first) ws)
     (λ k v lt is.
-        let here : first + (from - first + k) ≡ from + k = omega (arith, le) in
-        zeros (from - first + k) v (sym (get_dropped vs (from - first) k) ∙ is) (ap touched here ∙ next.none (from + k) (omega arith) (omega (arith, lt, above))))
-    ∙ ap (λ xs. tally_all tally xs (drop (at - from) (drop (from - first) ws))) (drop_drop vs (from - first) (at - from) ∙ ap (λ n. drop n vs) there)
-    ∙ ap (λ xs. tally_all tally (drop (at - first) vs) xs) (drop_drop ws (from - first) (at - from) ∙ ap (λ n. drop n ws) there)
+    let here : first + (from - first + k) ≡ from + k = omega (arith, le) in
+    zeros (from - first + k) v (sym (get_dropped vs (from - first) k) ∙ is) (ap touched here ∙ next.none (from + k) (omega arith) (omega (arith, lt, above))))
+    ∙ ap (λ xs. tally_all tally xs (drop (at - from) (drop (from - first) ws))) (drop-drop (at - from) (from - first) vs ∙ ap (λ n. drop n vs) there)
+    ∙ ap (λ xs. tally_all tally (drop (at - first) vs) xs) (drop-drop (at - from) (from - first) ws ∙ ap (λ n. drop n ws) there)
 
 pub get_first : {X : Type 0} (xs : List X) (n : ℕ) (x : X) → slice_get xs n ≡ Some x → drop n xs ≡ x ∷ drop (n + 1) xs
 get_first [] n x at = let c : None ≡ Some x = at in cc
 get_first (y ∷ ys) zero x at = ap (λ o. unwrap_or o x ∷ ys) at
-get_first (y ∷ ys) (suc n) x at = get_first ys n x at
+get_first (y ∷ ys) (suc n) x at =
+    let e : suc (n + 1) ≡ suc n + 1 = omega arith in
+    get_first ys n x at ∙ ap (λ k. x ∷ drop k (y ∷ ys)) e
 
 pub tally_step : (tally : Tally) (n : ℕ) (v w : ℤ) (vs : List (Result ℤ RunFault)) (ws : List ℤ) → slice_get vs n ≡ Some (Ok v) → slice_get ws n ≡ Some w →
     tally_all tally (drop n vs) (drop n ws) ≡ tally_all (with_product tally (v *ℤ w)) (drop (n + 1) vs) (drop (n + 1) ws)
@@ -240,3 +245,44 @@ tally_ends tally n vs ws le = ap (λ xs. tally_all tally xs (drop n ws)) (none_l
     none_left zero (x ∷ xs) le = absurd (omega (arith, le))
     none_left (suc m) [] le = refl
     none_left (suc m) (x ∷ xs) le = none_left m xs (omega (arith, le))
+
+pub tally_start : (touched : ℕ → Bool) (first end at : ℕ) (tally : Tally) (vs : List (Result ℤ RunFault)) (ws : List ℤ) → AreZero touched first vs → IsNext touched first end at →
+    tally_all tally vs ws ≡ tally_all tally (drop (at - first) vs) (drop (at - first) ws)
+tally_start touched first end at tally vs ws zeros next =
+    let none : 0 ≡ first - first = omega arith in
+    ap (λ n. tally_all tally (drop n vs) (drop n ws)) none ∙ tally_skips touched first first end at tally vs ws zeros next (omega arith)
+
+-- one that is touched, and on to the next
+pub tally_next : (touched : ℕ → Bool) (first end at next : ℕ) (tally after : Tally) (v w : ℤ) (vs : List (Result ℤ RunFault)) (ws : List ℤ) (whole : Result Tally RunFault) → first ≤ at → AreZero touched first vs →
+    slice_get vs (at - first) ≡ Some (Ok v) → slice_get ws (at - first) ≡ Some w → after ≡ with_product tally (v *ℤ w) → IsNext touched (at + 1) end next →
+    whole ≡ tally_all tally (drop (at - first) vs) (drop (at - first) ws) → whole ≡ tally_all after (drop (next - first) vs) (drop (next - first) ws)
+tally_next touched first end at next tally after v w vs ws whole le zeros one weight is later before =
+    let on : at - first + 1 ≡ at + 1 - first = omega (arith, le) in
+    before ∙ tally_step tally (at - first) v w vs ws one weight
+    ∙ ap (λ t. tally_all t (drop (at - first + 1) vs) (drop (at - first + 1) ws)) (sym is)
+    ∙ ap (λ n. tally_all after (drop n vs) (drop n ws)) on
+    ∙ tally_skips touched first (at + 1) end next after vs ws zeros later (omega (arith, le))
+
+-- what stands at a place of what is told, and of the weights
+pub told_there : (f : Part → Told) (parts : List Part) (i : ℕ) (part : Part) (v : Result ℤ RunFault) → i < length parts → part ≡ get_or parts i part → v ≡ (f part).violation → slice_get (map violation_of (map f parts)) i ≡ Some v
+told_there f parts i part v lt is e =
+    slice_get-map violation_of (map f parts) i
+    ∙ ap (option_map violation_of) (slice_get-map f parts i ∙ ap (option_map f) (slice_get_read parts (length parts) i part refl lt is))
+    ∙ ap Some (sym e)
+
+pub weight_there : (weight : ℕ → ℤ) (n k : ℕ) → k < n → slice_get (map weight (range_with_len 0 n)) k ≡ Some (weight k)
+weight_there weight n k lt =
+    let long = length-range_with_len 0 n in
+    let at : get_or (range_with_len 0 n) k 0 ≡ k = omega (arith, get_or-range_with_len 0 n k 0 lt) in
+    slice_get-map weight (range_with_len 0 n) k
+    ∙ ap (option_map weight) (slice_get-get_or (range_with_len 0 n) k 0 (omega (arith, lt, long)) ∙ ap Some at)
+
+pub told_length : (f : Part → Told) (parts : List Part) → length (map violation_of (map f parts)) ≡ length parts
+told_length f parts = length-map (map f parts) violation_of ∙ length-map parts f
+
+-- ---- bounds
+pub low_wider : (n m : ℕ) (z : ℤ) → n ≤ m → neg_ℤ (pos (2 ^ 63 * n)) ≤ℤ z → neg_ℤ (pos (2 ^ 63 * m)) ≤ℤ z
+low_wider n m z le h = omega (arith, ints, le, h)
+
+pub high_wider : (n m : ℕ) (z : ℤ) → n ≤ m → z ≤ℤ pos (2 ^ 63 * n) → z ≤ℤ pos (2 ^ 63 * m)
+high_wider n m z le h = omega (arith, ints, le, h)

@@ -1,5 +1,5 @@
 -- The sets of the variables that are found so far, with one more, and when all are found.
-use Rattle.std.proofs.Common.{◌≡◌, ◌⊎◌, inl, inr, ℕ, zero, suc, ◌+◌, ◌<◌, ◌≤◌, Bool, true, false, ◌||◌, ◌&&◌, List, [], ◌∷◌, ◌++◌, Option, Some, None, Vec, length, get_or, set, take, drop, refl, sym, ap, ◌∙◌, subst, arith, true≢false, Contains, slice_get}
+use Rattle.std.proofs.Common.{◌≡◌, ◌⊎◌, inl, inr, ℕ, zero, suc, ◌+◌, ◌<◌, Bool, true, false, ◌||◌, ◌&&◌, List, [], ◌∷◌, ◌++◌, Option, Some, None, Vec, length, get_or, set, take, drop, refl, sym, ap, ◌∙◌, subst, arith, true≢false, Contains, slice_get}
 use Rattle.std.specs.List.{list_all, list_any}
 use Rattle.std.specs.declared.alloc.Global.{Global}
 use Rattle.std.proofs.lemmas.Bool.{cases_eq}

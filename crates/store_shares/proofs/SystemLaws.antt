@@ -1,6 +1,6 @@
 -- The violations of a variable in a system are the tally of what the parts of its members tell, each times its weight.
 use Rattle.std.proofs.Common.{◌≡◌, ℕ, ℤ, pos, zero, suc, ◌+◌, ◌+ℤ◌, ◌*ℤ◌, ◌<◌, Bool, true, false, ◌&&◌, List, [], ◌∷◌, ◌++◌, Option, Some, None, Result, Ok, Err, length, length-append, fold, map, refl, sym, ap, ◌∙◌, subst, arith, true≢false}
-use Rattle.std.specs.Prelude.{filter_map, slice_get, slice_index_or, nat_eq, if◌then◌else◌}
+use Rattle.std.specs.Prelude.{filter_map, slice_index_or, if◌then◌else◌}
 use Rattle.std.specs.List.{list_all, range_with_len, cons_option}
 use Rattle.std.proofs.lemmas.Int.{ints}
 use Rattle.std.proofs.lemmas.List.{append_assoc, append-nil}
@@ -18,7 +18,7 @@ use Rattle.model_values.specs.declared.wholes.Whole.TheVariants.{System}
 use Rattle.term_model.specs.declared.model.Member.{Member}
 use Rattle.term_model.specs.declared.model.Model.{Model}
 use Rattle.term_model.specs.declared.model.Posted.{Posted}
-use Rattle.violation_shares.specs.VariableViolations.{Weighed, gather_violation, none_weighed, share_of, violation_in_system, weigh_posted, weighted_violation, with_member}
+use Rattle.violation_shares.specs.VariableViolations.{Weighed, gather_violation, none_weighed, violation_in_system, weigh_posted, weighted_violation, with_member}
 use Rattle.store_shares.specs.Calls.{no_tally, tallied, tally_all, with_product}
 use Rattle.store_shares.specs.declared.calls.Tally.{Tally}
 use Rattle.store_shares.proofs.TermLaws.{share}

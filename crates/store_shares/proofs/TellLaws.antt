@@ -1,5 +1,5 @@
 -- Each form of a part tells its term, where its own parts tell the arguments.
-use Rattle.std.proofs.Common.{◌≡◌, ◌⊎◌, inl, inr, ℕ, ℤ, pos, zero, suc, ◌+◌, ◌-◌, ◌<◌, ◌≤◌, ◌+ℤ◌, Bool, true, false, cond, ◌||◌, List, [], ◌∷◌, ◌++◌, Option, Some, None, Vec, Global, Result, Ok, Err, length, length-append, fold, map, refl, sym, ap, ◌∙◌, subst, arith, true≢false, All, slice_get}
+use Rattle.std.proofs.Common.{◌≡◌, ℕ, ℤ, pos, zero, suc, ◌+◌, ◌-◌, ◌<◌, ◌≤◌, ◌+ℤ◌, Bool, true, false, cond, ◌||◌, List, [], ◌∷◌, ◌++◌, Option, Some, None, Vec, Global, Result, Ok, length, length-append, fold, map, refl, sym, ap, ◌∙◌, subst, arith, All}
 use Rattle.std.specs.Prelude.{filter, int_lt, unwrap_or, if◌then◌else◌}
 use Rattle.std.specs.List.{list_any, range_with_len}
 use Rattle.std.proofs.lemmas.Bool.{or_parts}
@@ -14,14 +14,13 @@ use Rattle.cbl_operations.specs.Operations.Greatest.{greatest_of}
 use Rattle.cbl_operations.specs.RuleOf.{rule_of}
 use Rattle.cbl_operations.specs.declared.op.Op.{Op}
 use Rattle.model_values.specs.Dependence.{marked}
-use Rattle.model_values.specs.Outcomes.{Outcome, gather, gathered, outcome_of}
+use Rattle.model_values.specs.Outcomes.{Outcome, gather, outcome_of}
 use Rattle.term_model.specs.declared.term.Term.{Term}
 use Rattle.term_model.specs.declared.term.Term.TheViews.{Node}
 use Rattle.violation_shares.specs.VariableViolations.{arguments_of, number_if, one_depends, share_of, total_violation, violations_where}
 use Rattle.store_shares.specs.Parts.{Reading, Told, add_told, fewer_told, fewest_told, fitted, one_in, sum_told, told, told_step, violation_if, violation_of, violations_in}
 use Rattle.store_shares.specs.Slots.{AreMarked, Slotted, joined_slots, kind_of, slot_at, slots_by, slots_of, slotted}
 use Rattle.store_shares.specs.Telling.{AllTell, AreReads, IsTold, Tells, told_of}
-use Rattle.store_shares.specs.declared.parts.Kind.{Kind}
 use Rattle.store_shares.specs.declared.parts.Kind.TheVariants.{Every, One, Negation, Plain}
 use Rattle.store_shares.specs.declared.parts.Part.{Part}
 use Rattle.store_shares.specs.declared.parts.Part.TheOpen.{Part-F}
@@ -172,11 +171,11 @@ module _ (ids : Term → ℕ) (part : Part) (t : Term) (first id : ℕ) (at : id
         let long : length (slots_of t) ≡ length args.items = ap length slots ∙ length_mapped (λ (s : Slotted). s.vars) (map slotted args.items) ∙ length_mapped slotted args.items in
         let whole : first + length (slots_of t) ≡ end = ap (λ n. first + n) long ∙ sym width in
         let any : one_in test first end ≡ one_depends (arguments_of (map (share_of users env depends) args.items)).depends =
-            ap (one_in test first) (sym whole) ∙ one_in_any test depends first (slots_of t) marks ∙ ap (list_any (list_any depends)) slots ∙ slots_any users env depends args.items ∙ sym (one_of users env depends args.items) in
+        ap (one_in test first) (sym whole) ∙ one_in_any test depends first (slots_of t) marks ∙ ap (list_any (list_any depends)) slots ∙ slots_any users env depends args.items ∙ sym (one_of users env depends args.items) in
         let violation : share users env depends t ≡ Ok (if one_depends (arguments_of (map (share_of users env depends) args.items)).depends then number_of v.0 else pos 0) =
-            node_violation users env depends t op args place node v.0 values.0 v.1 values.1 ∙ ap (λ k. violation_by_kind users env depends op k (arguments_of (map (share_of users env depends) args.items)) values.0 v.0) kind in
+        node_violation users env depends t op args place node v.0 values.0 v.1 values.1 ∙ ap (λ k. violation_by_kind users env depends op k (arguments_of (map (share_of users env depends) args.items)) values.0 v.0) kind in
         let right : Ok (if one_in test first end then reading.number id else pos 0) ≡ share users env depends t =
-            ap (λ b. Ok (if b then reading.number id else pos 0)) any ∙ ap (λ n. Ok (if one_depends (arguments_of (map (share_of users env depends) args.items)).depends then n else pos 0)) (ap reading.number at ∙ sym v.2) ∙ sym violation in
+        ap (λ b. Ok (if b then reading.number id else pos 0)) any ∙ ap (λ n. Ok (if one_depends (arguments_of (map (share_of users env depends) args.items)).depends then n else pos 0)) (ap reading.number at ∙ sym v.2) ∙ sym violation in
         made users env depends known reading test reads is_known (Ok (if one_in test first end then reading.number id else pos 0))
         (ap (told reading test) (form ∙ sym (rolls-Negation id first end)) ∙ fold-roll-Part Told (told_step reading test) (Part-F.Negation id first end))
         right
@@ -196,16 +195,18 @@ module _ (ids : Term → ℕ) (part : Part) (t : Term) (first id : ℕ) (at : id
         let span : end - first ≡ length values.0 = omega (arith, width, count) in
         let here : first ≡ first + 0 = omega arith in
         let each : (j : ℕ) → 0 ≤ j → j < 0 + length values.0 → (test (first + j) ≡ marked (map (dep users env depends) args.items) j) × ((rule_of users op).violation_at values.0 j ≡ reading.violation id j) =
-            λ j le lt. (marks j (omega (arith, lt, count, long)) ∙ ap (λ ss. list_any depends (slot_at ss j)) slots ∙ marked_slots users env depends args.items j (omega (arith, lt, count)),
-            reads.violation t op args place values.0 j node is_known values.1 (omega (arith, lt)) ∙ ap (λ n. reading.violation n j) (sym at)) in
+        λ j le lt. (
+          marks j (omega (arith, lt, count, long)) ∙ ap (λ ss. list_any depends (slot_at ss j)) slots ∙ marked_slots users env depends args.items j (omega (arith, lt, count)),
+          reads.violation t op args place values.0 j node is_known values.1 (omega (arith, lt)) ∙ ap (λ n. reading.violation n j) (sym at),
+        ) in
         let lists : violations_in reading test id first end ≡ violations_where (map (dep users env depends) args.items) ((rule_of users op).violation_at values.0) (length values.0) =
-            ap (λ n. map (λ k. reading.violation id (k - first)) (filter test (range_with_len first n))) span
-            ∙ ap (λ n. map (λ k. reading.violation id (k - first)) (filter test (range_with_len n (length values.0)))) here
-            ∙ same_places test (marked (map (dep users env depends) args.items)) (reading.violation id) ((rule_of users op).violation_at values.0) first 0 (length values.0) each in
+        ap (λ n. map (λ k. reading.violation id (k - first)) (filter test (range_with_len first n))) span
+        ∙ ap (λ n. map (λ k. reading.violation id (k - first)) (filter test (range_with_len n (length values.0)))) here
+        ∙ same_places test (marked (map (dep users env depends) args.items)) (reading.violation id) ((rule_of users op).violation_at values.0) first 0 (length values.0) each in
         let violation : share users env depends t ≡ Ok (greatest_of (violations_where (arguments_of (map (share_of users env depends) args.items)).depends ((rule_of users op).violation_at values.0) (length values.0))) =
-            node_violation users env depends t op args place node v.0 values.0 v.1 values.1 ∙ ap (λ k. violation_by_kind users env depends op k (arguments_of (map (share_of users env depends) args.items)) values.0 v.0) kind in
+        node_violation users env depends t op args place node v.0 values.0 v.1 values.1 ∙ ap (λ k. violation_by_kind users env depends op k (arguments_of (map (share_of users env depends) args.items)) values.0 v.0) kind in
         let right : Ok (greatest_of (violations_in reading test id first end)) ≡ share users env depends t =
-            ap (λ vs. Ok (greatest_of vs)) (lists ∙ ap (λ ds. violations_where ds ((rule_of users op).violation_at values.0) (length values.0)) (sym (depends_of users env depends args.items))) ∙ sym violation in
+        ap (λ vs. Ok (greatest_of vs)) (lists ∙ ap (λ ds. violations_where ds ((rule_of users op).violation_at values.0) (length values.0)) (sym (depends_of users env depends args.items))) ∙ sym violation in
         made users env depends known reading test reads is_known (Ok (greatest_of (violations_in reading test id first end)))
         (ap (told reading test) (form ∙ sym (rolls-Plain id first end)) ∙ fold-roll-Part Told (told_step reading test) (Part-F.Plain id first end))
         right
@@ -295,13 +296,13 @@ module _ (ids : Term → ℕ) (part : Part) (t : Term) (first id : ℕ) (at : id
       let marks' : AreMarked test depends first (joined_slots (map slots_of args.items)) = subst (AreMarked test depends first) slots marks in
       let same = all_right ids users env depends known reading test reads parts.items args.items first tell knows marks' in
       let violation : share users env depends t ≡ fitted (sum_told (map (share users env depends) args.items)) =
-          node_violation users env depends t op args place node v.0 values.0 v.1 values.1 ∙ ap (λ k. violation_by_kind users env depends op k (arguments_of (map (share_of users env depends) args.items)) values.0 v.0) kind
-          ∙ ap total_violation (violations_of users env depends args.items) ∙ sum_is (map (share users env depends) args.items) in
+      node_violation users env depends t op args place node v.0 values.0 v.1 values.1 ∙ ap (λ k. violation_by_kind users env depends op k (arguments_of (map (share_of users env depends) args.items)) values.0 v.0) kind
+      ∙ ap total_violation (violations_of users env depends args.items) ∙ sum_is (map (share users env depends) args.items) in
       let none : one_in test first end ≡ false → share users env depends t ≡ Ok (pos 0) = λ h.
-          violation ∙ ap (λ vs. fitted (sum_told vs)) (all_none ids users env depends known reading test reads parts.items args.items first tell knows marks'
-          (sym (ap (list_any (list_any depends)) slots) ∙ sym (one_in_any test depends first (slots_of t) marks) ∙ ap (one_in test first) (sym width) ∙ h)) ∙ ap fitted (zeros args.items (pos 0)) in
+      violation ∙ ap (λ vs. fitted (sum_told vs)) (all_none ids users env depends known reading test reads parts.items args.items first tell knows marks'
+      (sym (ap (list_any (list_any depends)) slots) ∙ sym (one_in_any test depends first (slots_of t) marks) ∙ ap (one_in test first) (sym width) ∙ h)) ∙ ap fitted (zeros args.items (pos 0)) in
       let sums : fitted (sum_told (map violation_of (map (told reading test) parts.items))) ≡ share users env depends t =
-          ap (λ ts. fitted (sum_told (map violation_of ts))) same ∙ ap (λ vs. fitted (sum_told vs)) (violations_told users env depends args.items) ∙ sym violation in
+      ap (λ ts. fitted (sum_told (map violation_of ts))) same ∙ ap (λ vs. fitted (sum_told vs)) (violations_told users env depends args.items) ∙ sym violation in
       made ids part t first id at users env depends known reading test reads is_known
       (if one_in test first end then fitted (sum_told (map violation_of (map (told reading test) parts.items))) else Ok (pos 0))
       (ap (told reading test) (form ∙ sym (rolls-Every id first end parts)) ∙ fold-roll-Part Told (told_step reading test) (Part-F.Every id first end parts))
@@ -318,11 +319,11 @@ module _ (ids : Term → ℕ) (part : Part) (t : Term) (first id : ℕ) (at : id
       let marks' : AreMarked test depends first (joined_slots (map slots_of args.items)) = subst (AreMarked test depends first) slots marks in
       let same = all_right ids users env depends known reading test reads parts.items args.items first tell knows marks' in
       let violation : share users env depends t ≡ violation_if (fewest_told (map (told_of users env depends) args.items)) =
-          node_violation users env depends t op args place node v.0 values.0 v.1 values.1 ∙ ap (λ k. violation_by_kind users env depends op k (arguments_of (map (share_of users env depends) args.items)) values.0 v.0) kind
-          ∙ fewest_is users env depends args.items in
+      node_violation users env depends t op args place node v.0 values.0 v.1 values.1 ∙ ap (λ k. violation_by_kind users env depends op k (arguments_of (map (share_of users env depends) args.items)) values.0 v.0) kind
+      ∙ fewest_is users env depends args.items in
       let none : one_in test first end ≡ false → share users env depends t ≡ Ok (pos 0) = λ h.
-          violation ∙ fewest_zero users env depends args.items None refl (all_none ids users env depends known reading test reads parts.items args.items first tell knows marks'
-          (sym (ap (list_any (list_any depends)) slots) ∙ sym (one_in_any test depends first (slots_of t) marks) ∙ ap (one_in test first) (sym width) ∙ h)) in
+      violation ∙ fewest_zero users env depends args.items None refl (all_none ids users env depends known reading test reads parts.items args.items first tell knows marks'
+      (sym (ap (list_any (list_any depends)) slots) ∙ sym (one_in_any test depends first (slots_of t) marks) ∙ ap (one_in test first) (sym width) ∙ h)) in
       let least : violation_if (fewest_told (map (told reading test) parts.items)) ≡ share users env depends t = ap (λ ts. violation_if (fewest_told ts)) same ∙ sym violation in
       made ids part t first id at users env depends known reading test reads is_known
       (if one_in test first end then violation_if (fewest_told (map (told reading test) parts.items)) else Ok (pos 0))

@@ -6,7 +6,6 @@ use Rattle.std.specs.List.{list_any}
 use Rattle.std.proofs.lemmas.Int.{ints}
 use Rattle.std.proofs.lemmas.List.{append_assoc, append-nil}
 use Rattle.std.proofs.lemmas.List.Folds.{list_any-append}
-use Rattle.cbl_base.specs.Arithmetic.{exact}
 use Rattle.cbl_base.specs.Inputs.{number_of}
 use Rattle.cbl_base.specs.NumberRule.{NumberRule}
 use Rattle.cbl_base.specs.Totals.{total}
@@ -26,7 +25,7 @@ use Rattle.term_model.specs.declared.term.Term.TheOpen.{Term-F}
 use Rattle.term_model.specs.declared.term.Term.TheViews.{roll-Term, Node}
 use Rattle.term_model.specs.declared.term.Term.TheVariants.{rolls-Node}
 use Rattle.term_model.specs.declared.term.Term.TheFolds.{fold-roll-Term, map-Term, ind-Term}
-use Rattle.violation_shares.specs.VariableViolations.{Arguments, arguments_of, fewer, leaf_share, gather_violation, no_arguments, node_share, number_if, one_depends, share_of, share_step, total_violation, violation_in, violation_of_fewest, violations_where, with_argument}
+use Rattle.violation_shares.specs.VariableViolations.{Arguments, arguments_of, fewer, leaf_share, gather_violation, no_arguments, number_if, one_depends, share_of, share_step, total_violation, violation_in, violation_of_fewest, violations_where, with_argument}
 use Rattle.store_shares.specs.Parts.{Told, add_told, fewer_told, fewest_told, fitted, violation_if}
 use Rattle.store_shares.specs.Telling.{told_of}
 use Rattle.store_shares.specs.Slots.{Slotted, kind_of, slots_by, slots_of, slots_step, slotted}
@@ -101,19 +100,31 @@ module _ (users : ℕ → NumberRule) (env : ℕ → Outcome) (depends : ℕ →
   layer : (y : Term-F Known) → Facts users env depends (roll-Term (map-Term Known Term (λ e. e.0) y))
   layer (Term-F.Const x) =
       let z : Term-F Term = Term-F.Const x in
-      record { value = ap (λ (s : Share). s.outcome) (fold-roll-Term Share (share_step users env depends) z) ∙ sym (fold-roll-Term Outcome (outcome_step users env) z); dependence =
-       ap (λ (s : Share). s.depends) (fold-roll-Term Share (share_step users env depends) z) ∙ sym (ap (list_any depends) (fold-roll-Term (List ℕ) vars_step z)); named =
-       ap (λ (s : Slotted). s.vars) (fold-roll-Term Slotted slots_step z) ∙ sym (fold-roll-Term (List ℕ) vars_step z) }
+      record {
+        value = ap (λ (s : Share). s.outcome) (fold-roll-Term Share (share_step users env depends) z) ∙ sym (fold-roll-Term Outcome (outcome_step users env) z);
+        dependence =
+            ap (λ (s : Share). s.depends) (fold-roll-Term Share (share_step users env depends) z) ∙ sym (ap (list_any depends) (fold-roll-Term (List ℕ) vars_step z));
+        named =
+            ap (λ (s : Slotted). s.vars) (fold-roll-Term Slotted slots_step z) ∙ sym (fold-roll-Term (List ℕ) vars_step z);
+      }
   layer (Term-F.ConstSet x) =
       let z : Term-F Term = Term-F.ConstSet x in
-      record { value = ap (λ (s : Share). s.outcome) (fold-roll-Term Share (share_step users env depends) z) ∙ sym (fold-roll-Term Outcome (outcome_step users env) z); dependence =
-       ap (λ (s : Share). s.depends) (fold-roll-Term Share (share_step users env depends) z) ∙ sym (ap (list_any depends) (fold-roll-Term (List ℕ) vars_step z)); named =
-       ap (λ (s : Slotted). s.vars) (fold-roll-Term Slotted slots_step z) ∙ sym (fold-roll-Term (List ℕ) vars_step z) }
+      record {
+        value = ap (λ (s : Share). s.outcome) (fold-roll-Term Share (share_step users env depends) z) ∙ sym (fold-roll-Term Outcome (outcome_step users env) z);
+        dependence =
+            ap (λ (s : Share). s.depends) (fold-roll-Term Share (share_step users env depends) z) ∙ sym (ap (list_any depends) (fold-roll-Term (List ℕ) vars_step z));
+        named =
+            ap (λ (s : Slotted). s.vars) (fold-roll-Term Slotted slots_step z) ∙ sym (fold-roll-Term (List ℕ) vars_step z);
+      }
   layer (Term-F.Var v) =
       let z : Term-F Term = Term-F.Var v in
-      record { value = ap (λ (s : Share). s.outcome) (fold-roll-Term Share (share_step users env depends) z) ∙ sym (fold-roll-Term Outcome (outcome_step users env) z); dependence =
-       ap (λ (s : Share). s.depends) (fold-roll-Term Share (share_step users env depends) z) ∙ sym (or_false (depends v.index)) ∙ sym (ap (list_any depends) (fold-roll-Term (List ℕ) vars_step z)); named =
-       ap (λ (s : Slotted). s.vars) (fold-roll-Term Slotted slots_step z) ∙ sym (fold-roll-Term (List ℕ) vars_step z) }
+      record {
+        value = ap (λ (s : Share). s.outcome) (fold-roll-Term Share (share_step users env depends) z) ∙ sym (fold-roll-Term Outcome (outcome_step users env) z);
+        dependence =
+            ap (λ (s : Share). s.depends) (fold-roll-Term Share (share_step users env depends) z) ∙ sym (or_false (depends v.index)) ∙ sym (ap (list_any depends) (fold-roll-Term (List ℕ) vars_step z));
+        named =
+            ap (λ (s : Slotted). s.vars) (fold-roll-Term Slotted slots_step z) ∙ sym (fold-roll-Term (List ℕ) vars_step z);
+      }
     where
       or_false : (b : Bool) → (b || false) ≡ b
       or_false true = refl
@@ -121,9 +132,13 @@ module _ (users : ℕ → NumberRule) (env : ℕ → Outcome) (depends : ℕ →
   layer (Term-F.Node op args place) =
       let z = map-Term Known Term (λ e. e.0) (Term-F.Node op args place) in
       let items : List Term = map (λ (e : Known). e.0) args.items in
-      record { value = ap (λ (s : Share). s.outcome) (fold-roll-Term Share (share_step users env depends) z) ∙ ap (λ os. operated users op (gathered os)) (outcomes_same args.items) ∙ sym (fold-roll-Term Outcome (outcome_step users env) z); dependence =
-       ap (λ (s : Share). s.depends) (fold-roll-Term Share (share_step users env depends) z) ∙ one_of items ∙ depends_same args.items ∙ sym (any_joined depends items) ∙ sym (ap (list_any depends) (fold-roll-Term (List ℕ) vars_step z)); named =
-       ap (λ (s : Slotted). s.vars) (fold-roll-Term Slotted slots_step z) ∙ ap joined (vars_same args.items) ∙ sym (fold-roll-Term (List ℕ) vars_step z) }
+      record {
+        value = ap (λ (s : Share). s.outcome) (fold-roll-Term Share (share_step users env depends) z) ∙ ap (λ os. operated users op (gathered os)) (outcomes_same args.items) ∙ sym (fold-roll-Term Outcome (outcome_step users env) z);
+        dependence =
+            ap (λ (s : Share). s.depends) (fold-roll-Term Share (share_step users env depends) z) ∙ one_of items ∙ depends_same args.items ∙ sym (any_joined depends items) ∙ sym (ap (list_any depends) (fold-roll-Term (List ℕ) vars_step z));
+        named =
+            ap (λ (s : Slotted). s.vars) (fold-roll-Term Slotted slots_step z) ∙ ap joined (vars_same args.items) ∙ sym (fold-roll-Term (List ℕ) vars_step z);
+      }
 
   pub facts : (t : Term) → Facts users env depends t
   facts = ind-Term (Facts users env depends) (λ x y is. subst (λ z. Facts users env depends (roll-Term z)) is (layer y))

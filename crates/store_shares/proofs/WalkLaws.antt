@@ -1,9 +1,8 @@
 -- Walks one after another, and parts one after another.
-use Rattle.std.proofs.Common.{◌≡◌, ℕ, pos, zero, suc, ◌+◌, ◌-◌, ◌<◌, ◌≤◌, Bool, true, false, true≢false, List, [], ◌∷◌, ◌++◌, Vec, Global, All, Result, Ok, length, length-append, get_or, take, drop, map, refl, sym, ap, ◌∙◌, subst, arith}
+use Rattle.std.proofs.Common.{◌≡◌, ℕ, pos, ◌+◌, ◌-◌, ◌<◌, Bool, true, false, true≢false, List, [], ◌∷◌, ◌++◌, Vec, Global, All, Ok, length, length-append, get_or, take, drop, map, refl, sym, ap, ◌∙◌, subst, arith}
 use Rattle.std.proofs.lemmas.List.{append_assoc, append-nil, map-append, take_more, take_all}
 use Rattle.std.proofs.lemmas.List.Elements.{All-get_or}
 use Rattle.cbl_base.specs.NumberRule.{NumberRule}
-use Rattle.cbl_base.specs.declared.faults.RunFault.{RunFault}
 use Rattle.cbl_base.specs.declared.place.Place.{Place}
 use Rattle.cbl_operations.specs.declared.op.Op.{Op}
 use Rattle.model_values.specs.Outcomes.{Outcome}
@@ -66,13 +65,13 @@ pub walked_then : (old mid new : Walk) (xs ys : List (List ℕ)) → IsWalked ol
 walked_then old mid new xs ys first second = record {
   naming = λ variables lists naming. subst (IsNaming variables new.slots) (append_assoc lists xs ys) (second.naming variables (lists ++ xs) (first.naming variables lists naming));
   count =
-    let a = first.count in
-    let b = second.count in
-    let c = length-append xs ys in
-    omega (arith, a, b, c);
+      let a = first.count in
+      let b = second.count in
+      let c = length-append xs ys in
+      omega (arith, a, b, c);
   named =
-    second.named ∙ ap (λ l. l ++ joined ys) first.named ∙ append_assoc old.named.items (joined xs) (joined ys)
-    ∙ ap (λ l. old.named.items ++ l) (sym (joined_append xs ys));
+      second.named ∙ ap (λ l. l ++ joined ys) first.named ∙ append_assoc old.named.items (joined xs) (joined ys)
+      ∙ ap (λ l. old.named.items ++ l) (sym (joined_append xs ys));
 }
 
 pub walked_one : (old new : Walk) (vars : List ℕ) → ((variables : ℕ) (lists : List (List ℕ)) → IsNaming variables old.slots lists → IsNaming variables new.slots (lists ++ vars ∷ [])) →

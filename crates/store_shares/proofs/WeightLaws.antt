@@ -1,5 +1,5 @@
 -- What is kept of a model is kept of each that differs from it in weights alone.
-use Rattle.std.proofs.Common.{◌≡◌, ℕ, zero, suc, ◌<◌, Bool, ◌||◌, List, [], ◌∷◌, Option, Some, None, length, map, refl, sym, ap, ◌∙◌, subst, arith, slice_get}
+use Rattle.std.proofs.Common.{◌≡◌, ℕ, zero, suc, ◌<◌, ◌||◌, List, [], ◌∷◌, Some, None, length, map, refl, sym, ap, ◌∙◌, subst, slice_get}
 use Rattle.std.specs.Prelude.{nat_eq, unwrap_or}
 use Rattle.std.specs.List.{list_any}
 use Rattle.std.specs.Option.{option_map}
@@ -63,7 +63,7 @@ module _ (M N : Model) (same : AreSameButWeights M N) where
     slot_sets = sets_kept kept.slots shares kept.slot_sets;
     member_sets = member_sets_kept kept.members shares kept.member_sets;
     systems = λ s total at.
-      let there : slice_get (map terms_of M.systems.items) s ≡ Some (terms_of total) = ap (λ l. slice_get l s) (sym same.terms) ∙ slice_get-map terms_of N.systems.items s ∙ ap (option_map terms_of) at in
-      let old = terms_there M.systems.items s (terms_of total) there in
-      subst (IsSystem ids shares kept.slots kept.members s) old.2 (kept.systems s old.0 old.1);
+        let there : slice_get (map terms_of M.systems.items) s ≡ Some (terms_of total) = ap (λ l. slice_get l s) (sym same.terms) ∙ slice_get-map terms_of N.systems.items s ∙ ap (option_map terms_of) at in
+        let old = terms_there M.systems.items s (terms_of total) there in
+        subst (IsSystem ids shares kept.slots kept.members s) old.2 (kept.systems s old.0 old.1);
   }

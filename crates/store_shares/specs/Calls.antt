@@ -1,5 +1,5 @@
 -- What a call comes to: the parts of a system's members, each told, times the members' weights. A rule of this project.
-use Rattle.std.specs.Prelude.{◌≡◌, ℕ, ℤ, pos, ◌+◌, ◌+ℤ◌, ◌*ℤ◌, ◌<◌, ◌≤◌, ◌&&◌, Bool, true, false, List, [], ◌∷◌, length, map, Some, slice_get, Result, Ok, Err, if◌then◌else◌}
+use Rattle.std.specs.Prelude.{◌≡◌, ℕ, ℤ, pos, ◌+◌, ◌+ℤ◌, ◌*ℤ◌, ◌&&◌, Bool, true, false, List, [], ◌∷◌, Some, slice_get, Result, Ok, Err, if◌then◌else◌}
 use Rattle.cbl_base.specs.Arithmetic.{exact, fits_64}
 use Rattle.cbl_base.specs.declared.faults.RunFault.{RunFault}
 use Rattle.cbl_base.specs.declared.faults.RunFault.TheVariants.{Overflow}

@@ -1,6 +1,6 @@
 -- What a part of a constraint tells of a variable, from the values and the violations that are read, where some slots
 -- depend on the variable. A rule of this project.
-use Rattle.std.specs.Prelude.{◌≡◌, ℕ, ℤ, pos, ◌+◌, ◌-◌, ◌+ℤ◌, Bool, List, [], ◌∷◌, fold, map, filter, Option, Some, None, Result, Ok, Err, int_lt, slice_get, if◌then◌else◌}
+use Rattle.std.specs.Prelude.{ℕ, ℤ, pos, ◌-◌, ◌+ℤ◌, Bool, List, fold, map, filter, Option, Some, None, Result, Ok, Err, int_lt, slice_get, if◌then◌else◌}
 use Rattle.std.specs.Int.{int_max}
 use Rattle.std.specs.Option.{option_map}
 use Rattle.std.specs.List.{list_any, range_with_len}

@@ -1,6 +1,6 @@
 -- What a part of a constraint must tell: the number of its term, and the variable's violations in it, whatever is read, as
 -- long as what is read are the values and violations of the terms. A rule of this project.
-use Rattle.std.specs.Prelude.{◌≡◌, ℕ, ℤ, pos, ◌+◌, ◌<◌, Bool, true, false, List, [], ◌∷◌, length, map, Option, Some, Ok, Vec}
+use Rattle.std.specs.Prelude.{◌≡◌, ℕ, pos, ◌+◌, ◌<◌, Bool, true, false, List, [], ◌∷◌, length, map, Some, Ok, Vec}
 use Rattle.std.specs.List.{All}
 use Rattle.std.specs.declared.alloc.Global.{Global}
 use Rattle.cbl_base.specs.Inputs.{number_of}

@@ -34,7 +34,9 @@ fn is_known(sets: &[Option<Vec<Word>>], variable: usize) -> bool
 fn are_known(sets: &[Option<Vec<Word>>], variables: &[u32]) -> bool
     ensures { result ≡ list_all (is_known sets.now) variables.now }
 {
-    variables.iter().all(|variable| is_known(sets, *variable as usize))
+    variables
+        .iter()
+        .all(|variable| is_known(sets, *variable as usize))
 }
 
 /// The set of a variable, empty where it isn't known.

@@ -48,12 +48,14 @@ fn none_made(alloc: Global, variables: usize) -> Result<Making, NoMemory>
 fn push_member<I: Ids>(making: &mut Making, ids: &mut I, term: &Term) -> Result<(), NoMemory>
     requires knows { I.knows ids.old term.now ≡ true }
     requires closed { IsClosed (I.knows ids.old) }
+    requires ready { I.is_ready ids.old }
     ensures more { OnOk result ((variables : ℕ) (terms : List Term) →
         IsMaking variables (I.id_of ids.old) making.old terms →
         IsMaking variables (I.id_of ids.old) making.new (terms ++ term.now ∷ [])) }
     ensures systems { OnOk result (making.new.systems.items ≡ making.old.systems.items) }
     ensures same_ids { I.id_of ids.new ≡ I.id_of ids.old }
     ensures same_known { I.knows ids.new ≡ I.knows ids.old }
+    ensures ready { I.is_ready ids.new }
 {
     making.walk.named.clear();
     let part = part_of(&mut making.walk, ids, term)?;
@@ -66,12 +68,14 @@ fn push_member<I: Ids>(making: &mut Making, ids: &mut I, term: &Term) -> Result<
 fn push_members<I: Ids>(making: &mut Making, ids: &mut I, total: &Total) -> Result<(), NoMemory>
     requires knows { All (λ t. I.knows ids.old t ≡ true) (terms_of total.now) }
     requires closed { IsClosed (I.knows ids.old) }
+    requires ready { I.is_ready ids.old }
     ensures more { OnOk result ((variables : ℕ) (terms : List Term) →
         IsMaking variables (I.id_of ids.old) making.old terms →
         IsMaking variables (I.id_of ids.old) making.new (terms ++ terms_of total.now)) }
     ensures systems { OnOk result (making.new.systems.items ≡ making.old.systems.items) }
     ensures same_ids { I.id_of ids.new ≡ I.id_of ids.old }
     ensures same_known { I.knows ids.new ≡ I.knows ids.old }
+    ensures ready { I.is_ready ids.new }
 {
     for member in &total.members {
         push_member(making, ids, &member.term)?;
@@ -83,11 +87,13 @@ fn push_members<I: Ids>(making: &mut Making, ids: &mut I, total: &Total) -> Resu
 fn push_system<I: Ids>(making: &mut Making, ids: &mut I, total: &Total) -> Result<(), NoMemory>
     requires knows { All (λ t. I.knows ids.old t ≡ true) (terms_of total.now) }
     requires closed { IsClosed (I.knows ids.old) }
+    requires ready { I.is_ready ids.old }
     ensures more { OnOk result ((variables : ℕ) (totals : List Total) →
         IsMakingOf variables (I.id_of ids.old) making.old totals →
         IsMakingOf variables (I.id_of ids.old) making.new (totals ++ total.now ∷ [])) }
     ensures same_ids { I.id_of ids.new ≡ I.id_of ids.old }
     ensures same_known { I.knows ids.new ≡ I.knows ids.old }
+    ensures ready { I.is_ready ids.new }
 {
     let first = making.parts.len();
     push_members(making, ids, total)?;
@@ -105,6 +111,7 @@ pub(crate) fn parts_made<I: Ids>(
 ) -> Result<Making, NoMemory>
     requires knows { All (λ total. All (λ t. I.knows ids.old t ≡ true) (terms_of total)) totals.now }
     requires closed { IsClosed (I.knows ids.old) }
+    requires ready { I.is_ready ids.old }
     ensures { IfOk result (λ making. IsMakingOf variables (I.id_of ids.old) making totals.now) }
 {
     let mut making = none_made(alloc, variables)?;

@@ -13,9 +13,19 @@ use cbl_violations::Constraint;
 #[derive(Drop)]
 pub(crate) enum Part {
     /// A term that tells no violations of its own.
-    Leaf { id: u32 },
-    Negation { id: u32, first: usize, end: usize },
-    Plain { id: u32, first: usize, end: usize },
+    Leaf {
+        id: u32,
+    },
+    Negation {
+        id: u32,
+        first: usize,
+        end: usize,
+    },
+    Plain {
+        id: u32,
+        first: usize,
+        end: usize,
+    },
     /// All of its parts are to hold.
     Every {
         id: u32,

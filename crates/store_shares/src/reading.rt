@@ -144,7 +144,12 @@ pub(crate) fn share<H: Held>(held: &H, words: &[Word], part: &Part) -> Result<i6
         Part::Leaf { .. } => Ok(0),
         Part::Negation { id, first, end } => Ok(negation(held, words, *id, *first, *end)),
         Part::Plain { id, first, end } => Ok(greatest(held, words, *id, *first, *end)),
-        Part::Every { first, end, parts, .. } => {
+        Part::Every {
+            first,
+            end,
+            parts,
+            ..
+        } => {
             if !has_one(words, *first, *end) {
                 return Ok(0);
             }
@@ -157,7 +162,12 @@ pub(crate) fn share<H: Held>(held: &H, words: &[Word], part: &Part) -> Result<i6
             }
             narrowed(sum)
         }
-        Part::One { first, end, parts, .. } => {
+        Part::One {
+            first,
+            end,
+            parts,
+            ..
+        } => {
             if !has_one(words, *first, *end) {
                 return Ok(0);
             }

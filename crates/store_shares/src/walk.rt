@@ -68,10 +68,12 @@ fn push_slots(walk: &mut Walk, arguments: &[Term]) -> Result<(), NoMemory>
 pub(crate) fn part_of<I: Ids>(walk: &mut Walk, ids: &mut I, term: &Term) -> Result<Part, NoMemory>
     requires knows { I.knows ids.old term.now ≡ true }
     requires closed { IsClosed (I.knows ids.old) }
+    requires ready { I.is_ready ids.old }
     ensures walked { OnOk result (IsWalked walk.old walk.new (slots_of term.now)) }
     ensures tells { IfOk result (λ part. Tells (I.id_of ids.old) part term.now walk.old.slots.count) }
     ensures same_ids { I.id_of ids.new ≡ I.id_of ids.old }
     ensures same_known { I.knows ids.new ≡ I.knows ids.old }
+    ensures ready { I.is_ready ids.new }
 {
     let id = ids.id(term)?;
     let Term::Node { op, args, place: _ } = term else {

@@ -163,7 +163,12 @@ fn is_left(first: &[Word], second: &[Word], left: usize, right: usize) -> bool
 }
 
 /// Takes the next word of two sets.
-fn join_next(first: &[Word], second: &[Word], turn: usize, state: &mut Joining) -> Result<(), NoMemory>
+fn join_next(
+    first: &[Word],
+    second: &[Word],
+    turn: usize,
+    state: &mut Joining,
+) -> Result<(), NoMemory>
     requires joining { IsJoining first.now second.now turn state.old }
     requires within { turn < length first.now + length second.now }
     requires one { IsRising first.now }

@@ -1,4 +1,4 @@
-use Rattle.std.proofs.Common.{rules, map, length, refl, sym, ◌∙◌}
+use Rattle.std.proofs.Common.{rules, refl, sym, ◌∙◌}
 use Rattle.std.proofs.lemmas.List.{length-map}
 use Rattle.inc_store.specs.Views.{rules_in}
 use Rattle.posted_users.specs.KeptOf.{kept_of}

@@ -1,4 +1,4 @@
-use Rattle.std.proofs.Common.{rules, ◌≡◌, ◌<◌, ℤ, Result, Some, Err, length, refl, slice_get, subst}
+use Rattle.std.proofs.Common.{rules, ◌≡◌, ℤ, Result, Some, Err, refl, slice_get, subst}
 use Rattle.std.proofs.lemmas.Option.{slice_get_read, slice_get_within}
 use Rattle.graph_values.specs.WholeGraphs.{total_id}
 use Rattle.store_laws.specs.Deltas.{IsTold}

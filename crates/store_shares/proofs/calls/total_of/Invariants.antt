@@ -1,4 +1,4 @@
-use Rattle.std.proofs.Common.{◌≡◌, ◌+◌, ◌-◌, ◌*◌, ◌^◌, ◌<◌, ◌≤◌, pos, true, drop, length, map}
+use Rattle.std.proofs.Common.{◌≡◌, ◌-◌, ◌*◌, ◌^◌, ◌≤◌, pos, drop, length, map}
 use Rattle.std.specs.Prelude.{◌≤ℤ◌, neg_ℤ}
 use Rattle.std.specs.List.{range_with_len}
 use Rattle.store_shares.specs.Calls.{AreZero, no_tally, tally_all}
@@ -15,7 +15,7 @@ invariant-loop-at g l = record {
   rest : AreZero (has l.touched) l.first (map violation_of (map (told (record { number = g.H.Held.number_of l.held; violation = g.H.Held.violation_of l.held }) (has l.slots)) l.parts)) →
       tally_all no_tally (map violation_of (map (told (record { number = g.H.Held.number_of l.held; violation = g.H.Held.violation_of l.held }) (has l.slots)) l.parts)) (map (g.H.Held.weight_of l.held l.system) (range_with_len 0 (length l.parts)))
       ≡ tally_all l.tally (drop (l.at - l.first) (map violation_of (map (told (record { number = g.H.Held.number_of l.held; violation = g.H.Held.violation_of l.held }) (has l.slots)) l.parts)))
-          (drop (l.at - l.first) (map (g.H.Held.weight_of l.held l.system) (range_with_len 0 (length l.parts))));
+      (drop (l.at - l.first) (map (g.H.Held.weight_of l.held l.system) (range_with_len 0 (length l.parts))));
 }
 
 abbrev pub decreases-loop-at : goal.decreases-loop-at

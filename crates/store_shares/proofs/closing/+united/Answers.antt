@@ -1,4 +1,4 @@
-use Rattle.std.proofs.Common.{◌≡◌, ◌∙◌, ◌-◌, ◌/◌, ◌||◌, false, length, take, drop, ap}
+use Rattle.std.proofs.Common.{◌∙◌, ◌/◌, ◌||◌, false, length, take, ap}
 use Rattle.std.specs.List.{list_any}
 use Rattle.std.proofs.lemmas.List.{take_rest}
 use Rattle.store_shares.specs.Settled.{known_words}

@@ -1,4 +1,4 @@
-use Rattle.std.proofs.Common.{◌≡◌, ◌∙◌, ◌<◌, ℕ, true, length, arith, ap, sym, subst}
+use Rattle.std.proofs.Common.{◌≡◌, ◌<◌, ℕ, true, length, arith, sym, subst}
 use Rattle.layer_plan.specs.Dependencies.{list_of}
 use Rattle.store_shares.specs.Settled.{is_known}
 use Rattle.store_shares.proofs.SettledLaws.{right_none, round_more, sets_of_right}
@@ -30,8 +30,8 @@ returns-then-are_all_known c all closes =
     let before = c.loop-round.invariant in
     sets_of_right all (length c.args.own.now) c.loop-round.sets.items (before.right all closes) before.rising
     (λ x lt.
-        let known = subst (λ ss. (y : ℕ) → y < length ss → is_known ss y ≡ true) c.deref.ensures.value (c.are_all_known.ensures c.if-are_all_known.true) in
-        known x (subst (λ n. x < n) (sym before.count) lt))
+    let known = subst (λ ss. (y : ℕ) → y < length ss → is_known ss y ≡ true) c.deref.ensures.value (c.are_all_known.ensures c.if-are_all_known.true) in
+    known x (subst (λ n. x < n) (sym before.count) lt))
 
 pub returns : goal.returns
 returns c all closes =

@@ -1,7 +1,6 @@
-use Rattle.std.proofs.Common.{◌≡◌, ◌∙◌, ◌+◌, ◌++◌, ◌∷◌, [], ℕ, false, length, ap, refl, subst, sym}
+use Rattle.std.proofs.Common.{◌≡◌, ◌∙◌, ◌+◌, ◌++◌, ◌∷◌, [], length, ap, refl, subst, sym}
 use Rattle.std.specs.Prelude.{None}
 use Rattle.std.proofs.lemmas.List.{length_push}
-use Rattle.store_shares.specs.Settled.{is_known}
 use Rattle.store_shares.proofs.SettledLaws.{AreUnknown, none_more}
 use Rattle.store_shares.proofs.closing.none_known.Goals as goal
 

@@ -1,4 +1,4 @@
-use Rattle.std.proofs.Common.{◌≡◌, ◌∙◌, ◌++◌, [], ap}
+use Rattle.std.proofs.Common.{◌≡◌, ◌∙◌, ◌++◌, ap}
 use Rattle.term_model.specs.Definitions.{joined}
 use Rattle.store_shares.specs.Slots.{slots_of}
 use Rattle.store_shares.proofs.MakingLaws.{made_more}

@@ -14,6 +14,7 @@ push_member-requires g c =
       knows = ap (λ f. f c.member-item.result.term) before.same_known
           ∙ known_member (g.I.Ids.knows c.args.ids.now) c.deref-member-items.result.now c.loop-member.member-index c.member-item.result all c.loop-member-test.true c.member-item.is;
       closed = subst IsClosed (sym before.same_known) c.requires.closed;
+      ready = before.ready;
     }
 
 pub loop-member-init : goal.loop-member-init
@@ -22,6 +23,7 @@ loop-member-init g c = record {
   systems = refl;
   same_ids = refl;
   same_known = refl;
+  ready = c.requires.ready;
 }
 
 pub loop-member-preserved : goal.loop-member-preserved
@@ -32,14 +34,15 @@ loop-member-preserved g c =
     let i = c.loop-member.member-index in
     record {
       more = λ variables terms made.
-        let one = subst (λ f. IsMaking variables f c.loop-member.making (terms ++ map (λ (m : Member). m.term) (take c.loop-member.member-index c.deref-member-items.result.now))) (sym before.same_ids) (before.more variables terms made) in
-        let two = more.more variables (terms ++ map (λ (m : Member). m.term) (take c.loop-member.member-index c.deref-member-items.result.now)) one in
-        subst (λ f. IsMaking variables f c.push_member.new.making (terms ++ map (λ (m : Member). m.term) (take (c.loop-member.member-index + 1) c.deref-member-items.result.now))) before.same_ids
-        (subst (IsMaking variables (g.I.Ids.id_of c.loop-member.ids) c.push_member.new.making)
-        (members_step c.deref-member-items.result.now c.loop-member.member-index c.member-item.result terms c.loop-member-test.true c.member-item.is) two);
+          let one = subst (λ f. IsMaking variables f c.loop-member.making (terms ++ map (λ (m : Member). m.term) (take c.loop-member.member-index c.deref-member-items.result.now))) (sym before.same_ids) (before.more variables terms made) in
+          let two = more.more variables (terms ++ map (λ (m : Member). m.term) (take c.loop-member.member-index c.deref-member-items.result.now)) one in
+          subst (λ f. IsMaking variables f c.push_member.new.making (terms ++ map (λ (m : Member). m.term) (take (c.loop-member.member-index + 1) c.deref-member-items.result.now))) before.same_ids
+          (subst (IsMaking variables (g.I.Ids.id_of c.loop-member.ids) c.push_member.new.making)
+          (members_step c.deref-member-items.result.now c.loop-member.member-index c.member-item.result terms c.loop-member-test.true c.member-item.is) two);
       systems = more.systems ∙ before.systems;
       same_ids = more.same_ids ∙ before.same_ids;
       same_known = more.same_known ∙ before.same_known;
+      ready = more.ready;
     }
 
 pub returns-clause-more : goal.returns-clause-more

@@ -11,4 +11,5 @@ invariant-loop-member g l = record {
   systems : l.making.systems.items ≡ l.fn.making.systems.items;
   same_ids : g.I.Ids.id_of l.ids ≡ g.I.Ids.id_of l.fn.ids;
   same_known : g.I.Ids.knows l.ids ≡ g.I.Ids.knows l.fn.ids;
+  ready : g.I.Ids.is_ready l.ids;
 }

@@ -1,4 +1,4 @@
-use Rattle.std.proofs.Common.{take, get_or, ◌∷◌, [], ◌<◌, ◌≤◌, length, sym, subst}
+use Rattle.std.proofs.Common.{take, get_or, ◌∷◌, [], sym, subst}
 use Rattle.std.proofs.lemmas.List.{take_more, take_all}
 use Rattle.store_shares.specs.Naming.{IsPut}
 use Rattle.store_shares.proofs.NamingLaws.{put_start, put_then}

@@ -11,6 +11,7 @@ invariant-loop-arg g l = record {
   tell : AllTell (g.I.Ids.id_of l.fn.ids) l.parts.items (take l.arg-index l.arg-items) l.fn.walk.slots.count;
   same_ids : g.I.Ids.id_of l.ids ≡ g.I.Ids.id_of l.fn.ids;
   same_known : g.I.Ids.knows l.ids ≡ g.I.Ids.knows l.fn.ids;
+  ready : g.I.Ids.is_ready l.ids;
 }
 
 abbrev pub decreases-part_of : goal.decreases-part_of

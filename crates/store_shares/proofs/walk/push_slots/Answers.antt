@@ -1,4 +1,4 @@
-use Rattle.std.proofs.Common.{map, take, length, sym, ap, subst, refl}
+use Rattle.std.proofs.Common.{map, take, ap}
 use Rattle.std.proofs.lemmas.List.{take_all}
 use Rattle.term_model.specs.Definitions.{vars_of}
 use Rattle.store_shares.proofs.WalkLaws.{walked_is, walked_none, walked_slots}

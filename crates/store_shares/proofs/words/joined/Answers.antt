@@ -1,4 +1,3 @@
-use Rattle.std.proofs.Common.{arith}
 use Rattle.store_shares.proofs.WordLaws.{all_joined}
 use Rattle.store_shares.proofs.words.joined.Goals as goal
 

@@ -1,31 +1,38 @@
-use Rattle.std.proofs.Common.{◌<◌, length, subst, sym, ap, ◌∙◌}
+use Rattle.std.proofs.Common.{◌≡◌, ◌+◌, ◌*◌, ◌<◌, ◌≤◌, false, length, ap, rules, subst, sym, ◌∙◌}
+use Rattle.inc_store.specs.Moves.{is_moved}
+use Rattle.model_store.specs.Settings.{users_in}
 use Rattle.model_values.specs.Asked.{IsAnswer}
-use Rattle.model_values.specs.Delta.{AreOwn, delta_of}
-use Rattle.solver_models.specs.Replying.{reply_refusal}
+use Rattle.model_values.specs.Delta.{moved, moves_defined}
 use Rattle.solver_models.specs.State.{SolverState}
-use Rattle.solver_models.specs.Totals.{whole_of}
-use Rattle.solver_models.proofs.ReplyLaws.{replies, total_replies}
+use Rattle.solver_store.specs.Asking.{moves_by}
+use Rattle.solver_store.specs.Closed.{IsClosed}
+use Rattle.store_laws.specs.Deltas.{IsProper, Question, delta_asked}
+use Rattle.store_laws.specs.ModelTouch.{model_touch}
 use Rattle.term_model.specs.Posting.{totals_by}
-use Rattle.posted_users.specs.KeptRule.{users_of}
-use Rattle.ls_solver.proofs.AnswerLaws.{answered_there}
-use Rattle.ls_solver.proofs.CommitLaws.{seen}
+use Rattle.ls_solver.proofs.DeltaLaws.{idle_delta, is_proper}
 use Rattle.ls_solver.proofs.solver.Solver.delta_of_own.Goals as goal
-use Rattle.ls_solver.specs.Solvers.{rules_seen}
 
-pub total_delta-requires-clause-closable : goal.total_delta-requires-clause-closable
-total_delta-requires-clause-closable g c =
-    c.self.invariant.kept.closable (ap (λ (t : SolverState). t.closed) c.self.view_is ∙ (replies c.args.self.now c.args.k c.args.vars.now c.requires.own).0)
+pub returns-then-is_idle-clause-answer : goal.returns-then-is_idle-clause-answer
+returns-then-is_idle-clause-answer g c =
+    idle_delta g.N.NodeRule.rule g.N.NodeRule.held g.N.NodeRule.ready c.args.self.now c.kept-kept.result.now c.kept-kept.ensures c.args.k c.requires.1.1.1.1.1.0 c.args.change
+    (sym c.is_idle.ensures ∙ c.if-is_idle.true) (sym c.moves_defined.ensures ∙ c.if-moves_defined.false)
 
-pub total_delta-requires-clause-there : goal.total_delta-requires-clause-there
-total_delta-requires-clause-there g c =
-    subst (λ (t : SolverState). c.args.k.index < length (totals_by t.model c.args.k.side)) (sym c.self.view_is) (total_replies c.args.self.now c.args.k c.args.vars.now c.requires.own)
+pub delta-requires : goal.delta-requires
+delta-requires g c κs within =
+    (search (rules, within), (search (rules, within),
+    (subst (λ (q : Question). IsClosed g.N.NodeRule.rule g.N.NodeRule.held g.N.NodeRule.ready q.setting c.kept-kept.result.now) (sym c.requires.1.1.0) c.kept-kept.ensures,
+    (ap (λ (q : Question). q.setting.model) c.requires.1.1.0 ∙ ap (λ (t : SolverState). t.model) (sym c.self.view_is),
+    (ap (λ (q : Question). q.setting.assignment) c.requires.1.1.0 ∙ ap (λ (t : SolverState). t.assignment) (sym c.self.view_is) ∙ sym c.deref.ensures.value,
+    (ap (λ (q : Question). q.whole) c.requires.1.1.0,
+    (ap (λ (q : Question). q.change) c.requires.1.1.0,
+    (subst (λ (t : SolverState). c.args.k.index < length (totals_by t.model c.args.k.side)) (sym c.self.view_is) c.requires.1.1.1.1.1.0,
+    (subst (λ (t : SolverState). IsProper t.model c.args.change) (sym c.self.view_is) (is_proper c.args.self.now.model c.args.change c.requires.1.1.1.1.1.1 (sym c.is_idle.ensures ∙ c.if-is_idle.false)),
+    subst (λ (t : SolverState). moves_defined t.model c.args.change ≡ false) (sym c.self.view_is) (sym c.moves_defined.ensures ∙ c.if-moves_defined.false))))))))))
 
-pub total_delta-requires-clause-own : goal.total_delta-requires-clause-own
-total_delta-requires-clause-own g c = subst (λ (t : SolverState). AreOwn t.model c.args.change) (sym c.self.view_is) c.requires.moved
+pub returns-clause-answer : goal.returns-clause-answer
+returns-clause-answer g c = subst (λ (q : Question). IsAnswer (delta_asked q) c.delta.result) c.requires.1.1.0 c.delta.ensures.answer
 
-pub returns : goal.returns
-returns g c =
-    let s = c.self.inside in
-    answered_there (λ t. reply_refusal t c.args.k c.args.vars.now) (λ t. delta_of (users_of t.rules) t.model t.assignment (whole_of c.args.k) c.args.change)
-    (seen s.number s.model s.assignment.items (rules_seen g.N.NodeRule.rule s.model s.waiting.items s.closed) s.closed s.usable) c.args.self.now c.self.view_is c.requires.own c.total_delta.result c.reply_of.result c.reply_of.ensures
-    (subst (λ a. IsAnswer (delta_of (users_of (rules_seen g.N.NodeRule.rule s.model s.waiting.items s.closed)) s.model a (whole_of c.args.k) c.args.change) c.total_delta.result) c.deref.ensures.value c.total_delta.ensures)
+pub returns-clause-steps : goal.returns-clause-steps
+returns-clause-steps g c =
+    subst (λ (q : Question). c.delta.new.steps ≤ c.args.steps.now + 4 * model_touch (users_in q.setting) q.setting.model q.setting.assignment q.setting.model (moved q.setting.assignment q.change) (is_moved (moves_by q.setting.assignment q.change)))
+    c.requires.1.1.0 c.delta.ensures.steps

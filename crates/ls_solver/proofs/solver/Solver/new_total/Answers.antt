@@ -1,3 +1,4 @@
+use Rattle.std.proofs.Common.{ap, sym, ◌∙◌}
 use Rattle.std.specs.Prelude.{is_some}
 use Rattle.solver_models.proofs.AddLaws.{kept_made}
 use Rattle.ls_solver.proofs.solver.Solver.new_total.Goals as goal

@@ -1,10 +1,10 @@
-use Rattle.std.proofs.Common.{arith}
+use Rattle.std.proofs.Common.{ap, arith, rules, ◌∙◌, Some}
 use Rattle.std.specs.Prelude.{is_some}
 use Rattle.solver_models.proofs.DefineLaws.{early_parts, definition_there, unchanged_there}
 use Rattle.solver_models.proofs.ModelLaws.{defs_few}
 use Rattle.ls_solver.proofs.solver.Solver.put_definition.Goals as goal
 use Rattle.ls_solver.specs.Solvers.{rules_seen}
-use Rattle.ls_solver.proofs.HeldLaws.{held_from}
+use Rattle.ls_solver.proofs.HeldLaws.{held_from, open_stays}
 use Rattle.solver_models.specs.State.{SolverState}
 
 pub push_definition-requires : goal.push_definition-requires
@@ -27,3 +27,17 @@ invariant_of-self-in-Err-1 g c =
     held_from g.N.NodeRule.rule g.N.NodeRule.held g.N.NodeRule.ready s.model c.push_definition.new.model s.assignment.items s.marks.items s.waiting.items s.terms s.closed s.usable shut
     (unchanged_there s.number s.model c.push_definition.new.model s.assignment.items s.marks.items s.marks.items (rules_seen g.N.NodeRule.rule s.model s.waiting.items s.closed) s.terms c.args.counted (is_some s.closed) s.usable c.args.definition c.self.invariant.kept
     c.args.self.now c.self.view_is c.in-Err.ensures.err c.requires.early) c.self.invariant.waits
+
+pub returns-in-Ok-clause-defined : goal.returns-in-Ok-clause-defined
+returns-in-Ok-clause-defined g c =
+    let s = c.self.inside in
+    let shut = ap (λ (t : SolverState). t.closed) c.self.view_is ∙ (early_parts c.args.self.now c.args.definition.var c.args.definition.term c.requires.early).0 in
+    let same = open_stays c.self.invariant c.push_definition.new.model shut in
+    search (rules, same)
+
+pub returns-in-Err-clause-kept : goal.returns-in-Err-clause-kept
+returns-in-Err-clause-kept g c =
+    let s = c.self.inside in
+    let shut = ap (λ (t : SolverState). t.closed) c.self.view_is ∙ (early_parts c.args.self.now c.args.definition.var c.args.definition.term c.requires.early).0 in
+    let same = open_stays c.self.invariant c.push_definition.new.model shut in
+    search (rules, same)

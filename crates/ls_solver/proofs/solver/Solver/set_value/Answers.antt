@@ -1,19 +1,16 @@
-use Rattle.std.proofs.Common.{◌≡◌, ℤ, Some, List, subst, sym, ap, ◌∙◌, slice_get}
+use Rattle.std.proofs.Common.{sym}
+use Rattle.cbl_base.specs.Inputs.{set_kind}
 use Rattle.cbl_base.specs.declared.input.Input.TheVariants.{Set}
-use Rattle.std.specs.Prelude.{is_some}
-use Rattle.solver_models.proofs.ReadLaws.{fresh_there, set_readable, set_there}
+use Rattle.solver_models.proofs.ReadLaws.{set_readable}
+use Rattle.ls_solver.proofs.ClosedLaws.{read_kind, read_value}
 use Rattle.ls_solver.proofs.solver.Solver.set_value.Goals as goal
-use Rattle.ls_solver.specs.Solvers.{rules_seen}
 
-pub set_in-requires : goal.set_in-requires
-set_in-requires g c =
-    let s = c.self.inside in
-    subst (λ vs. (m : List ℤ) × (slice_get vs c.args.x.index ≡ Some (Set m))) (sym c.deref.ensures.value)
-    (set_there s.number s.model s.assignment.items s.marks.items (rules_seen g.N.NodeRule.rule s.model s.waiting.items s.closed) s.terms (is_some s.closed) s.usable c.self.invariant.kept c.args.x c.args.self.now c.self.view_is c.requires.usable (sym c.in-None.ensures) c.requires.kind)
+pub set-requires-clause-kind : goal.set-requires-clause-kind
+set-requires-clause-kind g c =
+    let own = (set_readable c.args.self.now c.args.x (sym c.in-None.ensures)).0 in
+    read_kind g.N.NodeRule.rule g.N.NodeRule.held g.N.NodeRule.ready c.args.self.now c.kept.result.now c.kept.ensures c.args.x own set_kind (c.requires.kind own)
 
 pub returns-in-None-clause-value : goal.returns-in-None-clause-value
 returns-in-None-clause-value g c =
-    let s = c.self.inside in
-    let parts = set_readable c.args.self.now c.args.x (sym c.in-None.ensures) in
-    fresh_there s.number s.model s.assignment.items s.marks.items (rules_seen g.N.NodeRule.rule s.model s.waiting.items s.closed) s.terms (is_some s.closed) s.usable c.self.invariant.kept c.args.x c.args.self.now c.self.view_is c.requires.usable
-    parts.0 parts.1 (Set c.set_in.result.now) (ap (λ vs. slice_get vs c.args.x.index) (sym c.deref.ensures.value) ∙ c.set_in.ensures)
+    let own = (set_readable c.args.self.now c.args.x (sym c.in-None.ensures)).0 in
+    read_value g.N.NodeRule.rule g.N.NodeRule.held g.N.NodeRule.ready c.args.self.now c.kept.result.now c.kept.ensures c.args.x own (Set c.set.result.now) c.set.ensures

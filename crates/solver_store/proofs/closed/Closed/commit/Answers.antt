@@ -1,10 +1,8 @@
 use Rattle.std.proofs.Common.{rules, ◌≡◌, ◌≤◌, length, ap, subst, sym, ◌∙◌, arith}
 use Rattle.graph_values.specs.Members.{variables_of}
-use Rattle.inc_store.specs.Stores.{changes_between}
 use Rattle.inc_store.specs.Views.{graph_in}
 use Rattle.model_nodes.specs.Making.{ArePlaces}
 use Rattle.model_store.specs.Settings.{numbers_after, users_in}
-use Rattle.store_laws.specs.ModelTouch.{many_nodes}
 use Rattle.store_turns.specs.declared.frame.Frame.{Frame}
 use Rattle.solver_store.specs.ToldChanges.{variable_changes}
 use Rattle.solver_store.proofs.CommitLaws.{fault_there, stops_behind, told_changes}
@@ -14,9 +12,19 @@ use Rattle.solver_store.proofs.closed.Closed.commit.Goals as goal
 pub commit-requires : goal.commit-requires
 commit-requires g c κs within =
     let closed = c.requires.1.1.0 in
-    let free = c.requires.1.1.1.1 in
-    (search (rules, within), (search (rules, within), (closed.store, (are_moves (users_in g.setting) g.setting.model (graph_in g.N.NodeRule.rule c.args.self.now.store) closed.store.holds.terms c.args.moves.now free,
-    (of_variables g.setting.model c.args.moves.now free, closed.whole)))))
+    let free = c.requires.1.1.1.1 in (
+      search (rules, within),
+      (
+        search (rules, within),
+        (
+          closed.store,
+          (
+            are_moves (users_in g.setting) g.setting.model (graph_in g.N.NodeRule.rule c.args.self.now.store) closed.store.holds.terms c.args.moves.now free,
+            (of_variables g.setting.model c.args.moves.now free, closed.whole),
+          ),
+        ),
+      ),
+    )
 
 pub returns-in-Ok-variable_changes-clause-changes : goal.returns-in-Ok-variable_changes-clause-changes
 returns-in-Ok-variable_changes-clause-changes g c =

@@ -1,5 +1,4 @@
 use Rattle.std.proofs.Common.{ap, subst, sym, ◌∙◌}
-use Rattle.graph_values.specs.Members.{cells_of}
 use Rattle.term_graph.specs.Graphs.{IsGraphOf}
 use Rattle.term_graph.specs.Ids.{HasCells, id_among}
 use Rattle.term_model.specs.Subterms.{distinct_subterms}
