@@ -42,17 +42,17 @@ use Rattle.term_model.specs.declared.posting.Side.TheVariants.{Systems, Objectiv
 use Rattle.term_model.specs.declared.term.Term.{Term}
 
 -- ---- lists
-filtered_same : {X Y : Type 0} (f g : X → Option Y) → ((x : X) → f x ≡ g x) → (xs : List X) → filter_map f xs ≡ filter_map g xs
+pub filtered_same : {X Y : Type 0} (f g : X → Option Y) → ((x : X) → f x ≡ g x) → (xs : List X) → filter_map f xs ≡ filter_map g xs
 filtered_same f g same [] = refl
 filtered_same f g same (x ∷ xs) = ap (λ o. cons_option o (filter_map f xs)) (same x) ∙ ap (cons_option (g x)) (filtered_same f g same xs)
 
 map_filtered : {X Y Z : Type 0} (f : Y → Z) (g : X → Option Y) (xs : List X) → map f (filter_map g xs) ≡ filter_map (λ x. option_map f (g x)) xs
 map_filtered f g [] = refl
-map_filtered {Y = Y} f g (x ∷ xs) = by (g x)
+map_filtered {Y = Y} {Z = Z} f g (x ∷ xs) = by (g x) (map_filtered f g xs)
   where
-    by : (o : Option Y) → map f (cons_option o (filter_map g xs)) ≡ cons_option (option_map f o) (filter_map (λ z. option_map f (g z)) xs)
-    by (Some y) = ap (λ zs. f y ∷ zs) (map_filtered f g xs)
-    by None = map_filtered f g xs
+    by : (o : Option Y) → map f (filter_map g xs) ≡ filter_map (λ z. option_map f (g z)) xs → map f (cons_option o (filter_map g xs)) ≡ cons_option (option_map f o) (filter_map (λ z. option_map f (g z)) xs)
+    by (Some y) e = ap (λ zs. f y ∷ zs) e
+    by None e = e
 
 abbrev term_of : Member → Term
 term_of m = m.term
