@@ -16,3 +16,4 @@ pub mod ShareLaws
 pub mod WeightGraphs
 pub mod WeightPlaces
 pub mod WeightNumbers
+pub mod WeightCommits

@@ -3,8 +3,8 @@ ghost use Rattle.std.specs.Prelude.{◌≡◌, ◌+◌, ◌*◌, ◌<◌, ◌≤
 ghost use Rattle.graph_values.specs.Members.{cells_of};
 ghost use Rattle.inc_store.specs.Moves.{is_moved};
 ghost use Rattle.inc_store.specs.Views.{rules_in};
-ghost use Rattle.model_store.specs.Settings.{Setting, fresh_in, users_in};
-ghost use Rattle.model_store.specs.Weights.{with_model};
+ghost use Rattle.model_store.specs.Settings.{fresh_in, users_in};
+ghost use Rattle.model_store.specs.Weights.{Weighing, weighed};
 ghost use Rattle.model_values.specs.Fresh.{IsFresh};
 ghost use Rattle.solver_models.specs.Weights.{GetsWeight, count_posted};
 ghost use Rattle.solver_store.specs.Asking.{cell};
@@ -48,22 +48,26 @@ impl<N: NodeRule> Closed<N> {
         weight: i64,
         steps: &mut Steps<L>,
     ) -> Result<(), ModelStop>
-        ghost setting: { Setting }
-        requires closed { IsClosed N.rule N.held N.ready setting self.old }
-        requires weight { GetsWeight setting.model model.now system number weight }
+        ghost weighing: { Weighing }
+        requires closed { IsClosed N.rule N.held N.ready weighing.setting self.old }
+        requires model { weighing.model ≡ model.now }
+        requires weight { GetsWeight weighing.setting.model weighing.model system number weight }
         ensures closed { OnOk result (IsClosed N.rule N.held N.ready
-            (with_model model.now setting) self.new) }
+            (weighed weighing) self.new) }
         ensures rules { OnOk result (rules_in N.rule self.new.store ≡
             rules_in N.rule self.old.store) }
-        ensures fault { IfErr result (λ stop.
-            IsFresh (fresh_in (with_model model.now setting)) (Err stop)) }
-        ensures steps { steps.new ≤ steps.old + 4 * model_touch (users_in setting) setting.model
-            setting.assignment model.now setting.assignment
-            (is_moved (weight_moves setting.model system number weight)) }
+        ensures fault { IfErr result (λ stop. IsFresh (fresh_in (weighed weighing)) (Err stop)) }
+        ensures steps { steps.new ≤ steps.old + 4 * model_touch (users_in weighing.setting)
+            weighing.setting.model weighing.setting.assignment
+            weighing.model weighing.setting.assignment
+            (is_moved (weight_moves weighing.setting.model system number weight)) }
     {
         let cell = weight_cell(model, system, number);
         match store_laws::set_weights(&mut self.store, &[(cell, weight)], steps) {
-            Ok(_) => Ok(()),
+            Ok(changed) => {
+                drop(changed);
+                Ok(())
+            }
             Err(stop) => Err(stop_of(&self.places, stop)),
         }
     }

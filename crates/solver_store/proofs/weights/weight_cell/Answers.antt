@@ -1,4 +1,3 @@
-use Rattle.solver_store.proofs.WeightNumbers.{numbers_are}
 use Rattle.std.proofs.Common.{rules, ◌≡◌, ◌+◌, ◌<◌, length, Some, get_or, ap, sym, ◌∙◌, arith, slice_get}
 use Rattle.graph_values.specs.Members.{members_before, variables_of}
 use Rattle.store_build.proofs.ListLemmas.{at_place}
