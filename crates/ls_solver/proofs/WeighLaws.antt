@@ -25,17 +25,20 @@ use Rattle.solver_store.specs.KeptRules.{kept_rules, rule_of_user, rule_there}
 use Rattle.solver_store.specs.UserTerms.{is_user, place_where}
 use Rattle.solver_store.specs.WeightCells.{weight_moves}
 use Rattle.solver_store.specs.declared.closed.Closed.{Closed}
-use Rattle.solver_store.proofs.WeightCommits.{from_systems, totals_weighed}
+use Rattle.solver_store.proofs.WeightCommits.{totals_weighed}
 use Rattle.store_laws.specs.ModelTouch.{model_touch}
 use Rattle.term_count.specs.declared.subterms.Subterms.{Subterms}
 use Rattle.term_model.specs.Naming.{users_posted}
 use Rattle.term_model.specs.declared.model.Model.{Model}
 
 module _ (M P : Model) (s k : ℕ) (w : ℤ) (gets : GetsWeight M P s k w) where
+  from_systems : (Q : Model → Type 0) → Q (with_systems M P.systems) → Q P
+  from_systems Q h = subst Q (sym gets.others) h
+
   rules_alike : (given : List Rule) → kept_rules P given ≡ kept_rules M given
   rules_alike given =
       let like = alike M.systems.items P.systems.items s k w gets.systems in
-      from_systems M P s k w gets (λ X. kept_rules X given ≡ kept_rules M given)
+      from_systems (λ X. kept_rules X given ≡ kept_rules M given)
       (ap (λ (ns : List ℕ). map (rule_of_user (with_systems M P.systems) given) (range_with_len 0 (length ns))) (users_alike M P.systems like)
       ∙ ap (λ ts. map (λ n. rule_there (slice_get given (place_where (is_user n) ts))) (range_with_len 0 (length (users_posted M M.posted.items)))) (subterms_alike M P.systems like))
 
@@ -44,7 +47,7 @@ module _ (M P : Model) (s k : ℕ) (w : ℤ) (gets : GetsWeight M P s k w) where
 
   kept_weighed : (a : List ℤ) (marks : List Bool) (rules : List KeptRule) (counted : Option Subterms) (closed usable : Bool) → IsKept M a marks rules counted closed usable → IsKept P a marks rules counted closed usable
   kept_weighed a marks rules counted closed usable h =
-      from_systems M P s k w gets (λ X. IsKept X a marks rules counted closed usable)
+      from_systems (λ X. IsKept X a marks rules counted closed usable)
       (kept_alike M P.systems (alike M.systems.items P.systems.items s k w gets.systems) a marks rules counted closed usable h)
 
   module _ {N : Type 0} (rule : N → Rule) (held : N → List Input) (ready : N → Type 0) (a : List ℤ) (marks : List Bool) (waiting : List N) (counted : Option Subterms) (usable : Bool) where
