@@ -1,11 +1,11 @@
-use Rattle.std.proofs.Common.{◌≡◌, ◌+◌, ◌*◌, ◌≤◌, false, Err, ap, refl, subst, sym, ◌∙◌, to_z-of_z}
+use Rattle.std.proofs.Common.{◌+◌, ◌*◌, ◌≤◌, false, Err, refl, subst, to_z-of_z}
 use Rattle.std.specs.Prelude.{is_some}
 use Rattle.model_store.specs.Settings.{fresh_in}
 use Rattle.model_store.specs.Weights.{with_model}
 use Rattle.model_values.specs.Fresh.{IsFresh}
 use Rattle.solver_models.specs.State.{SolverState}
 use Rattle.ls_solver.specs.Solvers.{rules_seen}
-use Rattle.ls_solver.specs.Weighing.{GetsWeight, touch_of_weight}
+use Rattle.ls_solver.specs.Weighing.{GetsWeight}
 use Rattle.ls_solver.proofs.CommitLaws.{seen}
 use Rattle.ls_solver.proofs.WeighLaws.{fails, held_failed, held_weighed, sets_weight, touched_by}
 use Rattle.ls_solver.proofs.solver.Solver.set_own_weight.Goals as goal
