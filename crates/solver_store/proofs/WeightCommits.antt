@@ -111,9 +111,12 @@ module _ (M N : Model) (s k : ℕ) (w : ℤ) (gets : GetsWeight M N s k w) where
 
   pub are_weight_moves : IsWellFormed M → (users : ℕ → NumberRule) (g : Graph) → HoldsTerms users M g → AreMoves g (weight_moves M s k w)
   are_weight_moves formed users g holds =
-      let low : weight_cell M s k < cells_of M = cell_low M formed N.systems s k w gets.systems in
-      (let size = holds.size in omega (arith, low, size),
-      holds.free (weight_cell M s k) (omega (arith, low)) ∙ weight_free formed users (weight_cell M s k) (cell_within M formed N.systems s k w gets.systems) low, refl, tt)
+      let low : weight_cell M s k < cells_of M = cell_low M formed N.systems s k w gets.systems in (
+        let size = holds.size in omega (arith, low, size),
+        holds.free (weight_cell M s k) (omega (arith, low)) ∙ weight_free formed users (weight_cell M s k) (cell_within M formed N.systems s k w gets.systems) low,
+        refl,
+        tt,
+      )
 
 count_of_system : (ts : List Total) (s : ℕ) (t : Total) → slice_get ts s ≡ Some t → unwrap_or (option_map (λ (u : Total). length u.members.items) (slice_get ts s)) 0 ≡ length t.members.items
 count_of_system ts s t at = ap (λ o. unwrap_or (option_map (λ (u : Total). length u.members.items) o) 0) at

@@ -1,16 +1,14 @@
 -- A model with other weights of its systems' constraints has the same graph.
-use Rattle.std.proofs.Common.{◌≡◌, ℕ, zero, suc, ◌+◌, ◌-◌, ◌<◌, ◌≤◌, Bool, true, false, ◌&&◌, cond, List, [], ◌∷◌, ◌++◌, Option, Some, None, Result, Ok, Vec, Global, inl, inr, length, map, refl, sym, ap, ◌∙◌, subst, slice_get}
+use Rattle.std.proofs.Common.{◌≡◌, ℕ, zero, suc, ◌+◌, ◌-◌, ◌<◌, ◌≤◌, Bool, true, false, ◌&&◌, cond, List, [], ◌∷◌, ◌++◌, Option, Some, None, Ok, Vec, Global, inl, inr, length, map, refl, sym, ap, ◌∙◌, subst, slice_get}
 use Rattle.std.specs.Prelude.{if◌then◌else◌, nat_eq, nat_lt, pos, unwrap_or}
 use Rattle.std.specs.List.{cons_option, filter_map, range_with_len}
 use Rattle.std.specs.Option.{option_and_then, option_map}
 use Rattle.std.proofs.Math.Path.{fun_ext}
 use Rattle.std.proofs.lemmas.List.{length-append, length-map}
 use Rattle.cbl_base.specs.NumberRule.{NumberRule}
-use Rattle.cbl_base.specs.declared.faults.RunFault.{RunFault}
 use Rattle.cbl_base.specs.declared.input.Input.{Input}
 use Rattle.cbl_base.specs.declared.input.Input.TheVariants.{Int}
 use Rattle.cbl_base.specs.declared.place.Place.{Place}
-use Rattle.cbl_violations.specs.Violations.Repeat.{repeat}
 use Rattle.cbl_violations.specs.Violations.WeightedTotal.{weighted_total}
 use Rattle.graph_values.specs.Graphs.{count_of, id_of, inputs_of, inputs_of_cell, inputs_of_node, model_graph, term_at, term_defined, value_of_node}
 use Rattle.graph_values.specs.Members.{cells_of, members_before, members_by, members_of, variables_of}
@@ -18,26 +16,24 @@ use Rattle.graph_values.specs.Totals.{IsAt, weight_ids}
 use Rattle.graph_values.specs.WholeGraphs.{by_range, first_objective, first_repeat, first_system, inputs_in_whole, inputs_of_total, total_id, value_of_total, weight_at, whole_graph}
 use Rattle.model_nodes.specs.Making.{ArePlaces}
 use Rattle.model_nodes.specs.WholeNodes.{rule_in_whole, rule_of_subterm, rule_of_total}
-use Rattle.model_values.specs.Fresh.{whole_by}
 use Rattle.model_values.specs.Support.{member_in}
 use Rattle.model_values.specs.Wholes.{IsOf, place_of}
 use Rattle.model_values.specs.declared.wholes.Whole.{Whole}
 use Rattle.model_values.specs.declared.wholes.Whole.TheVariants.{System, Objective}
 use Rattle.node_kinds.specs.ConstantRule.{rule_of_constant}
 use Rattle.solver_models.proofs.ListLaws.{map_same}
-use Rattle.solver_models.proofs.WeightLaws.{AreAlike, member_same, seen, subterms_alike, system_same, systems_length, terms_in, with_systems}
+use Rattle.solver_models.proofs.WeightLaws.{AreAlike, member_same, seen, subterms_alike, system_same, systems_length, with_systems}
 use Rattle.store_laws.specs.ModelTouch.{IsWhole, many_nodes}
 use Rattle.store_turns.specs.Meaning.{Graph, is_empty, the_one}
 use Rattle.term_graph.specs.Heads.{place_of as place_of_term}
 use Rattle.term_graph.specs.Ids.{id_among}
-use Rattle.term_model.specs.Posting.{member_at, totals_by}
+use Rattle.term_model.specs.Posting.{member_at}
 use Rattle.term_model.specs.Subterms.{distinct_subterms}
 use Rattle.term_model.specs.declared.model.Member.{Member}
 use Rattle.term_model.specs.declared.model.Model.{Model}
 use Rattle.term_model.specs.declared.model.Posted.{Posted}
 use Rattle.term_model.specs.declared.model.Posted.TheVariants.{Define, Constrain, Part}
 use Rattle.term_model.specs.declared.model.Total.{Total}
-use Rattle.term_model.specs.declared.posting.Side.{Side}
 use Rattle.term_model.specs.declared.posting.Side.TheVariants.{Systems, Objectives}
 use Rattle.term_model.specs.declared.term.Term.{Term}
 

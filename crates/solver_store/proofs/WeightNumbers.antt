@@ -1,10 +1,10 @@
 -- The numbers of the cells once a weight is set.
-use Rattle.std.proofs.Common.{◌≡◌, ℕ, ℤ, zero, suc, ◌+◌, ◌-◌, ◌<◌, ◌≤◌, List, [], ◌++◌, None, Vec, Global, inl, inr, length, map, refl, sym, ap, ◌∙◌, subst, slice_get, set, arith}
+use Rattle.std.proofs.Common.{◌≡◌, ℕ, ℤ, zero, suc, ◌+◌, ◌-◌, ◌<◌, ◌≤◌, List, ◌++◌, None, Vec, Global, inl, inr, length, map, refl, sym, ap, ◌∙◌, subst, slice_get, set, arith}
 use native.Mathlib.Decide.{ℕ_discrete}
 use Rattle.std.specs.Prelude.{if◌then◌else◌, nat_eq}
 use Rattle.std.specs.Option.{option_and_then}
 use Rattle.std.proofs.lemmas.Bool.{cases_lt}
-use Rattle.std.proofs.lemmas.List.{length-append, length-map, map-append, map-set, set-append_left, set-append_right}
+use Rattle.std.proofs.lemmas.List.{length-map, map-append, map-set, set-append_left, set-append_right}
 use Rattle.cbl_base.proofs.PlaceLemmas.{others_stay}
 use Rattle.graph_values.specs.Members.{members_before, members_of, numbers_of, variables_of, weights_of}
 use Rattle.graph_values.proofs.WeightCells.{within}
@@ -15,7 +15,6 @@ use Rattle.model_values.specs.declared.wholes.Whole.TheVariants.{System}
 use Rattle.solver_models.specs.Weights.{AreWeighed}
 use Rattle.solver_models.proofs.WeightLaws.{alike, formed_alike, systems_length, with_systems}
 use Rattle.solver_store.specs.WeightCells.{weight_cell, weight_moves}
-use Rattle.term_model.specs.Posting.{member_at}
 use Rattle.term_model.specs.Wellformed.{IsWellFormed}
 use Rattle.term_model.specs.declared.model.Member.{Member}
 use Rattle.term_model.specs.declared.model.Model.{Model}

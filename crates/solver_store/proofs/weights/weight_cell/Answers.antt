@@ -1,4 +1,4 @@
-use Rattle.std.proofs.Common.{rules, ◌≡◌, ◌+◌, ◌<◌, length, Some, get_or, ap, sym, ◌∙◌, arith, slice_get}
+use Rattle.std.proofs.Common.{rules, ◌≡◌, ◌+◌, ◌<◌, length, get_or, ap, ◌∙◌, arith}
 use Rattle.graph_values.specs.Members.{members_before, variables_of}
 use Rattle.store_build.proofs.ListLemmas.{at_place}
 use Rattle.term_model.specs.declared.posting.Side.TheVariants.{Systems}

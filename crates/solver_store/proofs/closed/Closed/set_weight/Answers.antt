@@ -1,4 +1,4 @@
-use Rattle.std.proofs.Common.{rules, ◌≡◌, ◌+◌, ◌*◌, ◌<◌, ◌≤◌, List, [], ◌∷◌, ℤ, ap, refl, subst, sym, ◌∙◌, length, to_z-of_z}
+use Rattle.std.proofs.Common.{◌≡◌, ◌+◌, ◌*◌, ◌<◌, ◌≤◌, List, [], ◌∷◌, ℤ, ap, refl, subst, sym, ◌∙◌, length, to_z-of_z}
 use mir.Syntax.{w64}
 use mir.Val.{of_z, to_z}
 use Rattle.cbl_base.specs.declared.ids.VarId.{VarId}
@@ -42,14 +42,22 @@ set_weights-requires g c κs within =
     let closed = c.requires.1.1.0 in
     let gets = c.requires.1.1.1.1 in
     let graph = graph_in g.N.NodeRule.rule a.self.now.store in
-    let same : (c.weight_cell-cell.result, to_z w64 (of_z w64 a.weight)) ∷ [] ≡ weight_moves M a.system a.number a.weight = moves_weighed M w.model a.system a.number a.weight gets a.model.now c.requires.1.1.1.0 c.weight_cell-cell.result c.weight_cell-cell.ensures (to_z w64 (of_z w64 a.weight)) (to_z-of_z c.ranges.weight) in
-    (within.0, (within.1, (closed.store, (
-      subst (AreMoves graph) (sym same) (are_weight_moves M w.model a.system a.number a.weight gets closed.given.0.formed (users_in w.setting) graph closed.store.holds.terms),
+    let same : (c.weight_cell-cell.result, to_z w64 (of_z w64 a.weight)) ∷ [] ≡ weight_moves M a.system a.number a.weight = moves_weighed M w.model a.system a.number a.weight gets a.model.now c.requires.1.1.1.0 c.weight_cell-cell.result c.weight_cell-cell.ensures (to_z w64 (of_z w64 a.weight)) (to_z-of_z c.ranges.weight) in (
+      within.0,
       (
-        subst (AreWeightMoves w graph) (sym same) (changes_weighed g.N.NodeRule.rule g.N.NodeRule.held g.N.NodeRule.ready w.setting w.model a.system a.number a.weight gets a.self.now closed),
-        (closed.whole, whole_weighed M w.model a.system a.number a.weight gets (users_in w.setting) graph closed.whole),
+        within.1,
+        (
+          closed.store,
+          (
+            subst (AreMoves graph) (sym same) (are_weight_moves M w.model a.system a.number a.weight gets closed.given.0.formed (users_in w.setting) graph closed.store.holds.terms),
+            (
+              subst (AreWeightMoves w graph) (sym same) (changes_weighed g.N.NodeRule.rule g.N.NodeRule.held g.N.NodeRule.ready w.setting w.model a.system a.number a.weight gets a.self.now closed),
+              (closed.whole, whole_weighed M w.model a.system a.number a.weight gets (users_in w.setting) graph closed.whole),
+            ),
+          ),
+        ),
       ),
-    ))))
+    )
 
 pub returns-in-Ok-clause-closed : goal.returns-in-Ok-clause-closed
 returns-in-Ok-clause-closed g c =
