@@ -11,3 +11,4 @@ pub mod OfSolverModels
 pub mod HeldLaws
 pub mod ClosedLaws
 pub mod DeltaLaws
+pub mod WeighLaws

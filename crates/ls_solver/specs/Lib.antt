@@ -21,3 +21,4 @@ pub mod OfSolverStore
 pub mod Solvers
 pub mod ClosedParts
 pub mod Touching
+pub mod Weighing

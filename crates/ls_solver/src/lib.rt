@@ -25,6 +25,7 @@ mod restoring;
 mod solver;
 mod totals;
 mod user_posting;
+mod weighing;
 
 pub use fault::SolverFault;
 pub use solver::{BoxSolver, Solver};

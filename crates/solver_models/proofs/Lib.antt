@@ -16,3 +16,5 @@ pub mod DefineLaws
 pub mod AddLaws
 pub mod ReplyLaws
 pub mod GrowLaws
+pub mod WeightWrites
+pub mod WeightLaws

@@ -16,3 +16,4 @@ pub mod Totals
 pub mod Unmarked
 pub mod UserPosting
 pub mod OfViolationShares
+pub mod Weights

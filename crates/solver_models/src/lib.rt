@@ -16,6 +16,7 @@ mod moves;
 mod places;
 mod putting;
 mod totals;
+mod weights;
 
 pub use counting::counted_with;
 pub use cycle::cycle_of;
@@ -27,3 +28,4 @@ pub use moves::{any_marked, are_moves_given, write_moves};
 pub use places::number_at;
 pub use putting::{push_definition, push_variable};
 pub use totals::{ObjectiveId, SystemId, TotalId, push_member, push_total, whole_of};
+pub use weights::{count_posted, set_weight};

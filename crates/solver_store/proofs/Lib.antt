@@ -13,3 +13,7 @@ pub mod KnownMembers
 pub mod CommitLaws
 pub mod NodeValues
 pub mod ShareLaws
+pub mod WeightGraphs
+pub mod WeightPlaces
+pub mod WeightNumbers
+pub mod WeightCommits

@@ -6,3 +6,4 @@ pub mod NodeRules
 pub mod Reads
 pub mod ToldChanges
 pub mod UserTerms
+pub mod WeightCells

@@ -14,5 +14,6 @@ mod deltas;
 mod ids;
 mod reads;
 mod shares;
+mod weights;
 
 pub use closed::{Closed, close};
