@@ -4,6 +4,4 @@
 #![tactic(auto)]
 
 #[cfg(test)]
-mod solved;
-#[cfg(test)]
 mod values;

@@ -17,19 +17,19 @@ use std::test::*;
 use stmt_expr::{EvalStop, eval};
 
 /// The nodes of runs whose users' constraints come in boxes.
-pub(crate) type Boxed = node_kinds::Kind;
+type Boxed = node_kinds::Kind;
 
 /// Where the whole expression stands, and where an operator in it does.
-pub(crate) const WHOLE: Place = Place { line: 2, col: 3 };
+const WHOLE: Place = Place { line: 2, col: 3 };
 
 const JOINT: Place = Place { line: 2, col: 9 };
 
-pub(crate) const N: Slot = Slot::Global(1);
+const N: Slot = Slot::Global(1);
 
 const A: Slot = Slot::Global(2);
 
 /// An expression that stands at a place.
-pub(crate) fn typed(place: Place, kind: Kind, form: Form) -> Typed {
+fn typed(place: Place, kind: Kind, form: Form) -> Typed {
     Typed {
         start: WHOLE,
         place,
@@ -40,12 +40,12 @@ pub(crate) fn typed(place: Place, kind: Kind, form: Form) -> Typed {
 }
 
 /// A number where the whole expression stands.
-pub(crate) fn number(value: i64) -> Typed {
+fn number(value: i64) -> Typed {
     typed(WHOLE, Kind::Int, Form::Number(value))
 }
 
 /// Two operands, and an operator between them.
-pub(crate) fn joined(
+fn joined(
     alloc: Global,
     operator: ChainOperator,
     left: Typed,
@@ -85,7 +85,7 @@ fn products(alloc: Global) -> Result<Typed, AllocError> {
 }
 
 /// A run in which `n` is 3 and `a` has the cells 5, 6 and 7.
-pub(crate) fn state<K: SolverNode>(alloc: Global) -> Result<Standing<K>, Stop> {
+fn state<K: SolverNode>(alloc: Global) -> Result<Standing<K>, Stop> {
     let mut s = Standing::<K>::new(alloc, 0, 0, Vec::new(alloc), Vec::new(alloc));
     s.state.put(N, Value::Number(3))?;
     let cells = Cells::row(Vec::from_array(alloc, [5, 6, 7])?);
@@ -102,17 +102,7 @@ fn given<K: SolverNode>(
     fuel: u64,
 ) -> Result<(Result<i64, EvalStop>, u64), Fail> {
     let s = state::<K>(alloc)?;
-    Ok(given_in(&s, room, e, fuel))
-}
-
-/// The same in any run.
-pub(crate) fn given_in<K: SolverNode>(
-    s: &Standing<K>,
-    room: u32,
-    e: &Typed,
-    fuel: u64,
-) -> (Result<i64, EvalStop>, u64) {
-    given_by::<Brand, K>(Blank::new(1), s, room, e, fuel)
+    Ok(given_by::<Brand, K>(Blank::new(1), &s, room, e, fuel))
 }
 
 fn given_by<L: Ledger, K: SolverNode>(
