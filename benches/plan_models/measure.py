@@ -46,6 +46,7 @@ class Run:
                     self.memory = max(self.memory, memory_of(child.pid))
                     if time.monotonic() - begun > LIMIT and not before:
                         child.kill()
+                        time.sleep(1)
                     time.sleep(0.01)
                 child.returncode = self.status = os.waitstatus_to_exitcode(status)
                 out.seek(0)
@@ -53,7 +54,8 @@ class Run:
                 self.printed, self.said = out.read(), err.read().strip()
         self.seconds = used.ru_utime + used.ru_stime
         if self.status:
-            self.said = self.said or 'status %d' % self.status if self.status > 0 else 'stopped after %d s' % LIMIT
+            late = time.monotonic() - begun > LIMIT
+            self.said = 'stopped after %d s' % LIMIT if late else self.said or 'status %d' % self.status
 
 
 def limited():
