@@ -80,7 +80,7 @@ def each(program, start, closed, body, data=None):
     """Microseconds of the processor for one turn of a loop with this body, behind a start that takes `closed` seconds; or what
     was said where the run didn't end well. The name `u` counts the turns.
     """
-    turns = 100
+    turns = 4
     while True:
         run = Run(program, start + 'forall (u in 1..%d) { %s }\n' % (turns, body), data)
         spent = run.seconds - closed
