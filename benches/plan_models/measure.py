@@ -86,9 +86,9 @@ def each(program, start, closed, body, data=None):
         spent = run.seconds - closed
         if run.status:
             return run.said
-        if spent > max(0.2, closed / 4) or turns >= 1000000:
+        if spent > max(0.2, closed) or turns >= 1000000:
             return '%.2f' % (spent / turns * 1e6)
-        turns = min(1000000, max(turns * 4, int(turns * 0.4 / max(spent, 0.001))))
+        turns = min(1000000, max(turns * 4, int(turns * max(0.4, 1.5 * closed) / max(spent, 0.001))))
 
 
 def instructions(program, text, data=None):

@@ -233,25 +233,25 @@ MODELS = {
         'acc += length.getSwapDelta(job[1 + u % n], job[1 + (u + 3) % n]);',
         'job[1 + u % n] :=: job[1 + (u + 3) % n];',
         'acc += length.value();', None,
-        tiny=(5, 6, 3), usual=(200, 20, 5), large=(50, 100, 10)),
+        tiny=(5, 6, 3), usual=(200, 20, 5), large=(3, 100, 10)),
     'tour': Model(
         'length',
         'acc += length.getSwapDelta(city[1 + u % n], city[1 + (u + 3) % n]);',
         'city[1 + u % n] :=: city[1 + (u + 3) % n];',
         'acc += length.value();', None,
-        tiny=(5, 8), usual=(200, 60), large=(200, 120)),
+        tiny=(5, 8), usual=(200, 60), large=(30, 120)),
     'coloring': Model(
         'conflicts',
         'acc += S.getAssignDelta(color[1 + u % n], 1 + u % k);',
-        'color[1 + u % n] := 1 + u % k;',
+        'color[1 + u % n] := 1 + (u + u / n) % k;',
         'acc += S.violations();', 'acc += S.violations(color[1 + u % n]);',
-        tiny=(5, 15, 3, 20), usual=(2000, 125, 5, 12), large=(1000, 250, 30, 50)),
+        tiny=(5, 15, 3, 20), usual=(2000, 125, 5, 12), large=(20, 250, 30, 50)),
     'nurses': Model(
         'violations, refused',
         'acc += H.getAssignDelta(x[1 + u % n, 1 + u % days], u % 4);',
-        'x[1 + u % n, 1 + u % days] := u % 4;',
+        'x[1 + u % n, 1 + u / n % days] := (u + u / (n * days)) % 4;',
         'acc += H.violations();', 'acc += H.violations(x[1 + u % n, 1 + u % days]);',
-        tiny=(3, 5, 7, 5), usual=(400, 15, 14, 40), large=(1000, 40, 28, 200)),
+        tiny=(3, 5, 7, 5), usual=(400, 15, 14, 40), large=(300, 40, 28, 200)),
     'cars': Model(
         'too many',
         'acc += S.getSwapDelta(line[1 + u % n], line[1 + (u + 7) % n]);',
@@ -261,13 +261,13 @@ MODELS = {
     'bin_packing': Model(
         'too much, lost, open',
         'acc += lost.getAssignDelta(bin[1 + u % n], u % (bins + 1));',
-        'bin[1 + u % n] := u % (bins + 1);',
+        'bin[1 + u % n] := (u + u / n) % (bins + 1);',
         'acc += lost.value();', None,
-        tiny=(5, 3), usual=(150, 20), large=(200, 40)),
+        tiny=(5, 3), usual=(150, 20), large=(20, 40)),
     'timetable': Model(
         'violations',
         'acc += S.getAssignDelta(slot[1 + u % n], 1 + u % slots);',
-        'slot[1 + u % n] := 1 + u % slots;',
+        'slot[1 + u % n] := 1 + (u + u / n) % slots;',
         'acc += S.violations();', 'acc += S.violations(slot[1 + u % n]);',
         tiny=(5, 10, 5, 3), usual=(500, 60, 20, 5), large=(2000, 200, 40, 8)),
     'warehouse': Model(
@@ -275,5 +275,5 @@ MODELS = {
         'acc += total.getAssignDelta(open[1 + u % sites], u / sites % 2);',
         'open[1 + u % sites] := u / sites % 2;',
         'acc += total.value();', None,
-        tiny=(5, 4, 6), usual=(100, 25, 50), large=(100, 50, 100)),
+        tiny=(5, 4, 6), usual=(100, 25, 50), large=(10, 50, 100)),
 }
